@@ -1,0 +1,44 @@
+-- `float::guess_sqrt` meets its contract: its conversions are defined, and the result is a remainder. Assumes nothing.
+use native.Mathlib.Omega.{arith}
+use borrow.Author.Needs.{needs}
+use Rattle.float.proofs.Guess.{is-float, no-nan-pattern}
+use Rattle.float.proofs.NoNan.{no-nan}
+use Rattle.float.proofs.guess_sqrt.Statement.{statement}
+use Rattle.float.proofs.guess_sqrt.Tie as tie
+
+int-to-float-x : tie.Need-int-to-float-x
+int-to-float-x c = is-float _ (omega arith)
+
+returns : tie.Need-returns
+returns c = search needs
+
+float-to-bits-h : tie.Need-float-to-bits-h
+float-to-bits-h c = no-nan _ (c .if1 .left)
+
+returns-2 : tie.Need-returns-2
+returns-2 c = search needs
+
+float-from-bits-y : tie.Need-float-from-bits-y
+float-from-bits-y c = no-nan-pattern _ (omega arith)
+
+returns-3 : tie.Need-returns-3
+returns-3 c = search needs
+
+float-to-bits-result : tie.Need-float-to-bits-result
+float-to-bits-result c = no-nan _ (c .if3 .left)
+
+returns-4 : tie.Need-returns-4
+returns-4 c = search needs
+
+pub guess-sqrt-spec : {M : Type 1} → statement M
+guess-sqrt-spec =
+    tie.close
+    (tie.spec
+    int-to-float-x
+    returns
+    float-to-bits-h
+    returns-2
+    float-from-bits-y
+    returns-3
+    float-to-bits-result
+    returns-4)

@@ -1,0 +1,41 @@
+-- `float::narrow` meets its contract: a NaN gives a NaN, and any other value's pattern is narrowed by `magnitude`. Assumes nothing.
+use mathlib.Core.Path.{sym, ap, subst}
+use mathlib.Core.Bool.{Bool, not}
+use native.Mathlib.Omega.{arith}
+use lib.Dec.{T}
+use lib.Ieee.{binary64, fits, isNan}
+use lib.Ieee.Bits.{toBits-lt}
+use Rattle.float.proofs.Single.{nan-is, not-nan, number-or-inf, single-is, single-no-nan}
+use Rattle.float.proofs.narrow.Statement.{statement}
+use Rattle.float.proofs.narrow.Tie as tie
+
+-- what owning an `f64` tells: the format holds it
+held : (c : tie.Start) → T (fits binary64 (c .args .x))
+held c = subst T (sym (c .good .0 .1)) tt
+
+returns : tie.Need-returns
+returns c = nan-is (c .before .args .x) (c .if1 .taken)
+
+float-to-bits-bits : tie.Need-float-to-bits-bits
+float-to-bits-bits c = subst (λ (t : Bool). T (not t)) (sym (not-nan (c .before .args .x) (c .if1 .left))) tt
+
+mul-sign : tie.Need-mul-sign
+mul-sign c = omega (arith, toBits-lt binary64 (c .before .args .x) (held (c .before)))
+
+magnitude-requires : tie.Need-magnitude-requires
+magnitude-requires c κs = number-or-inf (c .before .args .x) (held (c .before)) (not-nan (c .before .args .x) (c .if1 .left))
+
+add-result : tie.Need-add-result
+add-result c = omega (arith, toBits-lt binary64 (c .before .before .args .x) (held (c .before .before)), c .magnitude .ensures .small)
+
+cast-result : tie.Need-cast-result
+cast-result c = omega (arith, toBits-lt binary64 (c .before .before .args .x) (held (c .before .before)), c .magnitude .ensures .small)
+
+float-from-bits-result : tie.Need-float-from-bits-result
+float-from-bits-result c = single-no-nan (c .before .before .args .x) (held (c .before .before)) (c .magnitude .result) (c .magnitude .ensures)
+
+returns-2 : tie.Need-returns-2
+returns-2 c = single-is (c .before .before .args .x) (held (c .before .before)) (c .magnitude .result) (c .magnitude .ensures)
+
+pub narrow-spec : {M : Type 1} → statement M
+narrow-spec = tie.close (tie.spec returns float-to-bits-bits mul-sign magnitude-requires add-result cast-result float-from-bits-result returns-2)

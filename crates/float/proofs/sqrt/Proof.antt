@@ -1,0 +1,130 @@
+-- `float::sqrt` meets its contract: the laws are those of `proofs/Rounding.antt`. Assumes nothing.
+use mathlib.Core.Path.{_≡_, sym, ap, _∙_, subst}
+use mathlib.Core.Bool.{Bool}
+use Prim.Native.Nat.{ℕ, _+_, _*_, _%_, _^_, _≤_, _<_}
+use native.Mathlib.Omega.{arith}
+use borrow.Author.Needs.{needs}
+use lib.Dec.{T}
+use lib.Ieee.{binary32, fits, toBits}
+use Rattle.float.specs.Parts.{valueOf, Split}
+use Rattle.float.proofs.NoNan.{no-nan}
+use Rattle.float.proofs.Rounding.{moved-lt, moved-below, sqrt-nan, sqrt-zero, sqrt-inf, sqrt-negative, sqrt-finite, sqrt-digits, sqrt-made, sqrt-no-nan, clear, zero-by-zero}
+use Rattle.float.proofs.sqrt.Statement.{statement}
+use Rattle.float.proofs.sqrt.Tie as tie
+
+-- the format holds what the function is handed
+held : (c : tie.Start) → T (fits binary32 (c .args .x))
+held c = subst T (sym (c .good .0 .1)) tt
+
+returns : tie.Need-returns
+returns c = sqrt-nan (c .before .args .x) (c .if1 .taken)
+
+float-to-bits-bits : tie.Need-float-to-bits-bits
+float-to-bits-bits c = no-nan (c .before .args .x) (c .if1 .left)
+
+returns-2 : tie.Need-returns-2
+returns-2 c = sqrt-zero _ (held (c .before .before)) (c .if2 .taken)
+
+returns-3 : tie.Need-returns-3
+returns-3 c =
+    let x = c .before .before .before .args .x in
+    zero-by-zero ∙ sym (sqrt-negative x (held (c .before .before .before)) (float-to-bits-bits (c .before .before)) (omega arith) (omega (arith, c .before .if2 .left)))
+
+-- the pattern is that of a value above zero
+pattern : (c : tie.Else3) → (toBits binary32 (c .before .before .before .args .x) % 2147483648 ≡ toBits binary32 (c .before .before .before .args .x)) × (toBits binary32 (c .before .before .before .args .x) < 2147483648) × (0 < toBits binary32 (c .before .before .before .args .x))
+pattern c = clear (toBits binary32 (c .before .before .before .args .x)) (c .before .if2 .left) (c .if3 .left)
+
+returns-4 : tie.Need-returns-4
+returns-4 c =
+    let p = pattern (c .before) in
+    sqrt-inf _ (held (c .before .before .before .before)) (float-to-bits-bits (c .before .before .before)) (p .1) (omega arith)
+
+split-requires : tie.Need-split-requires
+split-requires c κs = search needs
+
+cast-w : tie.Need-cast-w
+cast-w c = search needs
+
+add-w : tie.Need-add-w
+add-w c = search needs
+
+cast-w-2 : tie.Need-cast-w-2
+cast-w-2 c = search needs
+
+shl-w : tie.Need-shl-w
+shl-w c = search needs
+
+-- what `split` gave
+parts : (c : tie.After-split) → Split (valueOf (toBits binary32 (c .before .before .before .before .before .args .x))) (c .split .result .m) (c .split .result .s)
+parts c = c .split .ensures
+
+small-shift : (s : ℕ) → 25 + s % 2 ≤ 40
+small-shift s = omega arith
+
+moved : (c : tie.After-split) → (c .split .result .m * 2 ^ (25 + c .split .result .s % 2)) % 2 ^ 64 ≡ c .split .result .m * 2 ^ (25 + c .split .result .s % 2)
+moved c = moved-lt (c .split .result .m) (25 + c .split .result .s % 2) (parts c .under) (small-shift (c .split .result .s))
+
+isqrt-requires : tie.Need-isqrt-requires
+isqrt-requires c κs =
+    let p = c .before .before in
+    subst (λ (a : ℕ). a < 2 ^ 50) (sym (moved p)) (moved-below _ (25 + p .split .result .s % 2) 26 (parts p .under) (omega arith))
+
+module _ (c : tie.After-isqrt) where
+  at-least : c .isqrt .result * c .isqrt .result ≤ c .before .before .before .split .result .m * 2 ^ (25 + c .before .before .before .split .result .s % 2)
+  at-least = subst (λ (a : ℕ). c .isqrt .result * c .isqrt .result ≤ a) (moved (c .before .before .before)) (c .isqrt .ensures .0)
+
+  below : c .before .before .before .split .result .m * 2 ^ (25 + c .before .before .before .split .result .s % 2) < (c .isqrt .result + 1) * (c .isqrt .result + 1)
+  below = subst (λ (a : ℕ). a < (c .isqrt .result + 1) * (c .isqrt .result + 1)) (moved (c .before .before .before)) (c .isqrt .ensures .1)
+
+  digits : (16777216 ≤ c .isqrt .result) × (c .isqrt .result < 33554432)
+  digits = sqrt-digits _ _ _ (c .isqrt .result) (parts (c .before .before .before)) at-least below
+
+add-q : tie.Need-add-q
+add-q c = omega (arith, digits c)
+
+add-result : tie.Need-add-result
+add-result c = search needs
+
+mul-result : tie.Need-mul-result
+mul-result c = search needs
+
+cast-result : tie.Need-cast-result
+cast-result c = omega (arith, digits (c .before))
+
+add-result-2 : tie.Need-add-result-2
+add-result-2 c = omega (arith, digits (c .before), parts (c .before .before .before .before) .far)
+
+float-from-bits-result : tie.Need-float-from-bits-result
+float-from-bits-result c = sqrt-no-nan _ _ _ (c .before .isqrt .result) (parts (c .before .before .before .before)) (at-least (c .before)) (below (c .before))
+
+returns-5 : tie.Need-returns-5
+returns-5 c =
+    let at = c .before .before .before .before .before .before .before .before .before in
+    let x = at .args .x in
+    let p = pattern (c .before .before .before .before .before .before) in
+    sym (sqrt-finite x (held at) (p .1) (omega arith) (omega arith)
+    ∙ ap (λ (b : ℕ). Rattle.float.specs.Root.rootOfUnits 2 Bool.false (valueOf b)) (p .0)
+    ∙ sqrt-made _ _ _ (c .before .isqrt .result) (parts (c .before .before .before .before)) (at-least (c .before)) (below (c .before)))
+
+pub sqrt-spec : {M : Type 1} → statement M
+sqrt-spec =
+    tie.close
+    (tie.spec
+    returns
+    float-to-bits-bits
+    returns-2
+    returns-3
+    returns-4
+    split-requires
+    cast-w
+    add-w
+    cast-w-2
+    shl-w
+    isqrt-requires
+    add-q
+    add-result
+    mul-result
+    cast-result
+    add-result-2
+    float-from-bits-result
+    returns-5)

@@ -1,0 +1,13 @@
+pub mod Value
+pub mod Order
+pub mod Near
+pub mod Ops
+pub mod Finite
+pub mod Const
+pub mod Mono
+pub mod Interval
+pub mod Error
+pub mod Exact
+pub mod Tests
+pub mod Clamp
+pub mod Sum
