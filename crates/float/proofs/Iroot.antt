@@ -10,19 +10,8 @@ use lib.Dec.{T, leb, leb→le, nleb→lt}
 use lib.Pow.{pow-add, pow-pos, pow-mono}
 use lib.Ieee.{size, odd}
 use lib.Ieee.Digits.{size-lt, size-le}
+use Rattle.floatlaws.specs.Whole.{mul-pow, pow-pow, root-lt, size-exact}
 use Rattle.float.specs.Root.{digits, iroot, rootOfUnits}
-
--- ---- powers
-pub mul-pow : (a b n : ℕ) → (a * b) ^ n ≡ a ^ n * b ^ n
-mul-pow a b zero = pow-zero (a * b) ∙ sym (ap (λ (x : ℕ). x * b ^ 0) (pow-zero a) ∙ ap (λ (x : ℕ). 1 * x) (pow-zero b))
-mul-pow a b (suc n) = pow-suc (a * b) n ∙ ap (λ (x : ℕ). x * (a * b)) (mul-pow a b n) ∙ mul-mul-mul-comm (a ^ n) (b ^ n) a b ∙ ap (λ (x : ℕ). x * (b ^ n * b)) (sym (pow-suc a n)) ∙ ap (λ (x : ℕ). a ^ suc n * x) (sym (pow-suc b n))
-
-pub pow-pow : (a d n : ℕ) → (a ^ d) ^ n ≡ a ^ (d * n)
-pow-pow a d zero = pow-zero (a ^ d) ∙ sym (ap (λ (x : ℕ). a ^ x) (mul-zero d) ∙ pow-zero a)
-pow-pow a d (suc n) = pow-suc (a ^ d) n ∙ ap (λ (x : ℕ). x * a ^ d) (pow-pow a d n) ∙ sym (pow-add a (d * n) d) ∙ ap (λ (x : ℕ). a ^ x) (sym (mul-suc d n))
-
-pub pow-lt-back : (n : ℕ) {a b : ℕ} → a ^ n < b ^ n → a < b
-pow-lt-back n {a} {b} h = lt-of-not-le (λ (g : b ≤ a). not-le-of-lt h (pow-le-pow-left g n))
 
 -- ---- the digits
 digits-spec : (n v k q : ℕ) → q ^ n ≤ v → v < (q + 2 ^ k) ^ n → (digits n v k q ^ n ≤ v) × (v < (digits n v k q + 1) ^ n)
@@ -45,23 +34,16 @@ iroot-spec n v =
     (le-trans (mul-le-mul-right (2 ^ size v) (le-trans (pow-pos (size v * n)) (le-of-eq (sym (pow-pow 2 (size v) n)))))
     (le-of-eq (sym (pow-suc (2 ^ size v) n) ∙ ap (λ (x : ℕ). x ^ suc n) (sym (zero-add (2 ^ size v))))))))
 
--- ---- how many binary digits a number has
-pow-back : (i j : ℕ) → 2 ^ i < 2 ^ j → i < j
-pow-back i j h = lt-of-not-le (λ (g : j ≤ i). not-le-of-lt h (pow-mono g))
-
-pub size-exact : (a v : ℕ) → 2 ^ a ≤ v → v < 2 ^ suc a → size v ≡ suc a
-size-exact a v lo hi = le-antisymm (size-le v (suc a) hi) (pow-back a (size v) (lt-of-le-of-lt lo (size-lt v)))
-
 -- ---- the leading digits of a root: t is the root of w, and v is 2 ^ d times as large in its root
 module _ (n t w d v : ℕ) (lo : t ^ suc n ≤ w) (hi : w < (t + 1) ^ suc n) (e : v ≡ w * (2 ^ d) ^ suc n) where
   above : t * 2 ^ d ≤ iroot (suc n) v
   above =
       le-of-suc-le-suc (subst (λ (x : ℕ). t * 2 ^ d < x) (add-one (iroot (suc n) v))
-      (pow-lt-back (suc n) (lt-of-le-of-lt (le-trans (le-of-eq (mul-pow t (2 ^ d) (suc n))) (le-trans (mul-le-mul-right ((2 ^ d) ^ suc n) lo) (le-of-eq (sym e)))) (iroot-spec n v .1))))
+      (root-lt (suc n) (lt-of-le-of-lt (le-trans (le-of-eq (mul-pow t (2 ^ d) (suc n))) (le-trans (mul-le-mul-right ((2 ^ d) ^ suc n) lo) (le-of-eq (sym e)))) (iroot-spec n v .1))))
 
   below : iroot (suc n) v < (t + 1) * 2 ^ d
   below =
-      pow-lt-back (suc n) (lt-of-le-of-lt (iroot-spec n v .0)
+      root-lt (suc n) (lt-of-le-of-lt (iroot-spec n v .0)
       (lt-of-le-of-lt (le-of-eq e)
       (lt-of-lt-of-le (mul-lt-mul-of-pos-right hi (subst (λ (x : ℕ). 0 < x) (sym (pow-pow 2 d (suc n))) (pow-pos (d * suc n)))) (le-of-eq (sym (mul-pow (t + 1) (2 ^ d) (suc n)))))))
 

@@ -2,56 +2,50 @@
 use mathlib.Core.Path.{_≡_, refl, sym, ap, _∙_, subst}
 use mathlib.Core.Logic.{_⊎_, inl, inr, _≢_}
 use Prim.Native.Nat.{ℕ, zero, suc, _+_, _-_, _*_, _/_, _%_, _^_, _≤_, _<_, zero-le}
-use native.Mathlib.Nat.{le-antisymm, le-trans, le-of-eq, le-of-lt, le-of-suc-le-suc, lt-of-lt-of-le, lt-of-le-of-lt, lt-irrefl, lt-of-not-le, zero-mul, mul-one, mul-assoc, add-mul, mul-add, mul-le-mul-right, mul-lt-mul-of-pos-right, lt-of-mul-lt-mul-right, eq-of-mul-eq-mul-right, pow-suc, pow-zero, pow-le-pow-left, pow-lt-pow-left, add-comm, mul-div-cancel, zero-div, div-add-mod', add-sub-of-le}
+use native.Mathlib.Nat.{le-refl, mul-le-mul, le-antisymm, le-trans, le-of-eq, le-of-lt, le-of-suc-le-suc, lt-of-lt-of-le, lt-of-le-of-lt, lt-irrefl, lt-of-not-le, zero-mul, mul-one, mul-assoc, add-mul, mul-add, mul-le-mul-right, mul-lt-mul-of-pos-right, lt-of-mul-lt-mul-right, eq-of-mul-eq-mul-right, pow-suc, pow-zero, pow-le-pow-left, pow-lt-pow-left, add-comm, mul-div-cancel, zero-div, div-add-mod', add-sub-of-le}
 use native.Mathlib.Numerals.{add-one}
 use native.Mathlib.Omega.{arith}
 use mathlib.Core.Bool.{Bool, true, false, not, cond}
 use lib.IntN.{ℤ}
 use lib.Arith.{lt-of-le-ne}
-use lib.Dec.{T, leb, ltb, lit<, lit≤, ltb→lt, nltb→le, leb→le, nleb→lt}
+use lib.Dec.{T, leb, ltb, eqb, eqb·suc-zero, lit<, lit≤, ltb→lt, nltb→le, leb→le, nleb→lt}
 use lib.Pow.{pow-add, pow-pos, pow-mono, shl-lt}
-use lib.Ieee.{Float, nan, inf, fin, binary32, up, down, size, odd, ofBits, toBits, isNan, fits}
-use lib.Ieee.Fits.{down-pos}
-use lib.Ieee.Bits.{ofBits-toBits}
-use lib.Ieee.Exact.{HasValue, odd-sign}
+use lib.Ieee.{Float, nan, inf, fin, binary32, odd, fits}
+use lib.Ieee.Exact.{odd-sign}
 use lib.Ieee.Scale.{finite}
-use Rattle.float.specs.Root.{iroot, rootOfUnits, unitsOf, sqrtOf, cbrtOf}
-use Rattle.float.specs.Parts.{valueOf, Split}
-use Rattle.float.specs.Nearest.{magnitude, Signed, Nearer, NearestRoot}
-use Rattle.float.proofs.Iroot.{mul-pow, pow-pow, iroot-spec, radicand}
-use Rattle.float.proofs.Lead.{norm-law, value-low, value-high, split-low, split-high}
-use Rattle.float.proofs.Patterns as patterns
+use Rattle.floatlaws.specs.Whole.{mul-pow, pow-pow}
+use Rattle.floatlaws.specs.Value.{mag, negative, shape, mag-shape}
+use Rattle.floatlaws.specs.Ops.{mag-pos}
+use Rattle.floatlaws.specs.Finite.{Fin}
+use Rattle.floatlaws.specs.Bits.{mag-val, made-fits, same-float}
+use Rattle.float.specs.Root.{iroot, rootOfUnits, sqrtOf, cbrtOf}
+use Rattle.float.specs.Parts.{Split}
+use Rattle.float.specs.Nearest.{Nearer, NearestRoot, IsSqrt, IsCbrt}
+use Rattle.float.proofs.Iroot.{iroot-spec, radicand}
+use Rattle.float.proofs.Lead.{halved}
 use Rattle.float.proofs.Rounding.{root-digits, half, root-is}
 
 -- ---- what the format holds: c * 2 ^ i units, with c of at most 24 digits
 abbrev Held : ℕ → Type 0
-Held b = (c : ℕ) × (i : ℕ) × (c < 16777216) × (b ≡ c * 2 ^ i)
+Held b = (c : ℕ) × (i : ℕ) × (c < 0x100_0000) × (b ≡ c * 2 ^ i)
 
-value-held : (g : ℕ) → Held (valueOf g)
-value-held g = go (ltb g 8388608) (ltb→lt g 8388608) (nltb→le g 8388608)
-  where
-    low : (g : ℕ) → g < 8388608 → g < 16777216
-    low g h = omega arith
-
-    high : (g : ℕ) → g % 8388608 + 8388608 < 16777216
-    high g = omega arith
-
-    go : (b : Bool) → (T b → g < 8388608) → (T (not b) → 8388608 ≤ g) → Held (valueOf g)
-    go true y z = (g, 0, low g (y tt), value-low g (y tt) ∙ sym (mul-one g))
-    go false y z = (g % 8388608 + 8388608, g / 8388608 - 1, high g, value-high g (z tt))
+held : {y : Float} → Fin binary32 y → Held (mag binary32 y)
+held {y = nan} p = absurd (p .finite)
+held {y = inf s} p = absurd (p .finite)
+held {y = fin s m e} p = let g = shape binary32 s m e (p .fit) in (m, g .j, g .small, mag-shape binary32 s m e (p .fit))
 
 -- c * 2 ^ i is a multiple of 2 ^ k, or is below 2 ^ (23 + k)
 module _ (c i k : ℕ) where
   coarse : k ≤ i → c * 2 ^ i ≡ c * 2 ^ (i - k) * 2 ^ k
   coarse h = ap (λ (x : ℕ). c * 2 ^ x) (sym (add-comm (i - k) k ∙ add-sub-of-le h)) ∙ ap (λ (x : ℕ). c * x) (pow-add 2 (i - k) k) ∙ sym (mul-assoc c (2 ^ (i - k)) (2 ^ k))
 
-  fine : c < 16777216 → i < k → c * 2 ^ i < 8388608 * 2 ^ k
+  fine : c < 0x100_0000 → i < k → c * 2 ^ i < 0x80_0000 * 2 ^ k
   fine h l = lt-of-lt-of-le (shl-lt 24 i h) (le-trans (pow-mono (one-less i k l)) (le-of-eq (pow-add 2 23 k)))
     where
       one-less : (i k : ℕ) → i < k → 24 + i ≤ 23 + k
       one-less i k l = omega arith
 
-spaced-up : (q k b : ℕ) → 8388608 ≤ q → Held b → q * 2 ^ k < b → (q + 1) * 2 ^ k ≤ b
+spaced-up : (q k b : ℕ) → 0x80_0000 ≤ q → Held b → q * 2 ^ k < b → (q + 1) * 2 ^ k ≤ b
 spaced-up q k b h H l = go (leb k (H .1)) (leb→le k (H .1)) (nleb→lt k (H .1))
   where
     go : (x : Bool) → (T x → k ≤ H .1) → (T (not x) → H .1 < k) → (q + 1) * 2 ^ k ≤ b
@@ -61,7 +55,7 @@ spaced-up q k b h H l = go (leb k (H .1)) (leb→le k (H .1)) (nleb→lt k (H .1
     go false y z =
         absurd (lt-irrefl b (lt-of-lt-of-le (lt-of-le-of-lt (le-of-eq (H .3)) (fine (H .0) (H .1) k (H .2) (z tt))) (le-trans (mul-le-mul-right (2 ^ k) h) (le-of-lt l))))
 
-spaced-down : (p k b : ℕ) → 8388608 ≤ p → Held b → b < suc p * 2 ^ k → b ≤ p * 2 ^ k
+spaced-down : (p k b : ℕ) → 0x80_0000 ≤ p → Held b → b < suc p * 2 ^ k → b ≤ p * 2 ^ k
 spaced-down p k b h H l = go (leb k (H .1)) (leb→le k (H .1)) (nleb→lt k (H .1))
   where
     go : (x : Bool) → (T x → k ≤ H .1) → (T (not x) → H .1 < k) → b ≤ p * 2 ^ k
@@ -89,15 +83,15 @@ no-tie t n m c h e = clash (m * 2 ^ c) (t ^ n) (odd-power t n h) (e ∙ ap (λ (
 
 -- ---- sums and halves, for the two sides of r. With q for (t + 1) / 2: t is q + q, or it is odd, and then it is q + p for p one below q
 abbrev Parity : ℕ → Type 0
-Parity t = (t ≡ (t + 1) / 2 + (t + 1) / 2) ⊎ ((t % 2 ≡ 1) × ((t + 1) / 2 ≡ suc (t / 2)) × (t ≡ suc (t / 2) + t / 2) × (8388608 ≤ t / 2))
+Parity t = (t ≡ (t + 1) / 2 + (t + 1) / 2) ⊎ ((t % 2 ≡ 1) × ((t + 1) / 2 ≡ suc (t / 2)) × (t ≡ suc (t / 2) + t / 2) × (0x80_0000 ≤ t / 2))
 
-parity : (t : ℕ) → 16777216 ≤ t → Parity t
+parity : (t : ℕ) → 0x100_0000 ≤ t → Parity t
 parity t h = go (ltb (t % 2) 1) (ltb→lt (t % 2) 1) (nltb→le (t % 2) 1)
   where
     even : (t : ℕ) → t % 2 < 1 → t ≡ (t + 1) / 2 + (t + 1) / 2
     even t h = omega arith
 
-    uneven : (t : ℕ) → 16777216 ≤ t → 1 ≤ t % 2 → (t % 2 ≡ 1) × ((t + 1) / 2 ≡ suc (t / 2)) × (t ≡ suc (t / 2) + t / 2) × (8388608 ≤ t / 2)
+    uneven : (t : ℕ) → 0x100_0000 ≤ t → 1 ≤ t % 2 → (t % 2 ≡ 1) × ((t + 1) / 2 ≡ suc (t / 2)) × (t ≡ suc (t / 2) + t / 2) × (0x80_0000 ≤ t / 2)
     uneven t h k = (omega arith, omega arith, omega arith, omega arith)
 
     go : (b : Bool) → (T b → t % 2 < 1) → (T (not b) → 1 ≤ t % 2) → Parity t
@@ -201,69 +195,19 @@ module _ (n c : ℕ) (g : 24 * suc n + 1 ≡ 24 + suc c) (v : 150 / suc n * suc 
     λ l. below-side b B l,
   )
 
--- ---- a float's size, from the fraction that it equals
-size-of : (x : Float) (s : Bool) (a : ℕ) → HasValue x s a (2 ^ 149) → magnitude x ≡ a
-size-of nan s a v = absurd v
-size-of (inf t) s a v = absurd v
-size-of (fin t m e) s a v = ap (λ (x : ℕ). x / down e) (v .1) ∙ mul-div-cancel a (down-pos e)
+-- ---- what `odd` makes
+odd-finite : (d : ℕ) (s : Bool) (q k l : ℕ) → T (finite (odd d s q k l)) × (negative (odd d s q k l) ≡ s)
+unfolding odd
+odd-finite d s zero k l = (tt, refl)
+odd-finite d s (suc q) k l = (tt, refl)
 
-sign-of : (x : Float) (s : Bool) (a : ℕ) → HasValue x s a (2 ^ 149) → Signed s x
-sign-of nan s a v = v
-sign-of (inf t) s a v = v
-sign-of (fin t m e) s a v = v .0
+-- ---- the theorem, for a degree n with what the definition takes of it: n divides 150, and a root's exponent stays in range
+record Degree (n : ℕ) : Type 0 where
+  divides : 150 / n * n ≡ 150
+  few : 150 / n ≤ 126
+  room : (s : ℕ) → s ≤ 277 → s / n + 126 - 150 / n ≤ 252
 
--- ---- a finite value that is not zero has a pattern between those of the zero and the infinity
-abbrev mantissa : Float → ℕ
-mantissa nan = 0
-mantissa (inf s) = 0
-mantissa (fin s m e) = m
-
-no-suc : (m : ℕ) → suc m ≡ 0 → ⊥
-no-suc m e = omega arith
-
-module _ (s : Bool) (m : ℕ) (e : ℤ) (F : T (fits binary32 (fin s (suc m) e))) where
-  above-zero : 0 < toBits binary32 (fin s (suc m) e) % 2147483648
-  above-zero = lt-of-not-le (λ (h : toBits binary32 (fin s (suc m) e) % 2147483648 ≤ 0). no-suc m (ap mantissa (patterns.is-zero (fin s (suc m) e) F (none h))))
-    where
-      none : {b : ℕ} → b ≤ 0 → b ≡ 0
-      none h = omega arith
-
-  under-inf : toBits binary32 (fin s (suc m) e) % 2147483648 < 2139095040
-  under-inf = lt-of-not-le (λ (h : 2139095040 ≤ toBits binary32 (fin s (suc m) e) % 2147483648). no-suc m (ap mantissa (patterns.is-inf (fin s (suc m) e) F (unfold isNan in tt) h)))
-
-  same-units : unitsOf (suc m) e ≡ valueOf (toBits binary32 (fin s (suc m) e) % 2147483648)
-  same-units =
-      let z = patterns.finite (fin s (suc m) e) F above-zero under-inf in
-      ap magnitude (z .2) ∙ z .3
-
-held : (y : Float) → T (fits binary32 y) → T (finite y) → Held (magnitude y)
-held nan F f = absurd f
-held (inf s) F f = absurd f
-held (fin s zero e) F f = (0, 0, lit< tt, ap (λ (x : ℕ). x * 2 ^ 149 / down e) (zero-mul (up e)) ∙ zero-div (down e))
-held (fin s (suc m) e) F f = subst Held (sym (same-units s m e F)) (value-held (toBits binary32 (fin s (suc m) e) % 2147483648))
-
--- ---- every such value can be split
-abbrev Halved : ℕ → Type 0
-Halved u = (m : ℕ) × (s : ℕ) × Split u m s
-
-halved : (g : ℕ) → 0 < g → g < 2139095040 → Halved (valueOf g)
-halved g h k = go (ltb g 8388608) (ltb→lt g 8388608) (nltb→le g 8388608)
-  where
-    small : (g : ℕ) → g < 8388608 → g < 16777216
-    small g h = omega arith
-
-    lead : (g : ℕ) → (0 < g % 8388608 + 8388608) × (g % 8388608 + 8388608 < 16777216)
-    lead g = omega arith
-
-    field : (g : ℕ) → g < 2139095040 → g / 8388608 - 1 ≤ 253
-    field g h = omega arith
-
-    go : (b : Bool) → (T b → g < 8388608) → (T (not b) → 8388608 ≤ g) → Halved (valueOf g)
-    go true y z = (_, _, split-low g _ _ (y tt) (norm-law g 0 h (small g (y tt)) zero-le))
-    go false y z = (_, _, split-high g _ _ (z tt) (norm-law (g % 8388608 + 8388608) (g / 8388608 - 1) (lead g .0) (lead g .1) (field g k)))
-
--- ---- the theorem
-module _ (n c : ℕ) (g : 24 * suc n + 1 ≡ 24 + suc c) (v : 150 / suc n * suc n ≡ 150) (w : 150 / suc n ≤ 126) (h : (s : ℕ) → s ≤ 277 → s / suc n + 126 - 150 / suc n ≤ 252) where
+module _ (n c : ℕ) (g : 24 * suc n + 1 ≡ 24 + suc c) (D : Degree (suc n)) where
   of-split : (b : Bool) (u m s : ℕ) → Split u m s → NearestRoot (suc n) b u (rootOfUnits (suc n) b u)
   of-split b u m s P =
       let W = m * 2 ^ (suc c + s % suc n) in
@@ -273,76 +217,80 @@ module _ (n c : ℕ) (g : 24 * suc n + 1 ≡ 24 + suc c) (v : 150 / suc n * suc 
       let K = s / suc n + 126 - 150 / suc n in
       let q = (t + 1) / 2 in
       let r = odd 25 b q K 149 in
-      let Z = odd-sign 25 b q K 149 in
+      let O = odd-finite 25 b q K 149 in
+      let F = made-fits binary32 b q K (H .1) (lt-of-le-of-lt (mul-le-mul (H .1) (pow-mono (D .room s (P .far)))) (lit< tt)) in
+      let Z = mag-val binary32 r b (q * 2 ^ K) F (odd-sign 25 b q K 149) in
       subst (λ (x : Float). NearestRoot (suc n) b u x) (sym (root-is n (suc c) g u m s t P (I .0) (I .1) b))
       (record {
-        held = patterns.made-fits b q K (H .1) (h s (P .far));
-        sign = sign-of r b (q * 2 ^ K) Z;
-        nearest = λ y F f. subst (λ (a : ℕ). Nearer (suc n) u a (magnitude y)) (sym (size-of r b (q * 2 ^ K) Z)) (nearer n c g v w u m s t P (I .0) (I .1) (magnitude y) (held y F f));
+        is = record { fit = F; finite = O .0 };
+        sign = O .1;
+        nearest = λ y Y. subst (λ (a : ℕ). Nearer (suc n) u a (mag binary32 y)) (sym Z) (nearer n c g (D .divides) (D .few) u m s t P (I .0) (I .1) (mag binary32 y) (held Y));
       })
 
-  of-value : (b s : Bool) (m : ℕ) (e : ℤ) → T (fits binary32 (fin s (suc m) e)) → NearestRoot (suc n) b (unitsOf (suc m) e) (rootOfUnits (suc n) b (unitsOf (suc m) e))
-  of-value b s m e F =
-      let d = halved (toBits binary32 (fin s (suc m) e) % 2147483648) (above-zero s m e F) (under-inf s m e F) in
-      of-split b (unitsOf (suc m) e) (d .0) (d .1) (subst (λ (u : ℕ). Split u (d .0) (d .1)) (sym (same-units s m e F)) (d .2))
+  -- the root of every finite value that is not zero, with either sign
+  nearest : {x : Float} (b : Bool) → Fin binary32 x → 0 < mag binary32 x → NearestRoot (suc n) b (mag binary32 x) (rootOfUnits (suc n) b (mag binary32 x))
+  nearest {x} b p h = let d = halved p h in of-split b (mag binary32 x) (d .m) (d .s) (d .split)
 
--- the square root of an f32 above zero is the nearest float
-pub sqrt-nearest : (m : ℕ) (e : ℤ) → T (fits binary32 (fin false (suc m) e)) → NearestRoot 2 false (unitsOf (suc m) e) (sqrtOf (fin false (suc m) e))
-unfolding sqrtOf
-sqrt-nearest m e F = of-value 1 24 refl refl (lit≤ tt) (λ s l. small s l) false false m e F
+pub nearest-2 : {x : Float} (b : Bool) → Fin binary32 x → 0 < mag binary32 x → NearestRoot 2 b (mag binary32 x) (rootOfUnits 2 b (mag binary32 x))
+nearest-2 b p h = nearest 1 24 refl (record { divides = refl; few = lit≤ tt; room = small }) b p h
   where
     small : (s : ℕ) → s ≤ 277 → s / 2 + 126 - 75 ≤ 252
     small s h = omega arith
 
--- the cube root of an f32 that is finite and not zero is the nearest float
-pub cbrt-nearest : (s : Bool) (m : ℕ) (e : ℤ) → T (fits binary32 (fin s (suc m) e)) → NearestRoot 3 s (unitsOf (suc m) e) (cbrtOf (fin s (suc m) e))
-unfolding cbrtOf
-cbrt-nearest s m e F = of-value 2 48 refl refl (lit≤ tt) (λ s l. small s l) s s m e F
+pub nearest-3 : {x : Float} (b : Bool) → Fin binary32 x → 0 < mag binary32 x → NearestRoot 3 b (mag binary32 x) (rootOfUnits 3 b (mag binary32 x))
+nearest-3 b p h = nearest 2 48 refl (record { divides = refl; few = lit≤ tt; room = small }) b p h
   where
     small : (s : ℕ) → s ≤ 277 → s / 3 + 126 - 50 ≤ 252
     small s h = omega arith
 
+-- ---- the two roots of document 01, at every f32
+some : (m : ℕ) → T (not (eqb (suc m) 0))
+some m = rw (eqb·suc-zero m) tt
+
+finite-above : (s : Bool) (m : ℕ) (e : ℤ) → T (fits binary32 (fin s (suc m) e)) → Fin binary32 (fin s (suc m) e) × (0 < mag binary32 (fin s (suc m) e))
+finite-above s m e F = (record { fit = F; finite = tt }, mag-pos binary32 s (suc m) e F (some m))
+
+pub sqrt-is : (x : Float) → T (fits binary32 x) → IsSqrt x (sqrtOf x)
+unfolding sqrtOf
+sqrt-is nan F = refl
+sqrt-is (inf false) F = refl
+sqrt-is (inf true) F = refl
+sqrt-is (fin s zero e) F = refl
+sqrt-is (fin false (suc m) e) F = let p = finite-above false m e F in nearest-2 false (p .0) (p .1)
+sqrt-is (fin true (suc m) e) F = refl
+
+pub cbrt-is : (x : Float) → T (fits binary32 x) → IsCbrt x (cbrtOf x)
+unfolding cbrtOf
+cbrt-is nan F = refl
+cbrt-is (inf s) F = refl
+cbrt-is (fin s zero e) F = refl
+cbrt-is (fin s (suc m) e) F = let p = finite-above s m e F in nearest-3 s (p .0) (p .1)
+
+-- ---- nearer to one is farther from the other, so of two numbers' nearest roots the larger number's is the larger, or the same
+clash : (n : ℕ) {u v a b : ℕ} → u ≤ v → Nearer n u a b → Nearer n v b a → b < a → ⊥
+clash n {u} {v} {a} {b} h X Y l =
+    lt-irrefl _ (lt-of-lt-of-le (Y .0 l) (le-trans (le-of-eq (ap (λ (z : ℕ). z ^ n) (add-comm b a))) (le-trans (le-of-lt (X .1 l)) (mul-le-mul-right (2 ^ (149 * (n - 1))) (mul-le-mul-right (2 ^ n) h)))))
+
+pub root-mono : {n : ℕ} {s t : Bool} {u v : ℕ} {x y : Float} → NearestRoot n s u x → NearestRoot n t v y → u ≤ v → mag binary32 x ≤ mag binary32 y
+root-mono {n} {x = x} {y = y} X Y h =
+    le-of-suc-le-suc (lt-of-not-le (λ (l : suc (mag binary32 y) ≤ mag binary32 x). clash n h (X .nearest y (Y .is)) (Y .nearest x (X .is)) l))
+
 -- ---- and the only one: two floats that are each the nearest are the same
-same-bits : (x y : Float) (s : Bool) → Signed s x → Signed s y → magnitude x ≡ magnitude y → toBits binary32 x ≡ toBits binary32 y
-unfolding toBits
-same-bits nan y s p q e = absurd p
-same-bits (inf t) y s p q e = absurd p
-same-bits (fin t m d) nan s p q e = absurd q
-same-bits (fin t m d) (inf r) s p q e = absurd q
-same-bits (fin t m d) (fin r l f) s p q e =
-    ap (λ (b : Bool). cond b 2147483648 0 + (size (unitsOf m d) - 24) * 8388608 + unitsOf m d / 2 ^ (size (unitsOf m d) - 24)) (p ∙ sym q)
-    ∙ ap (λ (n : ℕ). cond r 2147483648 0 + (size n - 24) * 8388608 + n / 2 ^ (size n - 24)) e
+pub only : {n : ℕ} {s : Bool} {u : ℕ} {x y : Float} → NearestRoot n s u x → NearestRoot n s u y → x ≡ y
+only {u = u} X Y = same-float (X .is) (Y .is) (X .sign ∙ sym (Y .sign)) (le-antisymm (root-mono X Y (le-refl u)) (root-mono Y X (le-refl u)))
 
-is-finite : (x : Float) (s : Bool) → Signed s x → T (finite x)
-is-finite nan s p = p
-is-finite (inf t) s p = p
-is-finite (fin t m e) s p = tt
+pub sqrt-only : (x r : Float) → T (fits binary32 x) → IsSqrt x r → r ≡ sqrtOf x
+unfolding sqrtOf
+sqrt-only nan r F h = h
+sqrt-only (inf false) r F h = h
+sqrt-only (inf true) r F h = h
+sqrt-only (fin s zero e) r F h = h
+sqrt-only (fin false (suc m) e) r F h = only h (sqrt-is (fin false (suc m) e) F)
+sqrt-only (fin true (suc m) e) r F h = h
 
-pub only : (n : ℕ) (s : Bool) (u : ℕ) (x y : Float) → NearestRoot n s u x → NearestRoot n s u y → x ≡ y
-only n s u x y X Y = go (ltb a b) (ltb→lt a b) (nltb→le a b) (ltb b a) (ltb→lt b a) (nltb→le b a)
-  where
-    a : ℕ
-    a = magnitude x
-
-    b : ℕ
-    b = magnitude y
-
-    of-x : Nearer n u (magnitude x) (magnitude y)
-    of-x = X .nearest y (Y .held) (is-finite y s (Y .sign))
-
-    of-y : Nearer n u (magnitude y) (magnitude x)
-    of-y = Y .nearest x (X .held) (is-finite x s (X .sign))
-
-    clash : magnitude x < magnitude y → ⊥
-    clash l = lt-irrefl _ (lt-of-lt-of-le (of-x .0 l) (le-trans (le-of-eq (ap (λ (z : ℕ). z ^ n) (add-comm (magnitude x) (magnitude y)))) (le-of-lt (of-y .1 l))))
-
-    clash′ : magnitude y < magnitude x → ⊥
-    clash′ l = lt-irrefl _ (lt-of-lt-of-le (of-y .0 l) (le-trans (le-of-eq (ap (λ (z : ℕ). z ^ n) (add-comm (magnitude y) (magnitude x)))) (le-of-lt (of-x .1 l))))
-
-    same : magnitude x ≡ magnitude y → x ≡ y
-    same e = sym (ofBits-toBits binary32 x (X .held)) ∙ ap (ofBits binary32) (same-bits x y s (X .sign) (Y .sign) e) ∙ ofBits-toBits binary32 y (Y .held)
-
-    go : (p : Bool) → (T p → a < b) → (T (not p) → b ≤ a) → (q : Bool) → (T q → b < a) → (T (not q) → a ≤ b) → x ≡ y
-    go true f g q h k = absurd (clash (f tt))
-    go false f g true h k = absurd (clash′ (h tt))
-    go false f g false h k = same (le-antisymm (k tt) (g tt))
+pub cbrt-only : (x r : Float) → T (fits binary32 x) → IsCbrt x r → r ≡ cbrtOf x
+unfolding cbrtOf
+cbrt-only nan r F h = h
+cbrt-only (inf s) r F h = h
+cbrt-only (fin s zero e) r F h = h
+cbrt-only (fin s (suc m) e) r F h = only h (cbrt-is (fin s (suc m) e) F)

@@ -5,15 +5,16 @@ use native.Mathlib.Nat.{le-trans, le-of-eq, le-of-suc-le-suc, lt-of-lt-of-le, lt
 use native.Mathlib.Numerals.{add-one}
 use native.Mathlib.Omega.{arith}
 use mathlib.Core.Bool.{Bool, true, false, not, cond}
-use lib.Dec.{T, leb, ltb, leb→le, nleb→lt, ltb→lt, nltb→le}
+use lib.Dec.{T, lit<, leb, ltb, leb→le, nleb→lt, ltb→lt, nltb→le}
 use lib.Pow.{pow-add, pow-pos, pow-mono, shl-lt, shl-exact}
 use lib.Ieee.{Float, nan, inf, fin, binary32, odd, ofBits, toBits, isNan, nanBits, fits, ne, div}
 use borrow.Author.Tests.{lt-leb, le-leb}
 use Rattle.float.specs.Root.{rootOfUnits, sqrtOf, cbrtOf}
-use Rattle.float.specs.Parts.{valueOf, Split}
-use Rattle.float.proofs.NoNan.{a-nan}
-use Rattle.float.proofs.Iroot.{pow-pow, pow-lt-back, rounded}
-use Rattle.float.proofs.Patterns.{finite, is-zero, is-inf, made, made-no-nan}
+use Rattle.float.specs.Parts.{Split}
+use Rattle.floatlaws.specs.Whole.{pow-pow, root-lt}
+use Rattle.floatlaws.specs.Nan.{a-nan}
+use Rattle.floatlaws.specs.Bits.{valueOf, by-value, by-zero, by-inf, made, real-pattern, unsigned}
+use Rattle.float.proofs.Iroot.{rounded}
 
 -- ---- squares and cubes as powers
 pub square : (t : ℕ) → t ^ 2 ≡ t * t
@@ -23,14 +24,14 @@ pub cube : (t : ℕ) → t ^ 3 ≡ t * t * t
 cube t = pow-suc t 2 ∙ ap (λ (x : ℕ). x * t) (square t)
 
 -- ---- m moved up, as a shift of a u64 has it
-pub moved-lt : (m c : ℕ) → m < 16777216 → c ≤ 40 → (m * 2 ^ c) % 2 ^ 64 ≡ m * 2 ^ c
+pub moved-lt : (m c : ℕ) → m < 0x100_0000 → c ≤ 40 → (m * 2 ^ c) % 2 ^ 64 ≡ m * 2 ^ c
 moved-lt m c h k = shl-exact 24 c 64 h (fit c k)
   where
     fit : (c : ℕ) → c ≤ 40 → 24 + c ≤ 64
     fit c h = omega arith
 
-pub moved-below : (m c hi : ℕ) → m < 16777216 → c ≤ hi → m * 2 ^ c < 16777216 * 2 ^ hi
-moved-below m c hi b h = lt-of-lt-of-le (mul-lt-mul-of-pos-right b (pow-pos c)) (mul-le-mul-left 16777216 (pow-mono h))
+pub moved-below : (m c hi : ℕ) → m < 0x100_0000 → c ≤ hi → m * 2 ^ c < 0x100_0000 * 2 ^ hi
+moved-below m c hi b h = lt-of-lt-of-le (mul-lt-mul-of-pos-right b (pow-pos c)) (mul-le-mul-left 0x100_0000 (pow-mono h))
 
 -- ---- both roots. n is one less than the root's degree. u, in units, is m * 2 ^ (s - 24), and t is the whole part of the root of m * 2 ^ (c + s % suc n): it has 25 digits, and half of it, rounded up, is the significand of the root of u.
 module _ (n c : ℕ) (g : 24 * suc n + 1 ≡ 24 + c) (u m s t : ℕ) (P : Split u m s) (lo : t ^ suc n ≤ m * 2 ^ (c + s % suc n)) (hi : m * 2 ^ (c + s % suc n) < (t + 1) ^ suc n) where
@@ -38,14 +39,14 @@ module _ (n c : ℕ) (g : 24 * suc n + 1 ≡ 24 + c) (u m s t : ℕ) (P : Split 
   left-over = le-of-suc-le-suc (mod-lt s (zero-lt-suc n))
 
   -- 2 ^ 24 and 2 ^ 25 to the power suc n are on either side
-  pub root-digits : (16777216 ≤ t) × (t < 33554432)
+  pub root-digits : (0x100_0000 ≤ t) × (t < 0x200_0000)
   root-digits =
       let j = s % suc n in
-      let a : 16777216 ^ suc n ≤ m * 2 ^ (c + j) =
+      let a : 0x100_0000 ^ suc n ≤ m * 2 ^ (c + j) =
       le-trans (le-of-eq (pow-pow 2 24 (suc n) ∙ ap (λ (x : ℕ). 2 ^ x) (low n c g) ∙ pow-add 2 23 c)) (mul-le-mul (P .least) (pow-mono (le-add-right c j))) in
-      let b : m * 2 ^ (c + j) < 33554432 ^ suc n =
+      let b : m * 2 ^ (c + j) < 0x200_0000 ^ suc n =
       lt-of-lt-of-le (shl-lt 24 (c + j) (P .under)) (le-trans (pow-mono (high n c j g left-over)) (le-of-eq (sym (pow-pow 2 25 (suc n))))) in
-      (le-of-suc-le-suc (le-trans (pow-lt-back (suc n) (lt-of-le-of-lt a hi)) (le-of-eq (add-one t))), pow-lt-back (suc n) (lt-of-le-of-lt lo b))
+      (le-of-suc-le-suc (le-trans (root-lt (suc n) (lt-of-le-of-lt a hi)) (le-of-eq (add-one t))), root-lt (suc n) (lt-of-le-of-lt lo b))
     where
       low : (n c : ℕ) → 24 * suc n + 1 ≡ 24 + c → 24 * suc n ≡ 23 + c
       low n c g = omega arith
@@ -53,21 +54,27 @@ module _ (n c : ℕ) (g : 24 * suc n + 1 ≡ 24 + c) (u m s t : ℕ) (P : Split 
       high : (n c j : ℕ) → 24 * suc n + 1 ≡ 24 + c → j ≤ n → 24 + (c + j) ≤ 25 * suc n
       high n c j g h = omega arith
 
-  pub half : (8388608 ≤ (t + 1) / 2) × ((t + 1) / 2 ≤ 16777216)
+  pub half : (0x80_0000 ≤ (t + 1) / 2) × ((t + 1) / 2 ≤ 0x100_0000)
   half = go t (root-digits .0) (root-digits .1)
     where
-      go : (t : ℕ) → 16777216 ≤ t → t < 33554432 → (8388608 ≤ (t + 1) / 2) × ((t + 1) / 2 ≤ 16777216)
+      go : (t : ℕ) → 0x100_0000 ≤ t → t < 0x200_0000 → (0x80_0000 ≤ (t + 1) / 2) × ((t + 1) / 2 ≤ 0x100_0000)
       go t h k = omega arith
 
   pub root-is : (b : Bool) → rootOfUnits (suc n) b u ≡ odd 25 b ((t + 1) / 2) (s / suc n + 126 - 150 / suc n) 149
   root-is b = rounded n c u m s (s / suc n) (s % suc n) t b (P .same) (sym (div-add-mod' s (suc n))) g lo hi (root-digits .0) (root-digits .1)
 
-  -- k is the exponent, as the program has it
-  pub root-made : (b : Bool) (k : ℕ) → s / suc n + 126 - 150 / suc n ≡ k → k ≤ 252 → rootOfUnits (suc n) b u ≡ ofBits binary32 (cond b 2147483648 0 + (k * 8388608 + (t + 1) / 2))
-  root-made b k e h = root-is b ∙ ap (λ (x : ℕ). odd 25 b ((t + 1) / 2) x 149) e ∙ sym (made b ((t + 1) / 2) k (half .0) (half .1) h)
+  room : (k : ℕ) → (t + 1) / 2 ≤ 0x100_0000 → k ≤ 252 → (t + 1) / 2 * 2 ^ k < 2 ^ 277
+  room k a b = lt-of-le-of-lt (mul-le-mul a (pow-mono b)) (lit< tt)
 
-  pub root-no-nan : (b : Bool) (k : ℕ) → k ≤ 252 → T (not (nanBits binary32 (cond b 2147483648 0 + (k * 8388608 + (t + 1) / 2))))
-  root-no-nan b k h = made-no-nan b ((t + 1) / 2) k (half .0) (half .1) h
+  -- k is the exponent, as the program has it
+  pub root-made : (b : Bool) (k : ℕ) → s / suc n + 126 - 150 / suc n ≡ k → k ≤ 252 → rootOfUnits (suc n) b u ≡ ofBits binary32 (cond b 0x8000_0000 0 + (k * 0x80_0000 + (t + 1) / 2))
+  root-made b k e h = root-is b ∙ ap (λ (x : ℕ). odd 25 b ((t + 1) / 2) x 149) e ∙ sym (made binary32 b ((t + 1) / 2) k (half .0) (half .1) (room k (half .1) h))
+
+  pub root-no-nan : (b : Bool) (k : ℕ) → k ≤ 252 → T (not (nanBits binary32 (cond b 0x8000_0000 0 + (k * 0x80_0000 + (t + 1) / 2))))
+  root-no-nan b k h = real-pattern binary32 (cond b 0x8000_0000 0 + (k * 0x80_0000 + (t + 1) / 2)) (le-trans (le-of-eq (unsigned binary32 b (k * 0x80_0000 + (t + 1) / 2) (small k (half .1) h .1))) (small k (half .1) h .0))
+    where
+      small : (k : ℕ) {q : ℕ} → q ≤ 0x100_0000 → k ≤ 252 → (k * 0x80_0000 + q ≤ 0x7f80_0000) × (k * 0x80_0000 + q < 0x8000_0000)
+      small k a b = omega arith
 
 -- ---- the square root
 module _ (u m s t : ℕ) (P : Split u m s) (lo : t * t ≤ m * 2 ^ (25 + s % 2)) (hi : m * 2 ^ (25 + s % 2) < (t + 1) * (t + 1)) where
@@ -77,20 +84,20 @@ module _ (u m s t : ℕ) (P : Split u m s) (lo : t * t ≤ m * 2 ^ (25 + s % 2))
   hi2 : m * 2 ^ (25 + s % 2) < (t + 1) ^ 2
   hi2 = lt-of-lt-of-le hi (le-of-eq (sym (square (t + 1))))
 
-  pub sqrt-digits : (16777216 ≤ t) × (t < 33554432)
+  pub sqrt-digits : (0x100_0000 ≤ t) × (t < 0x200_0000)
   sqrt-digits = root-digits 1 25 refl u m s t P lo2 hi2
 
   small2 : s / 2 + 51 ≤ 252
   small2 = omega (arith, P .far)
 
-  pub sqrt-made : rootOfUnits 2 false u ≡ ofBits binary32 ((s / 2 + 51) * 8388608 + (t + 1) / 2)
-  sqrt-made = root-made 1 25 refl u m s t P lo2 hi2 false (s / 2 + 51) (exponent (s / 2)) small2 ∙ ap (ofBits binary32) (zero-add ((s / 2 + 51) * 8388608 + (t + 1) / 2))
+  pub sqrt-made : rootOfUnits 2 false u ≡ ofBits binary32 ((s / 2 + 51) * 0x80_0000 + (t + 1) / 2)
+  sqrt-made = root-made 1 25 refl u m s t P lo2 hi2 false (s / 2 + 51) (exponent (s / 2)) small2 ∙ ap (ofBits binary32) (zero-add ((s / 2 + 51) * 0x80_0000 + (t + 1) / 2))
     where
       exponent : (d : ℕ) → d + 126 - 75 ≡ d + 51
       exponent d = omega arith
 
-  pub sqrt-no-nan : T (not (nanBits binary32 ((s / 2 + 51) * 8388608 + (t + 1) / 2)))
-  sqrt-no-nan = subst (λ (b : ℕ). T (not (nanBits binary32 b))) (zero-add ((s / 2 + 51) * 8388608 + (t + 1) / 2)) (root-no-nan 1 25 refl u m s t P lo2 hi2 false (s / 2 + 51) small2)
+  pub sqrt-no-nan : T (not (nanBits binary32 ((s / 2 + 51) * 0x80_0000 + (t + 1) / 2)))
+  sqrt-no-nan = subst (λ (b : ℕ). T (not (nanBits binary32 b))) (zero-add ((s / 2 + 51) * 0x80_0000 + (t + 1) / 2)) (root-no-nan 1 25 refl u m s t P lo2 hi2 false (s / 2 + 51) small2)
 
 -- ---- the cube root: the program has the root of a * 2 ^ 48, with a for m * 2 ^ (1 + s % 3)
 module _ (u m s t : ℕ) (P : Split u m s) (lo : t * t * t ≤ m * 2 ^ (1 + s % 3) * 2 ^ 48) (hi : m * 2 ^ (1 + s % 3) * 2 ^ 48 < (t + 1) * (t + 1) * (t + 1)) where
@@ -106,19 +113,19 @@ module _ (u m s t : ℕ) (P : Split u m s) (lo : t * t * t ≤ m * 2 ^ (1 + s % 
   hi3 : m * 2 ^ (49 + s % 3) < (t + 1) ^ 3
   hi3 = lt-of-le-of-lt (le-of-eq (sym whole)) (lt-of-lt-of-le hi (le-of-eq (sym (cube (t + 1)))))
 
-  pub cbrt-digits : (16777216 ≤ t) × (t < 33554432)
+  pub cbrt-digits : (0x100_0000 ≤ t) × (t < 0x200_0000)
   cbrt-digits = root-digits 2 49 refl u m s t P lo3 hi3
 
   small3 : s / 3 + 76 ≤ 252
   small3 = omega (arith, P .far)
 
-  pub cbrt-made : (b : Bool) → rootOfUnits 3 b u ≡ ofBits binary32 (cond b 2147483648 0 + ((s / 3 + 76) * 8388608 + (t + 1) / 2))
+  pub cbrt-made : (b : Bool) → rootOfUnits 3 b u ≡ ofBits binary32 (cond b 0x8000_0000 0 + ((s / 3 + 76) * 0x80_0000 + (t + 1) / 2))
   cbrt-made b = root-made 2 49 refl u m s t P lo3 hi3 b (s / 3 + 76) (exponent (s / 3)) small3
     where
       exponent : (d : ℕ) → d + 126 - 50 ≡ d + 76
       exponent d = omega arith
 
-  pub cbrt-no-nan : (b : Bool) → T (not (nanBits binary32 (cond b 2147483648 0 + ((s / 3 + 76) * 8388608 + (t + 1) / 2))))
+  pub cbrt-no-nan : (b : Bool) → T (not (nanBits binary32 (cond b 0x8000_0000 0 + ((s / 3 + 76) * 0x80_0000 + (t + 1) / 2))))
   cbrt-no-nan b = root-no-nan 2 49 refl u m s t P lo3 hi3 b (s / 3 + 76) small3
 
 -- ---- the special values
@@ -126,69 +133,55 @@ pub cbrt-nan : (x : Float) → ne x x ≡ true → x ≡ cbrtOf x
 unfolding cbrtOf
 cbrt-nan x e = subst (λ (y : Float). y ≡ cbrtOf y) (sym (a-nan x e)) refl
 
-pub cbrt-zero : (x : Float) → T (fits binary32 x) → toBits binary32 x % 2147483648 ≡ 0 → x ≡ cbrtOf x
+pub cbrt-zero : (x : Float) → T (fits binary32 x) → toBits binary32 x % 0x8000_0000 ≡ 0 → x ≡ cbrtOf x
 unfolding cbrtOf
-cbrt-zero x F e = subst (λ (y : Float). y ≡ cbrtOf y) (sym (is-zero x F e)) refl
+cbrt-zero x F e = subst (λ (y : Float). y ≡ cbrtOf y) (sym (by-zero binary32 x F e)) refl
 
-pub cbrt-inf : (x : Float) → T (fits binary32 x) → T (not (isNan x)) → 2139095040 ≤ toBits binary32 x % 2147483648 → x ≡ cbrtOf x
+pub cbrt-inf : (x : Float) → T (fits binary32 x) → T (not (isNan x)) → 0x7f80_0000 ≤ toBits binary32 x % 0x8000_0000 → x ≡ cbrtOf x
 unfolding cbrtOf
-cbrt-inf x F n h = subst (λ (y : Float). y ≡ cbrtOf y) (sym (is-inf x F n h)) refl
+cbrt-inf x F n h = subst (λ (y : Float). y ≡ cbrtOf y) (sym (by-inf binary32 x F n h)) refl
 
-pub cbrt-finite : (x : Float) → T (fits binary32 x) → 0 < toBits binary32 x % 2147483648 → toBits binary32 x % 2147483648 < 2139095040
-    → cbrtOf x ≡ rootOfUnits 3 (leb 2147483648 (toBits binary32 x)) (valueOf (toBits binary32 x % 2147483648))
+pub cbrt-finite : (x : Float) → T (fits binary32 x) → 0 < toBits binary32 x % 0x8000_0000 → toBits binary32 x % 0x8000_0000 < 0x7f80_0000
+    → cbrtOf x ≡ rootOfUnits 3 (leb 0x8000_0000 (toBits binary32 x)) (valueOf binary32 (toBits binary32 x % 0x8000_0000))
 unfolding cbrtOf
 cbrt-finite x F h k =
-    let z = finite x F h k in
-    ap cbrtOf (z .2) ∙ ap (rootOfUnits 3 (leb 2147483648 (toBits binary32 x))) (z .3)
+    let z = by-value binary32 x F h k in
+    ap cbrtOf (z .is) ∙ ap (rootOfUnits 3 (leb 0x8000_0000 (toBits binary32 x))) (z .size)
 
 pub sqrt-nan : (x : Float) → ne x x ≡ true → x ≡ sqrtOf x
 unfolding sqrtOf
 sqrt-nan x e = subst (λ (y : Float). y ≡ sqrtOf y) (sym (a-nan x e)) refl
 
-pub sqrt-zero : (x : Float) → T (fits binary32 x) → toBits binary32 x % 2147483648 ≡ 0 → x ≡ sqrtOf x
+pub sqrt-zero : (x : Float) → T (fits binary32 x) → toBits binary32 x % 0x8000_0000 ≡ 0 → x ≡ sqrtOf x
 unfolding sqrtOf
-sqrt-zero x F e = subst (λ (y : Float). y ≡ sqrtOf y) (sym (is-zero x F e)) refl
+sqrt-zero x F e = subst (λ (y : Float). y ≡ sqrtOf y) (sym (by-zero binary32 x F e)) refl
 
 -- the sign's bit is clear
-pub clear : (b : ℕ) → (b % 2147483648 ≡ 0 → ⊥) → b ≤ 2147483648 → (b % 2147483648 ≡ b) × (b < 2147483648) × (0 < b)
+pub clear : (b : ℕ) → (b % 0x8000_0000 ≡ 0 → ⊥) → b ≤ 0x8000_0000 → (b % 0x8000_0000 ≡ b) × (b < 0x8000_0000) × (0 < b)
 clear b h k = (omega arith, omega arith, omega arith)
 
-pub sqrt-inf : (x : Float) → T (fits binary32 x) → T (not (isNan x)) → toBits binary32 x < 2147483648 → 2139095040 ≤ toBits binary32 x % 2147483648 → x ≡ sqrtOf x
+pub sqrt-inf : (x : Float) → T (fits binary32 x) → T (not (isNan x)) → toBits binary32 x < 0x8000_0000 → 0x7f80_0000 ≤ toBits binary32 x % 0x8000_0000 → x ≡ sqrtOf x
 unfolding sqrtOf
-sqrt-inf x F n l h = subst (λ (y : Float). y ≡ sqrtOf y) (sym (is-inf x F n h ∙ ap inf (lt-leb 2147483648 (toBits binary32 x) l))) refl
+sqrt-inf x F n l h = subst (λ (y : Float). y ≡ sqrtOf y) (sym (by-inf binary32 x F n h ∙ ap inf (lt-leb 0x8000_0000 (toBits binary32 x) l))) refl
 
-pub sqrt-finite : (x : Float) → T (fits binary32 x) → toBits binary32 x < 2147483648 → 0 < toBits binary32 x % 2147483648 → toBits binary32 x % 2147483648 < 2139095040
-    → sqrtOf x ≡ rootOfUnits 2 false (valueOf (toBits binary32 x % 2147483648))
+pub sqrt-finite : (x : Float) → T (fits binary32 x) → toBits binary32 x < 0x8000_0000 → 0 < toBits binary32 x % 0x8000_0000 → toBits binary32 x % 0x8000_0000 < 0x7f80_0000
+    → sqrtOf x ≡ rootOfUnits 2 false (valueOf binary32 (toBits binary32 x % 0x8000_0000))
 unfolding sqrtOf
 sqrt-finite x F l h k =
-    let z = finite x F h k in
-    ap sqrtOf (z .2 ∙ ap (λ (s : Bool). fin s (suc (z .0)) (z .1)) (lt-leb 2147483648 (toBits binary32 x) l)) ∙ ap (rootOfUnits 2 false) (z .3)
+    let z = by-value binary32 x F h k in
+    ap sqrtOf (z .is ∙ ap (λ (s : Bool). fin s (suc (z .m)) (z .e)) (lt-leb 0x8000_0000 (toBits binary32 x) l)) ∙ ap (rootOfUnits 2 false) (z .size)
 
-pub sqrt-negative : (x : Float) → T (fits binary32 x) → T (not (isNan x)) → 2147483648 ≤ toBits binary32 x → 0 < toBits binary32 x % 2147483648 → sqrtOf x ≡ nan
+pub sqrt-negative : (x : Float) → T (fits binary32 x) → T (not (isNan x)) → 0x8000_0000 ≤ toBits binary32 x → 0 < toBits binary32 x % 0x8000_0000 → sqrtOf x ≡ nan
 unfolding sqrtOf
-sqrt-negative x F n l h = go (ltb (toBits binary32 x % 2147483648) 2139095040) (ltb→lt (toBits binary32 x % 2147483648) 2139095040) (nltb→le (toBits binary32 x % 2147483648) 2139095040)
+sqrt-negative x F n l h = go (ltb (toBits binary32 x % 0x8000_0000) 0x7f80_0000) (ltb→lt (toBits binary32 x % 0x8000_0000) 0x7f80_0000) (nltb→le (toBits binary32 x % 0x8000_0000) 0x7f80_0000)
   where
-    go : (b : Bool) → (T b → toBits binary32 x % 2147483648 < 2139095040) → (T (not b) → 2139095040 ≤ toBits binary32 x % 2147483648) → sqrtOf x ≡ nan
+    go : (b : Bool) → (T b → toBits binary32 x % 0x8000_0000 < 0x7f80_0000) → (T (not b) → 0x7f80_0000 ≤ toBits binary32 x % 0x8000_0000) → sqrtOf x ≡ nan
     go true y w =
-        let z = finite x F h (y tt) in
-        ap sqrtOf (z .2 ∙ ap (λ (s : Bool). fin s (suc (z .0)) (z .1)) (le-leb 2147483648 (toBits binary32 x) l))
-    go false y w = ap sqrtOf (is-inf x F n (w tt) ∙ ap inf (le-leb 2147483648 (toBits binary32 x) l))
+        let z = by-value binary32 x F h (y tt) in
+        ap sqrtOf (z .is ∙ ap (λ (s : Bool). fin s (suc (z .m)) (z .e)) (le-leb 0x8000_0000 (toBits binary32 x) l))
+    go false y w = ap sqrtOf (by-inf binary32 x F n (w tt) ∙ ap inf (le-leb 0x8000_0000 (toBits binary32 x) l))
 
 -- 0.0 / 0.0
 pub zero-by-zero : div binary32 (ofBits binary32 0) (ofBits binary32 0) ≡ nan
 unfolding div ofBits
 zero-by-zero = refl
-
--- ---- the sign's bit is what is left of the pattern without the magnitude
-pub sign-of : (b : ℕ) → b < 4294967296 → b - b % 2147483648 ≡ cond (leb 2147483648 b) 2147483648 0
-sign-of b h = go (leb 2147483648 b) (leb→le 2147483648 b) (nleb→lt 2147483648 b)
-  where
-    high : (b : ℕ) → b < 4294967296 → 2147483648 ≤ b → b - b % 2147483648 ≡ 2147483648
-    high b h k = omega arith
-
-    low : (b : ℕ) → b < 2147483648 → b - b % 2147483648 ≡ 0
-    low b h = omega arith
-
-    go : (t : Bool) → (T t → 2147483648 ≤ b) → (T (not t) → b < 2147483648) → b - b % 2147483648 ≡ cond t 2147483648 0
-    go true y z = high b h (y tt)
-    go false y z = low b (z tt)

@@ -62,11 +62,3 @@ positive (fin true m e) t u =
     let none : a + b ≤ 0 = ltb-false 0 (a + b) t in
     let z : true ≡ false = sym (both (eqb a b) (eqb a 0) (eq-eqb a b (omega (arith, nought e))) (eq-eqb a 0 (omega arith))) ∙ u in
     no (sym z)
-
-pub nan-test : (x : Float) → isNan x ≡ ne x x
-unfolding isNan ne eq
-nan-test nan = refl
-nan-test (inf true) = refl
-nan-test (inf false) = refl
-nan-test (fin true m e) = rw (eq-eqb (m * up e * down e) (m * up e * down e) refl)
-nan-test (fin false m e) = rw (eq-eqb (m * up e * down e) (m * up e * down e) refl)

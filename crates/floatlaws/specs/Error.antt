@@ -13,6 +13,7 @@ use lib.Ieee.Fits.{round-fits, two, two-le-pos}
 use lib.Ieee.Nearest.{closest}
 use lib.Ieee.Order.{drop}
 use lib.Ieee.Scale.{grid, overflow, finite, round-val, round-under, normal-of-fraction}
+use Rattle.floatlaws.specs.Whole.{half-pow, closest-near}
 use Rattle.floatlaws.specs.Value.{limit, mag, hi, lo, mag-of-value, overflow-le-big}
 use Rattle.floatlaws.specs.Near.{near, near-mono, near-exact, round-num, Rounds}
 
@@ -20,37 +21,6 @@ use Rattle.floatlaws.specs.Near.{near, near-mono, near-exact, round-num,
 -- x is y to within e
 abbrev pub Within : ℕ → ℕ → ℕ → Type 0
 Within x y e = (x ≤ y + e) × (y ≤ x + e)
-
-closest-err : (a b : ℕ) → 0 < b → Within (closest a b * b * 2) (a * 2) b
-closest-err a b B = go (compare (a % b * 2) b) (leb→le (a % b * 2) b) (nleb→lt (a % b * 2) b) (eqb→eq (a % b * 2) b)
-  where
-    q : ℕ
-    q = a / b
-
-    r : ℕ
-    r = a % b
-
-    is : q * b + r ≡ a
-    is = div-add-mod' a b
-
-    few : r < b
-    few = mod-lt a B
-
-    tie : (t : ℕ) → t ≤ 1 → r * 2 ≡ b → Within ((q + t) * b * 2) (a * 2) b
-    tie zero h e = omega (arith, is, few, add-mul q 0 b)
-    tie (suc zero) h e = omega (arith, is, few, add-mul q 1 b)
-    tie (suc (suc t)) h e = absurd (big-t t h)
-      where
-        big-t : (t : ℕ) → suc (suc t) ≤ 1 → ⊥
-        big-t t h = omega arith
-
-    bit : (n : ℕ) → n % 2 ≤ 1
-    bit n = omega arith
-
-    go : (o : Ordering) → (T (isLe o) → r * 2 ≤ b) → (T (not (isLe o)) → b < r * 2) → (T (isEq o) → r * 2 ≡ b) → Within (nearest q o * b * 2) (a * 2) b
-    go Ordering·lt h k e = omega (arith, is, few, h tt)
-    go Ordering·eq h k e = tie (q % 2) (bit q) (e tt)
-    go Ordering·gt h k e = omega (arith, is, few, k tt, suc-mul q b)
 
 -- ---- the rounded number, by the number that `round` keeps and the digits that it drops
 near-grid : (f : Format) (a c : ℕ) → near f a c < overflow f → near f a c ≡ grid f a (c * 2 ^ low f)
@@ -73,7 +43,7 @@ cancel x y z l L h =
 
 -- with k digits dropped, half of 2 ^ k units away at most
 near-err : (f : Format) (a c : ℕ) → 0 < c → near f a c < overflow f → Within (near f a c * c * 2) (a * 2) (c * 2 ^ drop (prec f) (a * 2 ^ low f) (c * 2 ^ low f))
-near-err f a c C h = cancel (near f a c * c * 2) (a * 2) (c * k) l (pow-pos (low f)) (rw (← g, mul-right-comm a 2 l, mul-right-comm c k l) (closest-err (a * l) (c * l * k) (mul-pos (mul-pos C (pow-pos (low f))) (pow-pos (drop (prec f) (a * l) (c * l))))))
+near-err f a c C h = cancel (near f a c * c * 2) (a * 2) (c * k) l (pow-pos (low f)) (rw (← g, mul-right-comm a 2 l, mul-right-comm c k l) (closest-near (a * l) (c * l * k) (mul-pos (mul-pos C (pow-pos (low f))) (pow-pos (drop (prec f) (a * l) (c * l))))))
   where
     l : ℕ
     l = 2 ^ low f
@@ -88,13 +58,6 @@ near-err f a c C h = cancel (near f a c * c * 2) (a * 2) (c * k) l (pow-pos (low
     g = rw (near-grid f a c h) (ac (closest (a * l) (c * l * k)) c l k)
 
 -- ---- the two bounds
-half-pow : (p : ℕ) → 0 < p → 2 ^ p ≡ 2 ^ (p - 1) * 2
-half-pow zero h = absurd (lt-irrefl 0 h)
-half-pow (suc p) h = pow-suc 2 p ∙ ap (λ (x : ℕ). 2 ^ x * 2) (sym (one-less p))
-  where
-    one-less : (p : ℕ) → suc p - 1 ≡ p
-    one-less p = omega arith
-
 widen : (x y z w n : ℕ) → Within (x * 2) (y * 2) z → z * n ≤ w → Within (x * (n * 2)) (y * (n * 2)) w
 widen x y z w n h k =
     rw (ac x, ac y)

@@ -6,11 +6,12 @@ use Prim.Native.Nat.{ℕ, suc, _+_, _-_, _*_, _^_, _≤_, _<_}
 use native.Mathlib.Nat.{le-refl, le-trans, le-of-eq, lt-of-lt-of-le, lt-of-le-of-lt, lt-of-not-le, not-le-of-lt, add-comm, add-le-add, sub-zero, zero-sub, sub-le, sub-add-cancel, mul-le-mul-left, zero-mul, mul-one, mul-assoc}
 use native.Mathlib.Omega.{arith}
 use lib.IntN.{pos}
-use lib.Dec.{lit<}
+use lib.Dec.{T, lit<, le→leb}
 use lib.Pow.{pow-add, pow-pos, pow-mono, shl-lt}
-use lib.Ieee.{Float, nan, inf, fin, Format, binary32, binary64, prec, emax, low, sub, mul, ofInt}
+use lib.Ieee.{Float, nan, inf, fin, Format, binary32, binary64, prec, emax, low, sub, mul, ofInt, inFloat}
 use lib.Ieee.Fits.{two, two-le-pos, reach}
 use lib.Ieee.Scale.{overflow, finite}
+use Rattle.floatlaws.specs.Whole.{exp-lt}
 use Rattle.floatlaws.specs.Value.{unit, unit-pos, limit, mag, hi, lo, Num, one-side, each-side, both-sides, shape, mag-shape}
 use Rattle.floatlaws.specs.Order.{Lt, Same}
 use Rattle.floatlaws.specs.Near.{near, near-exact, near-le, near-same, near-zero, Rounds, rounds-same, rounds-self}
@@ -73,9 +74,6 @@ scale {f} {x} {t} k p q r a b h = (mul-each (num p) q r b .0 ∙ moved (hi f x) 
     moved n = near-same f (n * hi f t) (unit f) (n * 2 ^ k) 1 (unit-pos f) (pow-pos 0) (mul-one (n * hi f t) ∙ ap (λ (z : ℕ). n * z) a ∙ sym (mul-assoc n (2 ^ k) (unit f)))
 
 -- ---- 2 ^ -k, where the result is in the normal range
-pow-lt-back : {i j : ℕ} → 2 ^ i < 2 ^ j → i < j
-pow-lt-back {i} {j} h = lt-of-not-le (λ (g : j ≤ i). not-le-of-lt h (pow-mono g))
-
 room : (p i k : ℕ) → 0 < p → p - 1 + k < p + i → k ≤ i
 room p i k P h = omega arith
 
@@ -85,7 +83,7 @@ near-halve f (inf s) k p h = absurd (p .finite)
 near-halve f (fin s m e) k p h =
     let g = shape f s m e (p .fit) in
     let w = mag-shape f s m e (p .fit) in
-    let l : k ≤ g .j = room (prec f) (g .j) k (two-le-pos (prec f) (two f)) (pow-lt-back (lt-of-le-of-lt (rw w at h) (shl-lt (prec f) (g .j) (g .small)))) in
+    let l : k ≤ g .j = room (prec f) (g .j) k (two-le-pos (prec f) (two f)) (exp-lt (lt-of-le-of-lt (rw w at h) (shl-lt (prec f) (g .j) (g .small)))) in
     let a : m * 2 ^ (g .j - k) * 2 ^ k ≡ m * 2 ^ g .j = mul-assoc m (2 ^ (g .j - k)) (2 ^ k) ∙ ap (λ (z : ℕ). m * z) (sym (pow-add 2 (g .j - k) k) ∙ ap (λ (z : ℕ). 2 ^ z) (sub-add-cancel l)) in
     let b : m * 2 ^ (g .j - k) < overflow f = lt-of-le-of-lt (mul-le-mul-left m (pow-mono (sub-le (g .j) k))) (g .under) in
     ap (λ (z : ℕ). z * 2 ^ k) (near-exact f (mag f (fin s m e)) (2 ^ k) m (g .j - k) (pow-pos k) (g .small) b (w ∙ sym a)) ∙ a ∙ sym w
@@ -112,3 +110,8 @@ int-exact f n h = (
   where
     fine : n * 2 ^ low f < overflow f
     fine = lt-of-lt-of-le (shl-lt (prec f) (low f) h) (pow-mono (le-trans (add-le-add (reach f) (le-refl (low f))) (le-of-eq (add-comm (suc (emax f)) (low f)))))
+
+-- its cast is defined
+pub in-float : (f : Format) (n : ℕ) → n ≤ 2 ^ prec f → T (inFloat f (pos n))
+unfolding inFloat
+in-float f n h = le→leb n (2 ^ prec f) h

@@ -9,5 +9,7 @@ pub mod Interval
 pub mod Error
 pub mod Exact
 pub mod Tests
-pub mod Clamp
 pub mod Sum
+pub mod Whole
+pub mod Nan
+pub mod Bits

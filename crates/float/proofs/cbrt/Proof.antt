@@ -7,9 +7,10 @@ use borrow.Author.Needs.{needs}
 use lib.Dec.{T, leb}
 use lib.Ieee.{binary32, fits, nanBits, toBits, ofBits}
 use lib.Ieee.Bits.{toBits-lt}
-use Rattle.float.specs.Parts.{valueOf, Split}
-use Rattle.float.proofs.NoNan.{no-nan}
-use Rattle.float.proofs.Rounding.{moved-lt, moved-below, cbrt-nan, cbrt-zero, cbrt-inf, cbrt-finite, cbrt-digits, cbrt-made, cbrt-no-nan, sign-of}
+use Rattle.floatlaws.specs.Nan.{no-nan}
+use Rattle.floatlaws.specs.Bits.{valueOf, sign-bit}
+use Rattle.float.specs.Parts.{Split}
+use Rattle.float.proofs.Rounding.{moved-lt, moved-below, cbrt-nan, cbrt-zero, cbrt-inf, cbrt-finite, cbrt-digits, cbrt-made, cbrt-no-nan}
 use Rattle.float.proofs.cbrt.Statement.{statement}
 use Rattle.float.proofs.cbrt.Tie as tie
 
@@ -45,7 +46,7 @@ shl-a : tie.Need-shl-a
 shl-a c = search needs
 
 -- what `split` gave
-parts : (c : tie.After-split) → Split (valueOf (toBits binary32 (c .before .before .before .before .args .x) % 2147483648)) (c .split .result .m) (c .split .result .s)
+parts : (c : tie.After-split) → Split (valueOf binary32 (toBits binary32 (c .before .before .before .before .args .x) % 0x8000_0000)) (c .split .result .m) (c .split .result .s)
 parts c = c .split .ensures
 
 small-shift : (s : ℕ) → 1 + s % 3 ≤ 40
@@ -67,7 +68,7 @@ module _ (c : tie.After-icbrt-long) where
   below : c .before .before .before .split .result .m * 2 ^ (1 + c .before .before .before .split .result .s % 3) * 2 ^ 48 < (c .icbrt-long .result + 1) * (c .icbrt-long .result + 1) * (c .icbrt-long .result + 1)
   below = subst (λ (a : ℕ). a * 2 ^ 48 < (c .icbrt-long .result + 1) * (c .icbrt-long .result + 1) * (c .icbrt-long .result + 1)) (moved (c .before .before .before)) (c .icbrt-long .ensures .1)
 
-  digits : (16777216 ≤ c .icbrt-long .result) × (c .icbrt-long .result < 33554432)
+  digits : (0x100_0000 ≤ c .icbrt-long .result) × (c .icbrt-long .result < 0x200_0000)
   digits = cbrt-digits _ _ _ (c .icbrt-long .result) (parts (c .before .before .before)) at-least below
 
 add-q : tie.Need-add-q
@@ -95,24 +96,27 @@ add-result-3 : tie.Need-add-result-3
 add-result-3 c = omega (arith, digits (c .before), far (c .before), toBits-lt binary32 (c .before .before .before .before .before .before .before .before .args .x) (held (c .before .before .before .before .before .before .before .before)))
 
 -- the sign's bit
-sign : (c : tie.Start) → toBits binary32 (c .args .x) - toBits binary32 (c .args .x) % 2147483648 ≡ cond (leb 2147483648 (toBits binary32 (c .args .x))) 2147483648 0
-sign c = sign-of (toBits binary32 (c .args .x)) (toBits-lt binary32 (c .args .x) (held c))
+sign : (c : tie.Start) → toBits binary32 (c .args .x) - toBits binary32 (c .args .x) % 0x8000_0000 ≡ cond (leb 0x8000_0000 (toBits binary32 (c .args .x))) 0x8000_0000 0
+sign c = let b = toBits binary32 (c .args .x) in whole b ∙ sign-bit binary32 b 0x8000_0000 (toBits-lt binary32 (c .args .x) (held c))
+  where
+    whole : (b : ℕ) → b - b % 0x8000_0000 ≡ b / 0x8000_0000 * 0x8000_0000
+    whole b = omega arith
 
 float-from-bits-result : tie.Need-float-from-bits-result
 float-from-bits-result c =
     let at = c .before .before .before .before .before .before .before .before in
-    let r = (c .before .before .before .before .split .result .s / 3 + 76) * 8388608 + (c .before .icbrt-long .result + 1) / 2 in
+    let r = (c .before .before .before .before .split .result .s / 3 + 76) * 0x80_0000 + (c .before .icbrt-long .result + 1) / 2 in
     subst (λ (b : ℕ). T (not (nanBits binary32 (b + r)))) (sym (sign at))
-    (cbrt-no-nan _ _ _ (c .before .icbrt-long .result) (parts (c .before .before .before .before)) (at-least (c .before)) (below (c .before)) (leb 2147483648 (toBits binary32 (at .args .x))))
+    (cbrt-no-nan _ _ _ (c .before .icbrt-long .result) (parts (c .before .before .before .before)) (at-least (c .before)) (below (c .before)) (leb 0x8000_0000 (toBits binary32 (at .args .x))))
 
 returns-4 : tie.Need-returns-4
 returns-4 c =
     let at = c .before .before .before .before .before .before .before .before in
     let x = at .args .x in
-    let r = (c .before .before .before .before .split .result .s / 3 + 76) * 8388608 + (c .before .icbrt-long .result + 1) / 2 in
+    let r = (c .before .before .before .before .split .result .s / 3 + 76) * 0x80_0000 + (c .before .icbrt-long .result + 1) / 2 in
     ap (λ (b : ℕ). ofBits binary32 (b + r)) (sign at)
     ∙ sym (cbrt-finite x (held at) (omega (arith, c .before .before .before .before .before .before .if2 .left)) (omega arith)
-    ∙ cbrt-made _ _ _ (c .before .icbrt-long .result) (parts (c .before .before .before .before)) (at-least (c .before)) (below (c .before)) (leb 2147483648 (toBits binary32 x)))
+    ∙ cbrt-made _ _ _ (c .before .icbrt-long .result) (parts (c .before .before .before .before)) (at-least (c .before)) (below (c .before)) (leb 0x8000_0000 (toBits binary32 x)))
 
 pub cbrt-spec : {M : Type 1} → statement M
 cbrt-spec =

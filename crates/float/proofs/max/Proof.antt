@@ -1,6 +1,6 @@
 -- `float::max` meets its contract: `a != a` says that a is no number. Assumes nothing.
 use Rattle.float.specs.Select.{max}
-use Rattle.float.proofs.Select.{nan-test}
+use Rattle.floatlaws.specs.Nan.{nan-test}
 use Rattle.float.proofs.max.Statement.{statement}
 use Rattle.float.proofs.max.Tie as tie
 

@@ -1,6 +1,6 @@
 -- `float::min` meets its contract: `a != a` says that a is no number. Assumes nothing.
 use Rattle.float.specs.Select.{min}
-use Rattle.float.proofs.Select.{nan-test}
+use Rattle.floatlaws.specs.Nan.{nan-test}
 use Rattle.float.proofs.min.Statement.{statement}
 use Rattle.float.proofs.min.Tie as tie
 

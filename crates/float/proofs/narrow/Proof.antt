@@ -1,11 +1,12 @@
 -- `float::narrow` meets its contract: a NaN gives a NaN, and any other value's pattern is narrowed by `magnitude`. Assumes nothing.
-use mathlib.Core.Path.{sym, ap, subst}
-use mathlib.Core.Bool.{Bool, not}
+use mathlib.Core.Path.{sym, subst}
 use native.Mathlib.Omega.{arith}
 use lib.Dec.{T}
-use lib.Ieee.{binary64, fits, isNan}
+use lib.Ieee.{binary64, fits}
 use lib.Ieee.Bits.{toBits-lt}
-use Rattle.float.proofs.Single.{nan-is, not-nan, number-or-inf, single-is, single-no-nan}
+use Rattle.floatlaws.specs.Nan.{no-nan}
+use Rattle.floatlaws.specs.Bits.{real-below}
+use Rattle.float.proofs.Single.{nan-is, single-is, single-no-nan}
 use Rattle.float.proofs.narrow.Statement.{statement}
 use Rattle.float.proofs.narrow.Tie as tie
 
@@ -17,13 +18,13 @@ returns : tie.Need-returns
 returns c = nan-is (c .before .args .x) (c .if1 .taken)
 
 float-to-bits-bits : tie.Need-float-to-bits-bits
-float-to-bits-bits c = subst (λ (t : Bool). T (not t)) (sym (not-nan (c .before .args .x) (c .if1 .left))) tt
+float-to-bits-bits c = no-nan (c .before .args .x) (c .if1 .left)
 
 mul-sign : tie.Need-mul-sign
 mul-sign c = omega (arith, toBits-lt binary64 (c .before .args .x) (held (c .before)))
 
 magnitude-requires : tie.Need-magnitude-requires
-magnitude-requires c κs = number-or-inf (c .before .args .x) (held (c .before)) (not-nan (c .before .args .x) (c .if1 .left))
+magnitude-requires c κs = real-below binary64 (c .before .args .x) (held (c .before)) (no-nan (c .before .args .x) (c .if1 .left))
 
 add-result : tie.Need-add-result
 add-result c = omega (arith, toBits-lt binary64 (c .before .before .args .x) (held (c .before .before)), c .magnitude .ensures .small)

@@ -6,7 +6,7 @@ use native.Mathlib.Omega.{arith}
 use lib.Dec.{lit<}
 use lib.Pow.{pow-pos, pow-mono, shl-exact}
 use borrow.Author.Needs.{needs}
-use Rattle.float.proofs.Round.{closest-is}
+use Rattle.floatlaws.specs.Whole.{closest-is}
 use Rattle.float.proofs.round_shift.Statement.{statement}
 use Rattle.float.proofs.round_shift.Tie as tie
 

@@ -6,8 +6,9 @@ use native.Mathlib.Omega.{arith}
 use borrow.Author.Needs.{needs}
 use lib.Dec.{T}
 use lib.Ieee.{binary32, fits, toBits}
-use Rattle.float.specs.Parts.{valueOf, Split}
-use Rattle.float.proofs.NoNan.{no-nan}
+use Rattle.floatlaws.specs.Nan.{no-nan}
+use Rattle.floatlaws.specs.Bits.{valueOf}
+use Rattle.float.specs.Parts.{Split}
 use Rattle.float.proofs.Rounding.{moved-lt, moved-below, sqrt-nan, sqrt-zero, sqrt-inf, sqrt-negative, sqrt-finite, sqrt-digits, sqrt-made, sqrt-no-nan, clear, zero-by-zero}
 use Rattle.float.proofs.sqrt.Statement.{statement}
 use Rattle.float.proofs.sqrt.Tie as tie
@@ -31,7 +32,7 @@ returns-3 c =
     zero-by-zero ∙ sym (sqrt-negative x (held (c .before .before .before)) (float-to-bits-bits (c .before .before)) (omega arith) (omega (arith, c .before .if2 .left)))
 
 -- the pattern is that of a value above zero
-pattern : (c : tie.Else3) → (toBits binary32 (c .before .before .before .args .x) % 2147483648 ≡ toBits binary32 (c .before .before .before .args .x)) × (toBits binary32 (c .before .before .before .args .x) < 2147483648) × (0 < toBits binary32 (c .before .before .before .args .x))
+pattern : (c : tie.Else3) → (toBits binary32 (c .before .before .before .args .x) % 0x8000_0000 ≡ toBits binary32 (c .before .before .before .args .x)) × (toBits binary32 (c .before .before .before .args .x) < 0x8000_0000) × (0 < toBits binary32 (c .before .before .before .args .x))
 pattern c = clear (toBits binary32 (c .before .before .before .args .x)) (c .before .if2 .left) (c .if3 .left)
 
 returns-4 : tie.Need-returns-4
@@ -55,7 +56,7 @@ shl-w : tie.Need-shl-w
 shl-w c = search needs
 
 -- what `split` gave
-parts : (c : tie.After-split) → Split (valueOf (toBits binary32 (c .before .before .before .before .before .args .x))) (c .split .result .m) (c .split .result .s)
+parts : (c : tie.After-split) → Split (valueOf binary32 (toBits binary32 (c .before .before .before .before .before .args .x))) (c .split .result .m) (c .split .result .s)
 parts c = c .split .ensures
 
 small-shift : (s : ℕ) → 25 + s % 2 ≤ 40
@@ -76,7 +77,7 @@ module _ (c : tie.After-isqrt) where
   below : c .before .before .before .split .result .m * 2 ^ (25 + c .before .before .before .split .result .s % 2) < (c .isqrt .result + 1) * (c .isqrt .result + 1)
   below = subst (λ (a : ℕ). a < (c .isqrt .result + 1) * (c .isqrt .result + 1)) (moved (c .before .before .before)) (c .isqrt .ensures .1)
 
-  digits : (16777216 ≤ c .isqrt .result) × (c .isqrt .result < 33554432)
+  digits : (0x100_0000 ≤ c .isqrt .result) × (c .isqrt .result < 0x200_0000)
   digits = sqrt-digits _ _ _ (c .isqrt .result) (parts (c .before .before .before)) at-least below
 
 add-q : tie.Need-add-q
@@ -103,7 +104,7 @@ returns-5 c =
     let x = at .args .x in
     let p = pattern (c .before .before .before .before .before .before) in
     sym (sqrt-finite x (held at) (p .1) (omega arith) (omega arith)
-    ∙ ap (λ (b : ℕ). Rattle.float.specs.Root.rootOfUnits 2 Bool.false (valueOf b)) (p .0)
+    ∙ ap (λ (b : ℕ). Rattle.float.specs.Root.rootOfUnits 2 Bool.false (valueOf binary32 b)) (p .0)
     ∙ sqrt-made _ _ _ (c .before .isqrt .result) (parts (c .before .before .before .before)) (at-least (c .before)) (below (c .before)))
 
 pub sqrt-spec : {M : Type 1} → statement M

@@ -1,10 +1,10 @@
--- `float::icbrt_long` meets its contract, by its tests or by `icbrt_slow`'s contract. Assumes nothing.
+-- `float::whole::icbrt_long` meets its contract, by its tests or by `icbrt_slow`'s contract. Assumes nothing.
 use mathlib.Core.Path.{sym, subst}
 use Prim.Native.Nat.{ℕ, _*_, _^_, _<_}
 use borrow.Author.Needs.{needs}
 use Rattle.float.proofs.Cubes.{less-one}
-use Rattle.float.proofs.icbrt_long.Statement.{statement}
-use Rattle.float.proofs.icbrt_long.Tie as tie
+use Rattle.float.proofs.whole.icbrt_long.Statement.{statement}
+use Rattle.float.proofs.whole.icbrt_long.Tie as tie
 
 guess-cbrt-requires : tie.Need-guess-cbrt-requires
 guess-cbrt-requires c κs = search needs

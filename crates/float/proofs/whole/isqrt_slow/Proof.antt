@@ -1,12 +1,12 @@
--- `float::isqrt_slow` meets its contract. The interval from lo to hi always holds the root, and the measure is its length.
+-- `float::whole::isqrt_slow` meets its contract. The interval from lo to hi always holds the root, and the measure is its length.
 -- Assumes nothing.
 use Prim.Native.Nat.{ℕ, _-_, _*_, _≤_, _<_}
 use mathlib.Core.Path.{_≡_, subst}
 use Prim.Native.Nat.{_+_}
 use native.Mathlib.Omega.{arith}
 use Rattle.float.proofs.Cubes.{square-fits}
-use Rattle.float.proofs.isqrt_slow.Statement.{statement}
-use Rattle.float.proofs.isqrt_slow.Tie as tie
+use Rattle.float.proofs.whole.isqrt_slow.Statement.{statement}
+use Rattle.float.proofs.whole.isqrt_slow.Tie as tie
 
 abbrev Inv-loop : tie.InvT-loop
 Inv-loop w lo₀ hi₀ lo hi = (lo < hi) × (hi ≤ 33554432) × (lo * lo ≤ w) × (w < hi * hi)

@@ -1,10 +1,10 @@
--- `float::cube_le` meets its contract: the cube is `high` times 2 ^ 24 and `low`. Assumes nothing.
+-- `float::whole::cube_le` meets its contract: the cube is `high` times 2 ^ 24 and `low`. Assumes nothing.
 use native.Mathlib.Omega.{arith}
 use borrow.Author.Tests.{leb-true, leb-false}
 use borrow.Author.Needs.{needs}
 use Rattle.float.proofs.Cubes.{square-fits, cube-yes, cube-no, high-part, low-part}
-use Rattle.float.proofs.cube_le.Statement.{statement}
-use Rattle.float.proofs.cube_le.Tie as tie
+use Rattle.float.proofs.whole.cube_le.Statement.{statement}
+use Rattle.float.proofs.whole.cube_le.Tie as tie
 
 mul-s : tie.Need-mul-s
 mul-s c = record { fits = square-fits _ (c .pre .0) }

@@ -1,13 +1,15 @@
--- `float::guess_cbrt` meets its contract: its conversions are defined, and the result is a remainder. Assumes nothing.
+-- `float::whole::guess_cbrt` meets its contract: its conversions are defined, and the result is a remainder. Assumes nothing.
 use native.Mathlib.Omega.{arith}
 use borrow.Author.Needs.{needs}
-use Rattle.float.proofs.Guess.{is-float, no-nan-pattern}
-use Rattle.float.proofs.NoNan.{no-nan}
-use Rattle.float.proofs.guess_cbrt.Statement.{statement}
-use Rattle.float.proofs.guess_cbrt.Tie as tie
+use lib.Ieee.{binary64}
+use Rattle.floatlaws.specs.Nan.{no-nan}
+use Rattle.floatlaws.specs.Bits.{real-pattern}
+use Rattle.floatlaws.specs.Exact.{in-float}
+use Rattle.float.proofs.whole.guess_cbrt.Statement.{statement}
+use Rattle.float.proofs.whole.guess_cbrt.Tie as tie
 
 int-to-float-x : tie.Need-int-to-float-x
-int-to-float-x c = is-float _ (omega arith)
+int-to-float-x c = in-float binary64 _ (omega arith)
 
 returns : tie.Need-returns
 returns c = search needs
@@ -19,7 +21,7 @@ returns-2 : tie.Need-returns-2
 returns-2 c = search needs
 
 float-from-bits-y : tie.Need-float-from-bits-y
-float-from-bits-y c = no-nan-pattern _ (omega arith)
+float-from-bits-y c = real-pattern binary64 _ (omega arith)
 
 returns-3 : tie.Need-returns-3
 returns-3 c = search needs

@@ -1,11 +1,11 @@
--- `float::icbrt` meets its contract. The interval from lo to hi always holds the root, and the measure is its length.
+-- `float::whole::icbrt` meets its contract. The interval from lo to hi always holds the root, and the measure is its length.
 -- Assumes nothing.
 use Prim.Native.Nat.{ℕ, _+_, _-_, _*_, _≤_, _<_}
 use mathlib.Core.Path.{_≡_, subst}
 use native.Mathlib.Omega.{arith}
 use Rattle.float.proofs.Cubes.{square-fits, cube-fits}
-use Rattle.float.proofs.icbrt.Statement.{statement}
-use Rattle.float.proofs.icbrt.Tie as tie
+use Rattle.float.proofs.whole.icbrt.Statement.{statement}
+use Rattle.float.proofs.whole.icbrt.Tie as tie
 
 abbrev Inv-loop : tie.InvT-loop
 Inv-loop a lo₀ hi₀ lo hi = (lo < hi) × (hi ≤ 512) × (lo * lo * lo ≤ a) × (a < hi * hi * hi)

@@ -1,11 +1,11 @@
--- `float::isqrt` meets its contract, by its tests or by `isqrt_slow`'s contract. Assumes nothing.
+-- `float::whole::isqrt` meets its contract, by its tests or by `isqrt_slow`'s contract. Assumes nothing.
 use mathlib.Core.Path.{sym, subst}
 use Prim.Native.Nat.{ℕ, _*_, _<_}
 use native.Mathlib.Omega.{arith}
 use borrow.Author.Needs.{needs}
 use Rattle.float.proofs.Cubes.{square-fits, less-one}
-use Rattle.float.proofs.isqrt.Statement.{statement}
-use Rattle.float.proofs.isqrt.Tie as tie
+use Rattle.float.proofs.whole.isqrt.Statement.{statement}
+use Rattle.float.proofs.whole.isqrt.Tie as tie
 
 guess-sqrt-requires : tie.Need-guess-sqrt-requires
 guess-sqrt-requires c κs = search needs

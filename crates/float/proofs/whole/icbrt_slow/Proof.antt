@@ -1,4 +1,4 @@
--- `float::icbrt_slow` meets its contract. The invariant is `Digits` of `proofs/Cubes.antt`: q is the whole part of the cube root of a * 8 ^ i, and r is what is left.
+-- `float::whole::icbrt_slow` meets its contract. The invariant is `Digits` of `proofs/Cubes.antt`: q is the whole part of the cube root of a * 8 ^ i, and r is what is left.
 -- Assumes nothing.
 use mathlib.Core.Path.{_≡_, sym, subst₂}
 use mathlib.Core.Logic.{⊎-elim}
@@ -6,8 +6,8 @@ use Prim.Native.Nat.{ℕ, _-_, _<_}
 use native.Mathlib.Omega.{arith}
 use borrow.Author.Needs.{needs}
 use Rattle.float.proofs.Cubes.{square-fits, cube-fits, pair-fits, pairs-fit, step-fits, rest-fits, Digits, short, begin, one, none, done}
-use Rattle.float.proofs.icbrt_slow.Statement.{statement}
-use Rattle.float.proofs.icbrt_slow.Tie as tie
+use Rattle.float.proofs.whole.icbrt_slow.Statement.{statement}
+use Rattle.float.proofs.whole.icbrt_slow.Tie as tie
 
 abbrev Inv-loop : tie.InvT-loop
 Inv-loop a q₀ r₀ i₀ q r i = Digits a q r i

@@ -1,0 +1,172 @@
+// Whole parts of roots of whole numbers: a guess by floats, of which nothing is trusted, an exact test of it,
+// and the slow way behind it where the test fails.
+ghost use mathlib.Core.Path.{_≡_};
+ghost use mathlib.Core.Bool.{true, false};
+ghost use Prim.Native.Nat.{_+_, _*_, _^_, _≤_, _<_};
+
+// The whole part of the square root of w, by halving an interval.
+fn isqrt_slow(w: u64) -> u64
+    requires { ⌜ w < 2 ^ 50 ⌝ }
+    ensures { λ r. ⌜ (r * r ≤ w) × (w < (r + 1) * (r + 1)) ⌝ }
+{
+    let mut lo = 0u64;
+    let mut hi = 33554432u64;
+    while lo + 1 < hi {
+        let mid = (lo + hi) / 2;
+        if mid * mid <= w {
+            lo = mid;
+        } else {
+            hi = mid;
+        }
+    }
+    lo
+}
+
+// The whole part of the cube root of a, by halving an interval.
+fn icbrt(a: u64) -> u64
+    requires { ⌜ a < 2 ^ 27 ⌝ }
+    ensures { λ r. ⌜ (r * r * r ≤ a) × ((a < (r + 1) * (r + 1) * (r + 1)) × (r < 512)) ⌝ }
+{
+    let mut lo = 0u64;
+    let mut hi = 512u64;
+    while lo + 1 < hi {
+        let mid = (lo + hi) / 2;
+        if mid * mid * mid <= a {
+            lo = mid;
+        } else {
+            hi = mid;
+        }
+    }
+    lo
+}
+
+// The whole part of the cube root of a * 2 ^ 48: that of a, and then 16 binary digits more, one at a
+// time. r is what is left of a * 8 ^ i after q * q * q.
+fn icbrt_slow(a: u64) -> u64
+    requires { ⌜ a < 2 ^ 27 ⌝ }
+    ensures { λ r. ⌜ (r * r * r ≤ a * 2 ^ 48) × (a * 2 ^ 48 < (r + 1) * (r + 1) * (r + 1)) ⌝ }
+{
+    let mut q = icbrt(a);
+    let mut r = a - q * q * q;
+    let mut i = 0u64;
+    while i < 16 {
+        let p = q + q;
+        let step = 3 * (p * (p + 1)) + 1;
+        r = r * 8;
+        if step <= r {
+            r = r - step;
+            q = p + 1;
+        } else {
+            q = p;
+        }
+        i += 1;
+    }
+    q
+}
+
+// A guess at the square root of w, by Newton's method for 1 / √w. Nothing is proved of it but its
+// range: who calls it tests it.
+fn guess_sqrt(w: u64) -> u64
+    requires { ⌜ w < 2 ^ 50 ⌝ }
+    ensures { λ r. ⌜ r < 67108864 ⌝ }
+{
+    let x = w as f64;
+    if x != x {
+        return 0;
+    }
+    let h = f64::to_bits(x) / 2;
+    if 0x5fe6_eb50_c7b5_37a9 < h {
+        return 0;
+    }
+    let y = f64::from_bits(0x5fe6_eb50_c7b5_37a9 - h);
+    let z = x * 0.5;
+    let y1 = y * (1.5 - z * y * y);
+    let y2 = y1 * (1.5 - z * y1 * y1);
+    let y3 = y2 * (1.5 - z * y2 * y2);
+    // from 2 ^ 52 on the last digit of an f64 counts ones, so the pattern ends in the nearest whole
+    // number: with 0.49 less, mostly the whole part
+    let g = x * y3 - 0.49 + 4503599627370496.0;
+    if g != g {
+        return 0;
+    }
+    f64::to_bits(g) % 67108864
+}
+
+// The same for the cube root of a * 2 ^ 48.
+fn guess_cbrt(a: u64) -> u64
+    requires { ⌜ a < 2 ^ 27 ⌝ }
+    ensures { λ r. ⌜ r < 67108864 ⌝ }
+{
+    let x = a as f64;
+    if x != x {
+        return 0;
+    }
+    let h = f64::to_bits(x) / 3;
+    if 0x553e_f0ff_289d_d796 < h {
+        return 0;
+    }
+    let y = f64::from_bits(0x553e_f0ff_289d_d796 - h);
+    let third = 0.3333333333333333;
+    let y1 = y * (4.0 - (x * y) * (y * y)) * third;
+    let y2 = y1 * (4.0 - (x * y1) * (y1 * y1)) * third;
+    let y3 = y2 * (4.0 - (x * y2) * (y2 * y2)) * third;
+    let g = (x * y3) * (y3 * 65536.0) - 0.49 + 4503599627370496.0;
+    if g != g {
+        return 0;
+    }
+    f64::to_bits(g) % 67108864
+}
+
+// Whether t * t * t is at most a * 2 ^ 48, which takes 75 bits. Both are compared in units of 2 ^ 24,
+// the cube rounded up.
+fn cube_le(t: u64, a: u64) -> bool
+    requires { ⌜ (t ≤ 67108864) × (a < 2 ^ 27) ⌝ }
+    ensures { λ r. ⌜ (r ≡ true → t * t * t ≤ a * 2 ^ 48) × (r ≡ false → a * 2 ^ 48 < t * t * t) ⌝ }
+{
+    let s = t * t;
+    let high = s / 16777216 * t;
+    let low = s % 16777216 * t;
+    high + (low + 16777215) / 16777216 <= a * 16777216
+}
+
+// The whole part of the square root of w: the guess, or one less, if a test shows it to be that.
+pub fn isqrt(w: u64) -> u64
+    requires { ⌜ w < 2 ^ 50 ⌝ }
+    ensures { λ r. ⌜ (r * r ≤ w) × (w < (r + 1) * (r + 1)) ⌝ }
+{
+    let g = guess_sqrt(w);
+    if g * g <= w {
+        if w < (g + 1) * (g + 1) {
+            return g;
+        }
+        return isqrt_slow(w);
+    }
+    if 0 < g {
+        let t = g - 1;
+        if t * t <= w {
+            return t;
+        }
+    }
+    isqrt_slow(w)
+}
+
+// The whole part of the cube root of a * 2 ^ 48, in the same way.
+pub fn icbrt_long(a: u64) -> u64
+    requires { ⌜ a < 2 ^ 27 ⌝ }
+    ensures { λ r. ⌜ (r * r * r ≤ a * 2 ^ 48) × (a * 2 ^ 48 < (r + 1) * (r + 1) * (r + 1)) ⌝ }
+{
+    let g = guess_cbrt(a);
+    if cube_le(g, a) {
+        if cube_le(g + 1, a) {
+            return icbrt_slow(a);
+        }
+        return g;
+    }
+    if 0 < g {
+        let t = g - 1;
+        if cube_le(t, a) {
+            return t;
+        }
+    }
+    icbrt_slow(a)
+}
