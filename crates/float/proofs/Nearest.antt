@@ -18,51 +18,13 @@ use Rattle.floatlaws.specs.Value.{mag, negative, shape, mag-shape}
 use Rattle.floatlaws.specs.Ops.{mag-pos}
 use Rattle.floatlaws.specs.Finite.{Fin}
 use Rattle.floatlaws.specs.Bits.{mag-val, made-fits, same-float}
+use Rattle.floatlaws.specs.Nearest.{Held, held, spaced-up, spaced-down}
 use Rattle.float.specs.Root.{iroot, rootOfUnits, sqrtOf, cbrtOf}
 use Rattle.float.specs.Parts.{Split}
 use Rattle.float.specs.Nearest.{Nearer, NearestRoot, IsSqrt, IsCbrt}
 use Rattle.float.proofs.Iroot.{iroot-spec, radicand}
 use Rattle.float.proofs.Lead.{halved}
 use Rattle.float.proofs.Rounding.{root-digits, half, root-is}
-
--- ---- what the format holds: c * 2 ^ i units, with c of at most 24 digits
-abbrev Held : ℕ → Type 0
-Held b = (c : ℕ) × (i : ℕ) × (c < 0x100_0000) × (b ≡ c * 2 ^ i)
-
-held : {y : Float} → Fin binary32 y → Held (mag binary32 y)
-held {y = nan} p = absurd (p .finite)
-held {y = inf s} p = absurd (p .finite)
-held {y = fin s m e} p = let g = shape binary32 s m e (p .fit) in (m, g .j, g .small, mag-shape binary32 s m e (p .fit))
-
--- c * 2 ^ i is a multiple of 2 ^ k, or is below 2 ^ (23 + k)
-module _ (c i k : ℕ) where
-  coarse : k ≤ i → c * 2 ^ i ≡ c * 2 ^ (i - k) * 2 ^ k
-  coarse h = ap (λ (x : ℕ). c * 2 ^ x) (sym (add-comm (i - k) k ∙ add-sub-of-le h)) ∙ ap (λ (x : ℕ). c * x) (pow-add 2 (i - k) k) ∙ sym (mul-assoc c (2 ^ (i - k)) (2 ^ k))
-
-  fine : c < 0x100_0000 → i < k → c * 2 ^ i < 0x80_0000 * 2 ^ k
-  fine h l = lt-of-lt-of-le (shl-lt 24 i h) (le-trans (pow-mono (one-less i k l)) (le-of-eq (pow-add 2 23 k)))
-    where
-      one-less : (i k : ℕ) → i < k → 24 + i ≤ 23 + k
-      one-less i k l = omega arith
-
-spaced-up : (q k b : ℕ) → 0x80_0000 ≤ q → Held b → q * 2 ^ k < b → (q + 1) * 2 ^ k ≤ b
-spaced-up q k b h H l = go (leb k (H .1)) (leb→le k (H .1)) (nleb→lt k (H .1))
-  where
-    go : (x : Bool) → (T x → k ≤ H .1) → (T (not x) → H .1 < k) → (q + 1) * 2 ^ k ≤ b
-    go true y z =
-        let e : b ≡ H .0 * 2 ^ (H .1 - k) * 2 ^ k = H .3 ∙ coarse (H .0) (H .1) k (y tt) in
-        le-trans (mul-le-mul-right (2 ^ k) (le-trans (le-of-eq (add-one q)) (lt-of-mul-lt-mul-right (2 ^ k) (lt-of-lt-of-le l (le-of-eq e))))) (le-of-eq (sym e))
-    go false y z =
-        absurd (lt-irrefl b (lt-of-lt-of-le (lt-of-le-of-lt (le-of-eq (H .3)) (fine (H .0) (H .1) k (H .2) (z tt))) (le-trans (mul-le-mul-right (2 ^ k) h) (le-of-lt l))))
-
-spaced-down : (p k b : ℕ) → 0x80_0000 ≤ p → Held b → b < suc p * 2 ^ k → b ≤ p * 2 ^ k
-spaced-down p k b h H l = go (leb k (H .1)) (leb→le k (H .1)) (nleb→lt k (H .1))
-  where
-    go : (x : Bool) → (T x → k ≤ H .1) → (T (not x) → H .1 < k) → b ≤ p * 2 ^ k
-    go true y z =
-        let e : b ≡ H .0 * 2 ^ (H .1 - k) * 2 ^ k = H .3 ∙ coarse (H .0) (H .1) k (y tt) in
-        le-trans (le-of-eq e) (mul-le-mul-right (2 ^ k) (le-of-suc-le-suc (lt-of-mul-lt-mul-right (2 ^ k) (lt-of-le-of-lt (le-of-eq (sym e)) l))))
-    go false y z = le-of-lt (lt-of-lt-of-le (lt-of-le-of-lt (le-of-eq (H .3)) (fine (H .0) (H .1) k (H .2) (z tt))) (mul-le-mul-right (2 ^ k) h))
 
 -- ---- a power of an odd number is odd, so it is no multiple of 2
 odd-power : (t n : ℕ) → t % 2 ≡ 1 → t ^ n % 2 ≡ 1
@@ -166,7 +128,7 @@ module _ (n c : ℕ) (g : 24 * suc n + 1 ≡ 24 + suc c) (v : 150 / suc n * suc 
       shift : (c j : ℕ) → suc c + j ≡ suc (c + j)
       shift c j = omega arith
 
-  below-side : (b : ℕ) → Held b → b < (t + 1) / 2 * 2 ^ (s / suc n + 126 - 150 / suc n) → ((t + 1) / 2 * 2 ^ (s / suc n + 126 - 150 / suc n) + b) ^ suc n < u * 2 ^ suc n * 2 ^ (149 * (suc n - 1))
+  below-side : (b : ℕ) → Held binary32 b → b < (t + 1) / 2 * 2 ^ (s / suc n + 126 - 150 / suc n) → ((t + 1) / 2 * 2 ^ (s / suc n + 126 - 150 / suc n) + b) ^ suc n < u * 2 ^ suc n * 2 ^ (149 * (suc n - 1))
   below-side b B l = go (parity t (root-digits n (suc c) g u m s t P lo hi .0))
     where
       go : Parity t → ((t + 1) / 2 * 2 ^ (s / suc n + 126 - 150 / suc n) + b) ^ suc n < u * 2 ^ suc n * 2 ^ (149 * (suc n - 1))
@@ -181,16 +143,16 @@ module _ (n c : ℕ) (g : 24 * suc n + 1 ≡ 24 + suc c) (v : 150 / suc n * suc 
           lt-of-le-of-lt
           (pow-le-pow-left
           (le-trans (le-of-eq (ap (λ (x : ℕ). x * 2 ^ K + b) (o .1)))
-          (le-trans (more-le (suc p * 2 ^ K) b (p * 2 ^ K) (spaced-down p K b (o .3) B l′)) (le-of-eq (sym (add-mul (suc p) p (2 ^ K)) ∙ ap (λ (x : ℕ). x * 2 ^ K) (sym (o .2))))))
+          (le-trans (more-le (suc p * 2 ^ K) b (p * 2 ^ K) (spaced-down binary32 K b B p (λ _. o .3) l′)) (le-of-eq (sym (add-mul (suc p) p (2 ^ K)) ∙ ap (λ (x : ℕ). x * 2 ^ K) (sym (o .2))))))
           (suc n))
           (lower-odd (o .0))
 
-  nearer : (b : ℕ) → Held b → Nearer (suc n) u ((t + 1) / 2 * 2 ^ (s / suc n + 126 - 150 / suc n)) b
+  nearer : (b : ℕ) → Held binary32 b → Nearer (suc n) u ((t + 1) / 2 * 2 ^ (s / suc n + 126 - 150 / suc n)) b
   nearer b B = (
     λ l.
         lt-of-lt-of-le upper
         (pow-le-pow-left
-        (over t ((t + 1) / 2) (2 ^ (s / suc n + 126 - 150 / suc n)) b (covers t) (spaced-up ((t + 1) / 2) (s / suc n + 126 - 150 / suc n) b (half n (suc c) g u m s t P lo hi .0) B l))
+        (over t ((t + 1) / 2) (2 ^ (s / suc n + 126 - 150 / suc n)) b (covers t) (spaced-up binary32 (s / suc n + 126 - 150 / suc n) b B ((t + 1) / 2) (λ _. half n (suc c) g u m s t P lo hi .0) l))
         (suc n)),
     λ l. below-side b B l,
   )

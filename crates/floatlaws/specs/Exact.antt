@@ -3,19 +3,19 @@
 use mathlib.Core.Path.{_≡_, refl, sym, ap, _∙_}
 use mathlib.Core.Logic.{_⊎_, inl, inr}
 use Prim.Native.Nat.{ℕ, suc, _+_, _-_, _*_, _^_, _≤_, _<_}
-use native.Mathlib.Nat.{le-refl, le-trans, le-of-eq, lt-of-lt-of-le, lt-of-le-of-lt, lt-of-not-le, not-le-of-lt, add-comm, add-le-add, sub-zero, zero-sub, sub-le, sub-add-cancel, mul-le-mul-left, zero-mul, mul-one, mul-assoc}
+use native.Mathlib.Nat.{le-refl, le-trans, le-of-eq, lt-of-lt-of-le, lt-of-le-of-lt, lt-of-not-le, not-le-of-lt, add-comm, add-le-add, sub-zero, zero-sub, sub-le, sub-add-cancel, mul-le-mul-left, zero-mul, mul-one, mul-comm, mul-assoc, mul-pos}
 use native.Mathlib.Omega.{arith}
 use lib.IntN.{pos}
 use lib.Dec.{T, lit<, le→leb}
 use lib.Pow.{pow-add, pow-pos, pow-mono, shl-lt}
-use lib.Ieee.{Float, nan, inf, fin, Format, binary32, binary64, prec, emax, low, sub, mul, ofInt, inFloat}
+use lib.Ieee.{Float, nan, inf, fin, Format, binary32, binary64, prec, emax, low, sub, mul, div, ofInt, inFloat}
 use lib.Ieee.Fits.{two, two-le-pos, reach}
 use lib.Ieee.Scale.{overflow, finite}
 use Rattle.floatlaws.specs.Whole.{exp-lt}
 use Rattle.floatlaws.specs.Value.{unit, unit-pos, limit, mag, hi, lo, Num, one-side, each-side, both-sides, shape, mag-shape}
 use Rattle.floatlaws.specs.Order.{Lt, Same}
 use Rattle.floatlaws.specs.Near.{near, near-exact, near-le, near-same, near-zero, Rounds, rounds-same, rounds-self}
-use Rattle.floatlaws.specs.Ops.{sub-rounds, mul-rounds, int-rounds}
+use Rattle.floatlaws.specs.Ops.{sub-rounds, mul-rounds, div-rounds, int-rounds, mul-swap}
 use Rattle.floatlaws.specs.Finite.{Fin, num}
 
 -- ---- a result that is a value of the format
@@ -73,6 +73,11 @@ scale {f} {x} {t} k p q r a b h = (mul-each (num p) q r b .0 ∙ moved (hi f x) 
     moved : (n : ℕ) → near f (n * hi f t) (unit f) ≡ near f (n * 2 ^ k) 1
     moved n = near-same f (n * hi f t) (unit f) (n * 2 ^ k) 1 (unit-pos f) (pow-pos 0) (mul-one (n * hi f t) ∙ ap (λ (z : ℕ). n * z) a ∙ sym (mul-assoc n (2 ^ k) (unit f)))
 
+-- the power of two first, as in 2.0 * x
+pub scale' : {f : Format} {x t : Float} (k : ℕ) → Fin f x → Num f t → Num f (mul f t x) → hi f t ≡ 2 ^ k * unit f → lo f t ≡ 0 → (hi f x + lo f x) * 2 ^ k < limit f
+    → (hi f (mul f t x) ≡ hi f x * 2 ^ k) × (lo f (mul f t x) ≡ lo f x * 2 ^ k)
+scale' {f} {x} {t} k p q r a b h = rw (mul-swap f t x) (scale k p q (rw (mul-swap f t x) at r) a b h)
+
 -- ---- 2 ^ -k, where the result is in the normal range
 room : (p i k : ℕ) → 0 < p → p - 1 + k < p + i → k ≤ i
 room p i k P h = omega arith
@@ -88,17 +93,41 @@ near-halve f (fin s m e) k p h =
     let b : m * 2 ^ (g .j - k) < overflow f = lt-of-le-of-lt (mul-le-mul-left m (pow-mono (sub-le (g .j) k))) (g .under) in
     ap (λ (z : ℕ). z * 2 ^ k) (near-exact f (mag f (fin s m e)) (2 ^ k) m (g .j - k) (pow-pos k) (g .small) b (w ∙ sym a)) ∙ a ∙ sym w
 
+half-sides : {f : Format} {x : Float} (k : ℕ) → Fin f x → 2 ^ (prec f - 1 + k) ≤ hi f x + lo f x → (near f (hi f x) (2 ^ k) * 2 ^ k ≡ hi f x) × (near f (lo f x) (2 ^ k) * 2 ^ k ≡ lo f x)
+half-sides {f} {x} k p h =
+    each-side f x (λ n. near f n (2 ^ k) * 2 ^ k ≡ n) (rw (near-zero f (2 ^ k) (pow-pos k)) (zero-mul (2 ^ k))) (near-halve f x k p (rw (both-sides f x) at h))
+
 -- t is 2 ^ -k
 pub halve : {f : Format} {x t : Float} (k : ℕ) → Fin f x → Num f t → Num f (mul f x t) → hi f t * 2 ^ k ≡ unit f → lo f t ≡ 0 → 2 ^ (prec f - 1 + k) ≤ hi f x + lo f x
     → (hi f (mul f x t) * 2 ^ k ≡ hi f x) × (lo f (mul f x t) * 2 ^ k ≡ lo f x)
 halve {f} {x} {t} k p q r a b h =
-    (ap (λ (z : ℕ). z * 2 ^ k) (mul-each (num p) q r b .0 ∙ moved (hi f x)) ∙ own .0, ap (λ (z : ℕ). z * 2 ^ k) (mul-each (num p) q r b .1 ∙ moved (lo f x)) ∙ own .1)
+    let o = half-sides k p h in
+    let e = mul-each (num p) q r b in
+    (ap (λ (z : ℕ). z * 2 ^ k) (e .0 ∙ moved (hi f x)) ∙ o .0, ap (λ (z : ℕ). z * 2 ^ k) (e .1 ∙ moved (lo f x)) ∙ o .1)
   where
-    own : (near f (hi f x) (2 ^ k) * 2 ^ k ≡ hi f x) × (near f (lo f x) (2 ^ k) * 2 ^ k ≡ lo f x)
-    own = each-side f x (λ n. near f n (2 ^ k) * 2 ^ k ≡ n) (rw (near-zero f (2 ^ k) (pow-pos k)) (zero-mul (2 ^ k))) (near-halve f x k p (rw (both-sides f x) at h))
-
     moved : (n : ℕ) → near f (n * hi f t) (unit f) ≡ near f n (2 ^ k)
     moved n = near-same f (n * hi f t) (unit f) n (2 ^ k) (unit-pos f) (pow-pos k) (mul-assoc n (hi f t) (2 ^ k) ∙ ap (λ (z : ℕ). n * z) a)
+
+-- t is 2 ^ k, and divides
+pub div-halve : {f : Format} {x t : Float} (k : ℕ) → Fin f x → Num f t → Num f (div f x t) → hi f t ≡ 2 ^ k * unit f → 2 ^ (prec f - 1 + k) ≤ hi f x + lo f x
+    → (hi f (div f x t) * 2 ^ k ≡ hi f x) × (lo f (div f x t) * 2 ^ k ≡ lo f x)
+div-halve {f} {x} {t} k p q r a h =
+    let c : 0 < hi f t = lt-of-lt-of-le (mul-pos (pow-pos k) (unit-pos f)) (le-of-eq (sym a)) in
+    let d = div-rounds (num p) q c r in
+    let o = half-sides k p h in
+    let e = go (one-side f x) in
+    (ap (λ (z : ℕ). z * 2 ^ k) (d .hi ∙ ap (λ (z : ℕ). near f z (hi f t)) (e .0) ∙ moved (hi f x) c) ∙ o .0,
+    ap (λ (z : ℕ). z * 2 ^ k) (d .lo ∙ ap (λ (z : ℕ). near f z (hi f t)) (e .1) ∙ moved (lo f x) c) ∙ o .1)
+  where
+    moved : (n : ℕ) → 0 < hi f t → near f (n * unit f) (hi f t) ≡ near f n (2 ^ k)
+    moved n c = near-same f (n * unit f) (hi f t) n (2 ^ k) c (pow-pos k) (mul-assoc n (unit f) (2 ^ k) ∙ ap (λ (z : ℕ). n * z) (mul-comm (unit f) (2 ^ k) ∙ sym a))
+
+    clear : (n : ℕ) → n ≡ 0 → n * unit f ≡ 0
+    clear n z = ap (λ (k : ℕ). k * unit f) z ∙ zero-mul (unit f)
+
+    go : (hi f x ≡ 0) ⊎ (lo f x ≡ 0) → (hi f x * unit f - lo f x * unit f ≡ hi f x * unit f) × (lo f x * unit f - hi f x * unit f ≡ lo f x * unit f)
+    go (inl z) = omega (arith, clear (hi f x) z)
+    go (inr z) = omega (arith, clear (lo f x) z)
 
 -- ---- a whole number below 2 ^ prec
 pub int-exact : (f : Format) (n : ℕ) → n < 2 ^ prec f → (hi f (ofInt f (pos n)) ≡ n * unit f) × (lo f (ofInt f (pos n)) ≡ 0)

@@ -13,3 +13,4 @@ pub mod Sum
 pub mod Whole
 pub mod Nan
 pub mod Bits
+pub mod Nearest
