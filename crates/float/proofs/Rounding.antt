@@ -180,8 +180,3 @@ sqrt-negative x F n l h = go (ltb (toBits binary32 x % 0x8000_0000) 0x7f80_0000)
         let z = by-value binary32 x F h (y tt) in
         ap sqrtOf (z .is ∙ ap (λ (s : Bool). fin s (suc (z .m)) (z .e)) (le-leb 0x8000_0000 (toBits binary32 x) l))
     go false y w = ap sqrtOf (by-inf binary32 x F n (w tt) ∙ ap inf (le-leb 0x8000_0000 (toBits binary32 x) l))
-
--- 0.0 / 0.0
-pub zero-by-zero : div binary32 (ofBits binary32 0) (ofBits binary32 0) ≡ nan
-unfolding div ofBits
-zero-by-zero = refl

@@ -14,7 +14,7 @@ use lib.Ieee.Exact.{HasValue, odd-sign, round-exact}
 use lib.Ieee.Nearest.{closest}
 use lib.Ieee.Scale.{round-same}
 use Rattle.floatlaws.specs.Whole.{size-at, closest-zero, closest-hi, closest-lo}
-use Rattle.floatlaws.specs.Nan.{a-nan}
+use Rattle.floatlaws.specs.Nan.{a-nan, zero-by-zero}
 use Rattle.floatlaws.specs.Value.{mag, shape, mag-shape}
 use Rattle.floatlaws.specs.Bits.{read-high, by-fields, real-pattern, sign-bit, own-value, same-value, inf-bits, units-bits, units-inf, round-at}
 use Rattle.float.specs.Single.{toSingle, Narrows}
@@ -163,8 +163,8 @@ module _ (x : Float) (h : T (fits binary64 x)) (r : ℕ) (n : Narrows (toBits bi
       real-pattern binary32 (toBits binary64 x / 0x8000_0000_0000_0000 * 0x8000_0000 + r) (omega arith)
 
 pub nan-is : (x : Float) → ne x x ≡ true → div binary32 (ofBits binary32 0) (ofBits binary32 0) ≡ toSingle x
-unfolding toSingle div ofBits
-nan-is x e = ap toSingle (sym (a-nan x e))
+unfolding toSingle
+nan-is x e = zero-by-zero binary32 ∙ ap toSingle (sym (a-nan x e))
 
 -- ---- a value of binary32 is kept
 pub single-same : (x : Float) → T (fits binary32 x) → toSingle x ≡ x

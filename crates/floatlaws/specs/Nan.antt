@@ -1,9 +1,9 @@
--- What a program's test `x != x` says: only a NaN differs from itself, since any other value is as large as itself. Assumes nothing.
+-- What a program's test `x != x` says: only a NaN differs from itself, since any other value is as large as itself. And 0 / 0 makes one. Assumes nothing.
 use mathlib.Core.Path.{_≡_, refl, sym, _∙_, subst}
 use Prim.Native.Nat.{_*_}
 use mathlib.Core.Bool.{Bool, true, false, not}
 use lib.Dec.{T}
-use lib.Ieee.{Float, nan, inf, fin, up, down, eq, ne, isNan}
+use lib.Ieee.{Float, nan, inf, fin, Format, binary32, binary64, up, down, eq, ne, div, isNan, ofBits}
 use lib.Ieee.Compare.{differs-from-itself}
 use borrow.Author.Tests.{eq-eqb}
 
@@ -20,3 +20,11 @@ no-nan x e = subst (λ (b : Bool). T (not b)) (sym (nan-test x ∙ e)) tt
 
 pub a-nan : (x : Float) → ne x x ≡ true → x ≡ nan
 a-nan x e = differs-from-itself x (subst T (sym e) tt)
+
+pub only-nan : (x : Float) → isNan x ≡ true → x ≡ nan
+only-nan x e = a-nan x (sym (nan-test x) ∙ e)
+
+pub zero-by-zero : (f : Format) → div f (ofBits f 0) (ofBits f 0) ≡ nan
+unfolding div ofBits
+zero-by-zero binary32 = refl
+zero-by-zero binary64 = refl

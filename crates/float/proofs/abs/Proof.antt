@@ -1,6 +1,6 @@
 -- `float::abs` meets its contract. Assumes nothing.
 use lib.Ieee.{ofBits, binary32}
-use Rattle.float.proofs.Select.{negative, nothing, positive}
+use Rattle.float.proofs.Signs.{negative, nothing, positive}
 use Rattle.float.proofs.abs.Statement.{statement}
 use Rattle.float.proofs.abs.Tie as tie
 

@@ -1,6 +1,6 @@
 -- `float::abs_f64` meets its contract. Assumes nothing.
 use lib.Ieee.{ofBits, binary64}
-use Rattle.float.proofs.Select.{negative, nothing, positive}
+use Rattle.float.proofs.Signs.{negative, nothing, positive}
 use Rattle.float.proofs.abs_f64.Statement.{statement}
 use Rattle.float.proofs.abs_f64.Tie as tie
 

@@ -6,10 +6,10 @@ use native.Mathlib.Omega.{arith}
 use borrow.Author.Needs.{needs}
 use lib.Dec.{T}
 use lib.Ieee.{binary32, fits, toBits}
-use Rattle.floatlaws.specs.Nan.{no-nan}
+use Rattle.floatlaws.specs.Nan.{no-nan, zero-by-zero}
 use Rattle.floatlaws.specs.Bits.{valueOf}
 use Rattle.float.specs.Parts.{Split}
-use Rattle.float.proofs.Rounding.{moved-lt, moved-below, sqrt-nan, sqrt-zero, sqrt-inf, sqrt-negative, sqrt-finite, sqrt-digits, sqrt-made, sqrt-no-nan, clear, zero-by-zero}
+use Rattle.float.proofs.Rounding.{moved-lt, moved-below, sqrt-nan, sqrt-zero, sqrt-inf, sqrt-negative, sqrt-finite, sqrt-digits, sqrt-made, sqrt-no-nan, clear}
 use Rattle.float.proofs.sqrt.Statement.{statement}
 use Rattle.float.proofs.sqrt.Tie as tie
 
@@ -29,7 +29,7 @@ returns-2 c = sqrt-zero _ (held (c .before .before)) (c .if2 .taken)
 returns-3 : tie.Need-returns-3
 returns-3 c =
     let x = c .before .before .before .args .x in
-    zero-by-zero ∙ sym (sqrt-negative x (held (c .before .before .before)) (float-to-bits-bits (c .before .before)) (omega arith) (omega (arith, c .before .if2 .left)))
+    zero-by-zero binary32 ∙ sym (sqrt-negative x (held (c .before .before .before)) (float-to-bits-bits (c .before .before)) (omega arith) (omega (arith, c .before .if2 .left)))
 
 -- the pattern is that of a value above zero
 pattern : (c : tie.Else3) → (toBits binary32 (c .before .before .before .args .x) % 0x8000_0000 ≡ toBits binary32 (c .before .before .before .args .x)) × (toBits binary32 (c .before .before .before .args .x) < 0x8000_0000) × (0 < toBits binary32 (c .before .before .before .args .x))
