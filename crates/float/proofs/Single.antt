@@ -3,19 +3,25 @@ use mathlib.Core.Path.{_≡_, refl, sym, ap, _∙_, subst}
 use mathlib.Core.Logic.{_⊎_, inl, inr}
 use mathlib.Core.Bool.{Bool, true, false, not, cond}
 use Prim.Native.Nat.{ℕ, zero, suc, _+_, _-_, _*_, _/_, _%_, _^_, _≤_, _<_, compare}
-use native.Mathlib.Nat.{le-refl, le-trans, le-of-eq, le-of-lt, lt-of-lt-of-le, not-le-of-lt, eq-zero-or-pos, eq-or-lt-of-le, mul-le-mul, mul-le-mul-right, mul-div-cancel, le-div-iff-mul-le}
+use native.Mathlib.Nat.{le-refl, le-trans, le-of-eq, le-of-lt, lt-of-lt-of-le, not-le-of-lt, eq-zero-or-pos, eq-or-lt-of-le, mul-le-mul, mul-le-mul-right, mul-div-cancel, le-div-iff-mul-le, mul-assoc, zero-mul, add-zero}
 use native.Mathlib.Omega.{arith}
+use lib.IntN.{ℤ}
 use lib.Dec.{T, leb, lit<, lit≤}
 use lib.Pow.{pow-add, pow-pos, pow-mono, shl-lt, shr-lt}
-use lib.Ieee.{Float, nan, inf, fin, binary32, binary64, up, down, odd, units, round, ne, div, fits, ofFields, ofBits, nanBits, toBits}
+use lib.Ieee.{Float, nan, inf, fin, binary32, binary64, up, down, odd, units, round, ne, div, fits, isNan, ofFields, ofBits, nanBits, toBits}
 use lib.Ieee.Fits.{down-pos, nan-fits, inf-fits, round-fits}
-use lib.Ieee.Bits.{ofBits-toBits, toBits-lt}
+use lib.Ieee.Bits.{is-false, ofBits-toBits, toBits-lt}
 use lib.Ieee.Exact.{HasValue, odd-sign, round-exact}
 use lib.Ieee.Nearest.{closest}
 use lib.Ieee.Scale.{round-same}
 use Rattle.floatlaws.specs.Whole.{size-at, closest-zero, closest-hi, closest-lo}
 use Rattle.floatlaws.specs.Nan.{a-nan, zero-by-zero}
-use Rattle.floatlaws.specs.Value.{mag, shape, mag-shape}
+use Rattle.floatlaws.specs.Value.{big, mag, hi, lo, Num, shape, mag-shape, mag-is}
+use Rattle.floatlaws.specs.Order.{Le, widen-num, widen-sides}
+use Rattle.floatlaws.specs.Near.{Rounds, round-num, round-rounds, inf-rounds}
+use Rattle.floatlaws.specs.Finite.{Fin}
+use Rattle.floatlaws.specs.Mono.{same-den}
+use Rattle.floatlaws.specs.Nearest.{Apart, nearest}
 use Rattle.floatlaws.specs.Bits.{read-high, by-fields, real-pattern, sign-bit, own-value, same-value, inf-bits, units-bits, units-inf, round-at}
 use Rattle.float.specs.Single.{toSingle, Narrows}
 
@@ -181,3 +187,46 @@ single-same (fin s m e) F =
     (subst (λ (a : ℕ). HasValue (round binary32 s a (2 ^ 149)) s a (2 ^ 149)) i
     (round-exact binary32 s (m * 2 ^ g .j) (2 ^ 149) m (g .j) (pow-pos 149) (g .small) (g .under) refl)))
     v
+
+in-units : (s : Bool) (m : ℕ) (e : ℤ) → T (fits binary64 (fin s m e)) → mag binary64 (fin s m e) * down e ≡ m * up e * 2 ^ 149 * 2 ^ 925 + 0 * down e
+in-units s m e F =
+    mag-is binary64 s m e F
+    ∙ ap (λ (z : ℕ). m * up e * z) (pow-add 2 149 925)
+    ∙ sym (mul-assoc (m * up e) (2 ^ 149) (2 ^ 925))
+    ∙ sym (ap (λ (z : ℕ). m * up e * 2 ^ 149 * 2 ^ 925 + z) (zero-mul (down e)) ∙ add-zero (m * up e * 2 ^ 149 * 2 ^ 925))
+
+-- ---- what it means: x rounded, of which 2 ^ 925 units are one of binary32
+pub single-rounds : {x : Float} → Num binary64 x → Rounds binary32 (toSingle x) (hi binary64 x) (lo binary64 x) (2 ^ 925)
+unfolding toSingle hi lo
+single-rounds {x = nan} p = absurd (unfold isNan in p .real)
+single-rounds {x = inf true} p = unfold mag in inf-rounds binary32 true 0 (big binary64) (2 ^ 925) (pow-pos 925) (lit≤ tt)
+single-rounds {x = inf false} p = unfold mag in inf-rounds binary32 false (big binary64) 0 (2 ^ 925) (pow-pos 925) (lit≤ tt)
+single-rounds {x = fin true m e} p = round-rounds binary32 true (m * up e) (down e) 0 (mag binary64 (fin true m e)) (2 ^ 925) (down-pos e) (pow-pos 925) (in-units true m e (p .fit))
+single-rounds {x = fin false m e} p = round-rounds binary32 false (m * up e) (down e) (mag binary64 (fin false m e)) 0 (2 ^ 925) (down-pos e) (pow-pos 925) (in-units false m e (p .fit))
+
+pub single-num : {x : Float} → Num binary64 x → Num binary32 (toSingle x)
+single-num p = single-rounds p .num
+
+-- a NaN exactly where x is one
+pub single-nan : (x : Float) → isNan (toSingle x) ≡ isNan x
+unfolding toSingle
+single-nan nan = refl
+single-nan (inf s) = refl
+single-nan (fin s m e) = is-false (isNan (round binary32 s (m * up e) (down e))) (round-num binary32 s (m * up e) (down e) .real) ∙ sym (unfold isNan in refl)
+
+-- the order is kept, so no value of binary32 lies strictly between x and `toSingle x`
+pub single-mono : {x y : Float} → Num binary64 x → Num binary64 y → Le binary64 x y → Le binary32 (toSingle x) (toSingle y)
+single-mono p q h = same-den (single-rounds p) (single-rounds q) (h .le)
+
+pub single-above : {x y : Float} → Num binary64 x → Num binary32 y → Le binary64 y x → Le binary32 y (toSingle x)
+single-above {x} {y} p q h = subst (λ (z : Float). Le binary32 z (toSingle x)) (single-same y (q .fit)) (single-mono (widen-num q) p h)
+
+pub single-under : {x y : Float} → Num binary64 x → Num binary32 y → Le binary64 x y → Le binary32 (toSingle x) y
+single-under {x} {y} p q h = subst (λ (z : Float). Le binary32 (toSingle x) z) (single-same y (q .fit)) (single-mono p (widen-num q) h)
+
+-- and no value of binary32 is nearer to x. (Of two that are as near, `round` takes the one whose last digit is even; from half a step above the largest on it is an infinity.)
+pub single-nearest : {x y : Float} → Num binary64 x → Fin binary32 (toSingle x) → Fin binary32 y → Apart binary64 (toSingle x) x ≤ Apart binary64 y x
+single-nearest {x} {y} p r q =
+    let a = widen-sides (toSingle x) (r .fit) (r .finite) in
+    let b = widen-sides y (q .fit) (q .finite) in
+    rw (a .0, a .1, b .0, b .1) (nearest (single-rounds p) r q)

@@ -11,7 +11,7 @@ use Rattle.floatlaws.specs.Near.{Rounds, rounds-mono}
 use Rattle.floatlaws.specs.Ops.{add-rounds, sub-rounds, mul-rounds, div-rounds, int-rounds, mul-plus, div-plus, mul-swap}
 
 -- ---- two numbers over the same denominator
-same-den : {f : Format} {z z' : Float} {P N P' N' C : ℕ} → Rounds f z P N C → Rounds f z' P' N' C → P + N' ≤ P' + N → Le f z z'
+pub same-den : {f : Format} {z z' : Float} {P N P' N' C : ℕ} → Rounds f z P N C → Rounds f z' P' N' C → P + N' ≤ P' + N → Le f z z'
 same-den {P = P} {N = N} {P' = P'} {N' = N'} {C = C} r s h =
     rounds-mono r s (le-trans (le-of-eq (sym (add-mul P N' C))) (le-trans (mul-le-mul-right C h) (le-of-eq (add-mul P' N C))))
 

@@ -73,6 +73,10 @@ module _ (f : Format) (k b : ℕ) (H : Held f b) where
 abbrev pub dist : ℕ → ℕ → ℕ
 dist a b = (a - b) + (b - a)
 
+-- of two floats' values, in units
+abbrev pub Apart : Format → Float → Float → ℕ
+Apart f x y = dist (hi f x + lo f y) (hi f y + lo f x)
+
 -- ---- of a number that is not negative
 module _ (f : Format) (a c b : ℕ) (C : 0 < c) (h : near f a c < overflow f) (H : Held f b) where
   -- from above: b is at least one step up

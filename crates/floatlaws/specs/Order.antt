@@ -1,15 +1,19 @@
 -- The order of the values of a format that are no NaN, infinities included: `Le f x y` and `Lt f x y`, as the order of what they are worth. They are records, so that x and y are inferred from
 -- a hypothesis, and `omega arith` proves them and reads them. `of-le` and `to-le` go between `Le` and the test `le` of a program, and so for `lt` and `eq`. Assumes nothing.
-use mathlib.Core.Path.{_≡_, refl}
+use mathlib.Core.Path.{_≡_, refl, sym, ap, _∙_}
 use mathlib.Core.Logic.{_⊎_, inl, inr}
-use Prim.Native.Nat.{_+_, _≤_, _<_}
+use Prim.Native.Nat.{ℕ, _+_, _*_, _^_, _≤_, _<_}
+use native.Mathlib.Nat.{zero-mul, mul-assoc, mul-right-comm, eq-of-mul-eq-mul-right}
 use native.Mathlib.Decide.{decLe}
 use native.Mathlib.Omega.{arith}
-use mathlib.Core.Bool.{true, false, not}
+use mathlib.Core.Bool.{Bool, true, false, not, cond}
+use lib.IntN.{ℤ}
+use lib.Pow.{pow-add}
 use lib.Dec.{T, leb→le, le→leb, ltb→lt, lt→ltb, nltb→le, nleb→lt, eqb→eq}
-use lib.Ieee.{Float, nan, inf, fin, Format, binary32, binary64, lt, eq, le, neg, isNan}
-use lib.Ieee.Fits.{eq→eqb, neg-fits, fits-widens}
-use Rattle.floatlaws.specs.Value.{hi, lo, mag, Num, one-side, lt-is, eq-is, le-is}
+use lib.Ieee.{Float, nan, inf, fin, Format, binary32, binary64, up, down, lt, eq, le, neg, isNan, fits}
+use lib.Ieee.Fits.{eq→eqb, down-pos, neg-fits, fits-widens}
+use lib.Ieee.Scale.{finite}
+use Rattle.floatlaws.specs.Value.{hi, lo, mag, Num, mag-is, one-side, lt-is, eq-is, le-is}
 
 pub record Le (f : Format) (x y : Float) : Type 0 where
   pub le : hi f x + lo f y ≤ hi f y + lo f x
@@ -136,3 +140,23 @@ widen-num {x} p = record { fit = fits-widens x (p .fit); real = p .real }
 
 pub widen-le : {x y : Float} → Num binary32 x → Num binary32 y → Le binary32 x y → Le binary64 x y
 widen-le p q h = of-le (widen-num p) (widen-num q) (to-le p q h)
+
+-- in the units of binary64, which are 2 ^ -925 of those of binary32
+pub widen-sides : (x : Float) → T (fits binary32 x) → T (finite x) → (hi binary64 x ≡ hi binary32 x * 2 ^ 925) × (lo binary64 x ≡ lo binary32 x * 2 ^ 925)
+widen-sides nan F t = absurd t
+widen-sides (inf s) F t = absurd t
+widen-sides (fin s m e) F t = unfold hi lo in go (mag binary64 (fin s m e)) (mag binary32 (fin s m e)) (2 ^ 925) s (widen-mag s m e F)
+  where
+    widen-mag : (s : Bool) (m : ℕ) (e : ℤ) → T (fits binary32 (fin s m e)) → mag binary64 (fin s m e) ≡ mag binary32 (fin s m e) * 2 ^ 925
+    widen-mag s m e F =
+        let M = mag binary32 (fin s m e) in
+        eq-of-mul-eq-mul-right (down e) (down-pos e) (mag binary64 (fin s m e)) (M * 2 ^ 925)
+        (mag-is binary64 s m e (fits-widens (fin s m e) F)
+        ∙ ap (λ (z : ℕ). m * up e * z) (pow-add 2 149 925)
+        ∙ sym (mul-assoc (m * up e) (2 ^ 149) (2 ^ 925))
+        ∙ ap (λ (z : ℕ). z * 2 ^ 925) (sym (mag-is binary32 s m e F))
+        ∙ mul-right-comm M (down e) (2 ^ 925))
+
+    go : (a b k : ℕ) (s : Bool) → a ≡ b * k → (cond s 0 a ≡ cond s 0 b * k) × (cond s a 0 ≡ cond s b 0 * k)
+    go a b k true h = (sym (zero-mul k), h)
+    go a b k false h = (h, sym (zero-mul k))
