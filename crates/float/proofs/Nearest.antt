@@ -209,7 +209,7 @@ nearest-3 b p h = nearest 2 48 refl (record { divides = refl; few = lit≤ tt; r
 some : (m : ℕ) → T (not (eqb (suc m) 0))
 some m = rw (eqb·suc-zero m) tt
 
-finite-above : (s : Bool) (m : ℕ) (e : ℤ) → T (fits binary32 (fin s (suc m) e)) → Fin binary32 (fin s (suc m) e) × (0 < mag binary32 (fin s (suc m) e))
+pub finite-above : (s : Bool) (m : ℕ) (e : ℤ) → T (fits binary32 (fin s (suc m) e)) → Fin binary32 (fin s (suc m) e) × (0 < mag binary32 (fin s (suc m) e))
 finite-above s m e F = (record { fit = F; finite = tt }, mag-pos binary32 s (suc m) e F (some m))
 
 pub sqrt-is : (x : Float) → T (fits binary32 x) → IsSqrt x (sqrtOf x)

@@ -116,7 +116,7 @@ pub mul-num : {f : Format} {x y : Float} → Fin f x → Fin f y → Num f (mul 
 mul-num {f} {x} {y} p q = record { fit = mul-fits f x y; real = mul-real f x y (p .finite) (q .finite) }
 
 -- one factor finite and not 0
-mag-zero : (f : Format) (s : Bool) (d : ℤ) → mag f (fin s 0 d) ≡ 0
+pub mag-zero : (f : Format) (s : Bool) (d : ℤ) → mag f (fin s 0 d) ≡ 0
 unfolding mag
 mag-zero f s d = simp (zero-mul, zero-div)
 
