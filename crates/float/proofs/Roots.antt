@@ -13,8 +13,8 @@ use lib.Ieee.Fits.{inf-fits}
 use Rattle.floatlaws.specs.Value.{limit, big, mag, hi, lo, negative, Num, one-side, both-sides, mag-under, overflow-le-big, overflow-pos}
 use Rattle.floatlaws.specs.Order.{Le, sides, neg-anti, neg-num, hi-neg, lo-neg}
 use Rattle.floatlaws.specs.Ops.{mag-pos}
-use Rattle.floatlaws.specs.Finite.{Fin, num, fin-under, mag-zero}
-use Rattle.floatlaws.specs.Interval.{plain}
+use Rattle.floatlaws.specs.Finite.{Fin, num, fin-under, fin-of, mag-zero}
+use Rattle.floatlaws.specs.Interval.{In, within, plain}
 use Rattle.float.specs.Root.{iroot, rootOfUnits, sqrtOf, cbrtOf}
 use Rattle.float.specs.Nearest.{NearestRoot}
 use Rattle.float.proofs.Nearest.{finite-above, root-mono, sqrt-is, cbrt-is}
@@ -44,6 +44,10 @@ under-big {x} p l =
   where
     first : (a b : ℕ) → a ≤ a + b
     first a b = omega arith
+
+limit-pos : 0 < limit binary32
+unfolding limit
+limit-pos = overflow-pos binary32
 
 inf-num : Num binary32 (inf false)
 inf-num = record { fit = inf-fits binary32 false; real = unfold isNan in tt }
@@ -101,6 +105,26 @@ sqrt-mono p q z h =
     let s = sides h in
     plain-mono (sqrt-plain p z) (sqrt-plain q (omega arith)) (s .0)
 
+pub sqrt-fin : {x : Float} → Fin binary32 x → lo binary32 x ≡ 0 → Fin binary32 (sqrtOf x)
+sqrt-fin {x} p z = go (sqrt-plain (num p) z)
+  where
+    go : {r : Float} → Plain 2 x r → Fin binary32 r
+    go (none q a b c) = fin-of q (lt-of-le-of-lt (le-of-eq b) limit-pos) (lt-of-le-of-lt (le-of-eq c) limit-pos)
+    go (top a e) = absurd (under-big p (le-of-eq (sym a)))
+    go (some q h N) = N .is
+
+-- an interval, as `Interval` has them
+pub sqrt-in : {a b x : Float} → In binary32 a b x → T (not (negative a)) → In binary32 (sqrtOf a) (sqrtOf b) (sqrtOf x)
+sqrt-in {a} {b} {x} p t =
+    let z = plain binary32 a t in
+    let s = sides (p .low) in
+    let u = sides (p .high) in
+    let x0 : lo binary32 x ≡ 0 = omega arith in
+    let b0 : lo binary32 b ≡ 0 = omega arith in
+    within (sqrt-fin (p .from) z) (sqrt-fin (p .to) b0) (sqrt-num (num (p .is)) x0 .0)
+    (sqrt-mono (num (p .from)) (num (p .is)) z (p .low))
+    (sqrt-mono (num (p .is)) (num (p .to)) x0 (p .high))
+
 -- ---- the cube root of any number: it keeps the sign, so the order of what is below zero is that of the sizes, reversed
 odd-neg : (d : ℕ) (s : Bool) (q k l : ℕ) → odd d (not s) q k l ≡ neg (odd d s q k l)
 unfolding odd neg
@@ -131,10 +155,13 @@ cbrt-neg (fin s (suc m) e) = root-neg 3 s (suc m * up e * 2 ^ 149 / down e)
 
 -- of the sign of x, with the sides of its root and of that of -x
 pub cbrt-num : {x : Float} → Num binary32 x → Num binary32 (cbrtOf x) × ((lo binary32 x ≡ 0 → lo binary32 (cbrtOf x) ≡ 0) × (hi binary32 x ≡ 0 → hi binary32 (cbrtOf x) ≡ 0))
-cbrt-num {x} p = (elim (one-side binary32 x) [
-  | inl z ↦ back (cbrtOf x) (plain-num (below z) .0)
-  | inr z ↦ plain-num (cbrt-plain p z) .0
-], (λ z. plain-num (cbrt-plain p z) .1, λ z. sym (lo-neg binary32 (cbrtOf x)) ∙ plain-num (below z) .1))
+cbrt-num {x} p = (
+  elim (one-side binary32 x) [
+    | inl z ↦ back (cbrtOf x) (plain-num (below z) .0)
+    | inr z ↦ plain-num (cbrt-plain p z) .0
+  ],
+  (λ z. plain-num (cbrt-plain p z) .1, λ z. sym (lo-neg binary32 (cbrtOf x)) ∙ plain-num (below z) .1),
+)
   where
     below : hi binary32 x ≡ 0 → Plain 3 (neg x) (neg (cbrtOf x))
     below z = subst (Plain 3 (neg x)) (cbrt-neg x) (cbrt-plain (neg-num p) (lo-neg binary32 x ∙ z))

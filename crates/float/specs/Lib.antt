@@ -1,5 +1,5 @@
 -- What the contracts of `float` cite, and what it is to be nearest.
-mod Examples
+pub mod Examples
 pub mod Nearest
 pub mod Parts
 pub mod Root

@@ -13,7 +13,7 @@ ghost use Rattle.floatlaws.specs.Bits.{valueOf};
 
 mod whole; // whole.rt: whole parts of roots
 
-// |x| of an f32.
+// |x| of an f32: the sign cleared. Either zero gives +0, either infinity +∞, and a NaN stays one.
 pub fn abs(x: f32) -> f32
     ensures { λ r. ⌜ r ≡ abs x ⌝ }
 {
@@ -26,7 +26,7 @@ pub fn abs(x: f32) -> f32
     x
 }
 
-// |x| of an f64.
+// |x| of an f64, in the same way.
 pub fn abs_f64(x: f64) -> f64
     ensures { λ r. ⌜ r ≡ abs x ⌝ }
 {
@@ -39,7 +39,7 @@ pub fn abs_f64(x: f64) -> f64
     x
 }
 
-// b where a is below it or is a NaN, else a.
+// The larger: b where a < b or a is a NaN, else a. So a NaN only where both are, and of two zeros the first.
 pub fn max(a: f32, b: f32) -> f32
     ensures { λ r. ⌜ r ≡ max a b ⌝ }
 {
@@ -49,7 +49,7 @@ pub fn max(a: f32, b: f32) -> f32
     if a != a { b } else { a }
 }
 
-// b where it is below a or a is a NaN, else a.
+// The smaller: b where b < a or a is a NaN, else a. So a NaN only where both are, and of two zeros the first.
 pub fn min(a: f32, b: f32) -> f32
     ensures { λ r. ⌜ r ≡ min a b ⌝ }
 {
@@ -59,7 +59,8 @@ pub fn min(a: f32, b: f32) -> f32
     if a != a { b } else { a }
 }
 
-// x held to the range from lo to hi; a NaN is left.
+// x held to the range from lo to hi: lo where x < lo, else hi where hi < x, else x. A NaN is left, and so is a
+// zero of either sign at a bound that is zero.
 pub fn clamp(x: f32, lo: f32, hi: f32) -> f32
     ensures { λ r. ⌜ r ≡ clamp lo hi x ⌝ }
 {
@@ -69,7 +70,7 @@ pub fn clamp(x: f32, lo: f32, hi: f32) -> f32
     if hi < x { hi } else { x }
 }
 
-// The same value as an f64: exact, and a NaN stays one.
+// The same value as an f64: exact, signed zeros and infinities too, and a NaN stays one.
 pub fn widen(x: f32) -> f64
     ensures { λ r. ⌜ r ≡ x ⌝ }
 {
@@ -85,7 +86,9 @@ fn round_shift(n: u64, k: u64) -> u64
     (n + (half - 1) + (n >> k) % 2) >> k
 }
 
-// The f32 pattern of the magnitude whose f64 pattern is m, a number's or the infinity's.
+// The f32 pattern of the magnitude whose f64 pattern is m, a number's or the infinity's. From the field 1151 on
+// it is 2^128 or more, the infinity; from 897 on a normal f32, whose pattern counts its 24 digits on from the
+// field's, so that a carry out of the digits is right; from 864 on a subnormal one; and below that nothing.
 fn magnitude(m: u64) -> u64
     requires { ⌜ m ≤ 0x7ff0_0000_0000_0000 ⌝ }
     ensures { λ r. ⌜ Narrows m r ⌝ }
@@ -104,8 +107,9 @@ fn magnitude(m: u64) -> u64
     0
 }
 
-// An f64 rounded to the nearest f32, a tie to the even one: overflow gives an infinity, subnormals and
-// signed zeros are right, and a NaN stays one. (`x as f32` is defined only where nothing is lost.)
+// An f64 rounded to the nearest f32, a tie to the one whose last digit is even. From half a step above the
+// largest f32 on it is an infinity; subnormals, signed zeros and infinities are right, and a NaN stays one.
+// (The language's `x as f32` is defined only where nothing is lost.)
 pub fn narrow(x: f64) -> f32
     ensures { λ r. ⌜ r ≡ toSingle x ⌝ }
 {
@@ -125,7 +129,7 @@ pub struct Parts {
 
 // m * 2 ^ k units, with m moved up to 24 digits.
 fn norm(m: u32, k: u32) -> Parts
-    requires { ⌜ (0 < m) × ((m < 16777216) × (k ≤ 253)) ⌝ }
+    requires { ⌜ (0 < m) × ((m < 0x100_0000) × (k ≤ 253)) ⌝ }
     ensures { λ r. ⌜ Split (m * 2 ^ k) (r .m) (r .s) ⌝ }
 {
     let z = u32::leading_zeros(m) - 8;
@@ -137,18 +141,19 @@ fn norm(m: u32, k: u32) -> Parts
 
 // The parts of the bit pattern of a finite value above zero.
 fn split(bits: u32) -> Parts
-    requires { ⌜ (0 < bits) × (bits < 2139095040) ⌝ }
+    requires { ⌜ (0 < bits) × (bits < 0x7f80_0000) ⌝ }
     ensures { λ r. ⌜ Split (valueOf binary32 bits) (r .m) (r .s) ⌝ }
 {
-    if bits < 8388608 {
+    if bits < 0x80_0000 {
         norm(bits, 0)
     } else {
-        norm(bits % 8388608 + 8388608, bits / 8388608 - 1)
+        norm(bits % 0x80_0000 + 0x80_0000, bits / 0x80_0000 - 1)
     }
 }
 
-// The square root: the nearest f32. A zero, +∞ and a NaN are their own roots, and the root of
-// anything below zero is a NaN.
+// The square root: the nearest f32. Either zero, +∞ and a NaN are their own roots, and the root of anything
+// below zero is a NaN. The root of m * 2^s has the exponent s / 2; its whole part to 25 digits, halved and
+// rounded up, is the nearest of 24, since a tie cannot occur.
 pub fn sqrt(x: f32) -> f32
     ensures { λ r. ⌜ r ≡ sqrtOf x ⌝ }
 {
@@ -156,23 +161,23 @@ pub fn sqrt(x: f32) -> f32
         return x;
     }
     let bits = f32::to_bits(x);
-    if bits % 2147483648 == 0 {
+    if bits % 0x8000_0000 == 0 {
         return x;
     }
-    if 2147483648 < bits {
+    if 0x8000_0000 < bits {
         return 0.0 / 0.0;
     }
-    if 2139095040 <= bits {
+    if 0x7f80_0000 <= bits {
         return x;
     }
     let p = split(bits);
     let w = (p.m as u64) << (25 + p.s % 2);
     let q = (whole::isqrt(w) + 1) / 2;
-    f32::from_bits((p.s / 2 + 51) * 8388608 + (q as u32))
+    f32::from_bits((p.s / 2 + 51) * 0x80_0000 + (q as u32))
 }
 
-// The cube root: the nearest f32, with the sign of x. A zero, an infinity and a NaN are their own
-// roots.
+// The cube root: the nearest f32, with the sign of x. Either zero, either infinity and a NaN are their own
+// roots. As above, with the exponent s / 3.
 pub fn cbrt(x: f32) -> f32
     ensures { λ r. ⌜ r ≡ cbrtOf x ⌝ }
 {
@@ -180,15 +185,15 @@ pub fn cbrt(x: f32) -> f32
         return x;
     }
     let bits = f32::to_bits(x);
-    let mag = bits % 2147483648;
+    let mag = bits % 0x8000_0000;
     if mag == 0 {
         return x;
     }
-    if 2139095040 <= mag {
+    if 0x7f80_0000 <= mag {
         return x;
     }
     let p = split(mag);
     let a = (p.m as u64) << (1 + p.s % 3);
     let q = (whole::icbrt_long(a) + 1) / 2;
-    f32::from_bits((bits - mag) + ((p.s / 3 + 76) * 8388608 + (q as u32)))
+    f32::from_bits((bits - mag) + ((p.s / 3 + 76) * 0x80_0000 + (q as u32)))
 }

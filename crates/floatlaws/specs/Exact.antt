@@ -115,9 +115,10 @@ div-halve {f} {x} {t} k p q r a h =
     let c : 0 < hi f t = lt-of-lt-of-le (mul-pos (pow-pos k) (unit-pos f)) (le-of-eq (sym a)) in
     let d = div-rounds (num p) q c r in
     let o = half-sides k p h in
-    let e = go (one-side f x) in
-    (ap (λ (z : ℕ). z * 2 ^ k) (d .hi ∙ ap (λ (z : ℕ). near f z (hi f t)) (e .0) ∙ moved (hi f x) c) ∙ o .0,
-    ap (λ (z : ℕ). z * 2 ^ k) (d .lo ∙ ap (λ (z : ℕ). near f z (hi f t)) (e .1) ∙ moved (lo f x) c) ∙ o .1)
+    let e = go (one-side f x) in (
+      ap (λ (z : ℕ). z * 2 ^ k) (d .hi ∙ ap (λ (z : ℕ). near f z (hi f t)) (e .0) ∙ moved (hi f x) c) ∙ o .0,
+      ap (λ (z : ℕ). z * 2 ^ k) (d .lo ∙ ap (λ (z : ℕ). near f z (hi f t)) (e .1) ∙ moved (lo f x) c) ∙ o .1,
+    )
   where
     moved : (n : ℕ) → 0 < hi f t → near f (n * unit f) (hi f t) ≡ near f n (2 ^ k)
     moved n c = near-same f (n * unit f) (hi f t) n (2 ^ k) c (pow-pos k) (mul-assoc n (unit f) (2 ^ k) ∙ ap (λ (z : ℕ). n * z) (mul-comm (unit f) (2 ^ k) ∙ sym a))
