@@ -1,7 +1,8 @@
 -- A number above zero moved up to 24 binary digits: by as many places as it has leading zeros in a word of 24 digits. Assumes nothing.
 use mathlib.Core.Path.{_≡_, sym, ap, _∙_, subst}
 use Prim.Native.Nat.{ℕ, suc, _+_, _-_, _*_, _/_, _%_, _^_, _≤_, _<_}
-use native.Mathlib.Nat.{le-trans, le-of-eq, lt-of-lt-of-le, lt-of-le-of-lt, lt-irrefl, lt-of-not-le, mul-assoc, mul-one, mul-le-mul-right, mul-lt-mul-of-pos-right}
+use native.Mathlib.Nat.{le-trans, le-of-eq, lt-of-lt-of-le, lt-of-le-of-lt, lt-irrefl, lt-of-not-le, mul-assoc, mul-one, mul-le-mul-right}
+use native.Mathlib.Nat.{mul-lt-mul-of-pos-right}
 use native.Mathlib.Omega.{arith}
 use lib.Dec.{lit≤}
 use lib.Pow.{pow-add, pow-pos, pow-mono, shl-lt, shl-exact}
@@ -17,8 +18,14 @@ use Rattle.float.specs.Parts.{Split}
 -- j is one less than how many digits m has
 pub lead : (m : ℕ) → 0 < m → m < 0x100_0000 → (j : ℕ) × (leadingZeros 32 m + j ≡ 31) × (j ≤ 23) × (2 ^ j ≤ m) × (m < 2 ^ suc j)
 lead m h k =
-    let l = leading-top 32 m h (lt-of-lt-of-le k (lit≤ tt)) in
-    (l .0, sum (leadingZeros 32 m) (l .0) (l .1), at-most (l .0) (lt-of-not-le (λ (g : 24 ≤ l .0). lt-irrefl m (lt-of-lt-of-le k (le-trans (pow-mono g) (l .2))))), l .2, l .3)
+    let l = leading-top 32 m h (lt-of-lt-of-le k (lit≤ tt)) in (
+      l .0,
+      sum (leadingZeros 32 m) (l .0) (l .1),
+      at-most (l .0)
+          (lt-of-not-le (λ (g : 24 ≤ l .0). lt-irrefl m (lt-of-lt-of-le k (le-trans (pow-mono g) (l .2))))),
+      l .2,
+      l .3,
+    )
   where
     sum : (z j : ℕ) → z + suc j ≡ 32 → z + j ≡ 31
     sum z j e = omega arith
@@ -52,7 +59,8 @@ norm-law m k h l b =
     let j = L .0 in
     let z = gap m in
     let e : j + z ≡ 23 = there (leadingZeros 32 m) j (L .1) (L .2) in
-    let lo : 0x80_0000 ≤ m * 2 ^ z = subst (λ (x : ℕ). x ≤ m * 2 ^ z) (sym (pow-add 2 j z) ∙ ap (λ (x : ℕ). 2 ^ x) e) (mul-le-mul-right (2 ^ z) (L .3)) in
+    let lo : 0x80_0000 ≤ m * 2 ^ z =
+    subst (λ (x : ℕ). x ≤ m * 2 ^ z) (sym (pow-add 2 j z) ∙ ap (λ (x : ℕ). 2 ^ x) e) (mul-le-mul-right (2 ^ z) (L .3)) in
     let hi : m * 2 ^ z < 0x100_0000 =
     subst (λ (x : ℕ). m * 2 ^ z < x) (sym (pow-add 2 (suc j) z) ∙ ap (λ (x : ℕ). 2 ^ x) (up j z e)) (mul-lt-mul-of-pos-right (L .4) (pow-pos z)) in
     let w : (m * 2 ^ z) % 2 ^ 32 ≡ m * 2 ^ z = shl-exact (suc j) z 32 (L .4) (fit j z e) in

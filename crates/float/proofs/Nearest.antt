@@ -1,20 +1,22 @@
--- The root that `specs/Root.antt` defines is the nearest float, strictly, and the only one: by whole-number comparison, for both roots at once. Assumes nothing.
+-- The root that `specs/Root.antt` defines is the nearest float, strictly, and the only one: by whole-number comparison, for both roots at once.
+-- Assumes nothing.
 use mathlib.Core.Path.{_≡_, refl, sym, ap, _∙_, subst}
 use mathlib.Core.Logic.{_⊎_, inl, inr, _≢_}
-use Prim.Native.Nat.{ℕ, zero, suc, _+_, _-_, _*_, _/_, _%_, _^_, _≤_, _<_, zero-le}
-use native.Mathlib.Nat.{le-refl, mul-le-mul, le-antisymm, le-trans, le-of-eq, le-of-lt, le-of-suc-le-suc, lt-of-lt-of-le, lt-of-le-of-lt, lt-irrefl, lt-of-not-le, zero-mul, mul-one, mul-assoc, add-mul, mul-add, mul-le-mul-right, mul-lt-mul-of-pos-right, lt-of-mul-lt-mul-right, eq-of-mul-eq-mul-right, pow-suc, pow-zero, pow-le-pow-left, pow-lt-pow-left, add-comm, mul-div-cancel, zero-div, div-add-mod', add-sub-of-le}
-use native.Mathlib.Numerals.{add-one}
+use Prim.Native.Nat.{ℕ, zero, suc, _+_, _-_, _*_, _/_, _%_, _^_, _≤_, _<_}
+use native.Mathlib.Nat.{le-refl, mul-le-mul, le-antisymm, le-trans, le-of-eq, le-of-lt, le-of-suc-le-suc, lt-of-lt-of-le, lt-of-le-of-lt, lt-irrefl}
+use native.Mathlib.Nat.{lt-of-not-le, mul-assoc, add-mul, mul-add, mul-le-mul-right, mul-lt-mul-of-pos-right, eq-of-mul-eq-mul-right, pow-suc}
+use native.Mathlib.Nat.{pow-zero, pow-le-pow-left, pow-lt-pow-left, add-comm, div-add-mod'}
 use native.Mathlib.Omega.{arith}
-use mathlib.Core.Bool.{Bool, true, false, not, cond}
+use mathlib.Core.Bool.{Bool, true, false, not}
 use lib.IntN.{ℤ}
 use lib.Arith.{lt-of-le-ne}
-use lib.Dec.{T, leb, ltb, eqb, eqb·suc-zero, lit<, lit≤, ltb→lt, nltb→le, leb→le, nleb→lt}
-use lib.Pow.{pow-add, pow-pos, pow-mono, shl-lt}
+use lib.Dec.{T, ltb, eqb, eqb·suc-zero, lit<, lit≤, ltb→lt, nltb→le}
+use lib.Pow.{pow-add, pow-pos, pow-mono}
 use lib.Ieee.{Float, nan, inf, fin, binary32, odd, fits}
 use lib.Ieee.Exact.{odd-sign}
 use lib.Ieee.Scale.{finite}
 use Rattle.floatlaws.specs.Whole.{mul-pow, pow-pow}
-use Rattle.floatlaws.specs.Value.{mag, negative, shape, mag-shape}
+use Rattle.floatlaws.specs.Value.{mag, negative}
 use Rattle.floatlaws.specs.Ops.{mag-pos}
 use Rattle.floatlaws.specs.Finite.{Fin}
 use Rattle.floatlaws.specs.Bits.{mag-val, made-fits, same-float}
@@ -29,7 +31,9 @@ use Rattle.float.proofs.Rounding.{root-digits, half, root-is}
 -- ---- a power of an odd number is odd, so it is no multiple of 2
 odd-power : (t n : ℕ) → t % 2 ≡ 1 → t ^ n % 2 ≡ 1
 odd-power t zero h = ap (λ (x : ℕ). x % 2) (pow-zero t)
-odd-power t (suc n) h = ap (λ (x : ℕ). x % 2) (pow-suc t n ∙ ap (λ (x : ℕ). t ^ n * x) (sym (div-add-mod' t 2) ∙ ap (λ (x : ℕ). t / 2 * 2 + x) h) ∙ mul-add (t ^ n) (t / 2 * 2) 1) ∙ both (t ^ n) (t / 2) (odd-power t n h)
+odd-power t (suc n) h =
+    ap (λ (x : ℕ). x % 2) (pow-suc t n ∙ ap (λ (x : ℕ). t ^ n * x) (sym (div-add-mod' t 2) ∙ ap (λ (x : ℕ). t / 2 * 2 + x) h)
+    ∙ mul-add (t ^ n) (t / 2 * 2) 1) ∙ both (t ^ n) (t / 2) (odd-power t n h)
   where
     even : (z p : ℕ) → p % 2 ≡ 1 → (z * 2 + p * 1) % 2 ≡ 1
     even z p h = omega arith
@@ -76,7 +80,8 @@ not-zero : {n : ℕ} → suc n ≢ zero
 not-zero e = omega arith
 
 -- ---- both roots: n, c, u, m, s and t are as in `Rounding.antt`, c is above 0, and suc n divides 150
-module _ (n c : ℕ) (g : 24 * suc n + 1 ≡ 24 + suc c) (v : 150 / suc n * suc n ≡ 150) (w : 150 / suc n ≤ 126) (u m s t : ℕ) (P : Split u m s) (lo : t ^ suc n ≤ m * 2 ^ (suc c + s % suc n)) (hi : m * 2 ^ (suc c + s % suc n) < (t + 1) ^ suc n) where
+module _ (n c : ℕ) (g : 24 * suc n + 1 ≡ 24 + suc c) (v : 150 / suc n * suc n ≡ 150) (w : 150 / suc n ≤ 126) (u m s t : ℕ) (P : Split u m s)
+    (lo : t ^ suc n ≤ m * 2 ^ (suc c + s % suc n)) (hi : m * 2 ^ (suc c + s % suc n) < (t + 1) ^ suc n) where
   -- the radicand in units: of x's own, and of r's
   scaled : m * 2 ^ (suc c + s % suc n) * (2 ^ (s / suc n + 126 - 150 / suc n)) ^ suc n ≡ u * 2 ^ suc n * 2 ^ (149 * (suc n - 1))
   scaled =
@@ -88,12 +93,14 @@ module _ (n c : ℕ) (g : 24 * suc n + 1 ≡ 24 + suc c) (v : 150 / suc n * suc 
       eq-of-mul-eq-mul-right (2 ^ 150) (pow-pos 150) (W * (2 ^ K) ^ N) (u * 2 ^ N * 2 ^ (149 * (N - 1)))
       (mul-assoc W ((2 ^ K) ^ N) (2 ^ 150)
       ∙ ap (λ (x : ℕ). W * ((2 ^ K) ^ N * x)) (ap (λ (x : ℕ). 2 ^ x) (sym v) ∙ sym (pow-pow 2 H N))
-      ∙ ap (λ (x : ℕ). W * x) (sym (mul-pow (2 ^ K) (2 ^ H) N) ∙ ap (λ (x : ℕ). x ^ N) (sym (pow-add 2 K H) ∙ ap (λ (x : ℕ). 2 ^ x) (back d H w) ∙ pow-add 2 d 126) ∙ mul-pow (2 ^ d) (2 ^ 126) N)
+      ∙ ap (λ (x : ℕ). W * x) (sym (mul-pow (2 ^ K) (2 ^ H) N)
+      ∙ ap (λ (x : ℕ). x ^ N) (sym (pow-add 2 K H) ∙ ap (λ (x : ℕ). 2 ^ x) (back d H w) ∙ pow-add 2 d 126) ∙ mul-pow (2 ^ d) (2 ^ 126) N)
       ∙ sym (mul-assoc W ((2 ^ d) ^ N) ((2 ^ 126) ^ N))
       ∙ ap (λ (x : ℕ). x * (2 ^ 126) ^ N) (sym (radicand N (suc c) u m s d (s % N) (P .same) (sym (div-add-mod' s N))))
       ∙ ap (λ (x : ℕ). u * 2 ^ (24 + suc c) * x) (pow-pow 2 126 N)
       ∙ mul-assoc u (2 ^ (24 + suc c)) (2 ^ (126 * N))
-      ∙ ap (λ (x : ℕ). u * x) (sym (pow-add 2 (24 + suc c) (126 * N)) ∙ ap (λ (x : ℕ). 2 ^ x) (exponents n c g) ∙ pow-add 2 (N + 149 * (N - 1)) 150 ∙ ap (λ (x : ℕ). x * 2 ^ 150) (pow-add 2 N (149 * (N - 1))))
+      ∙ ap (λ (x : ℕ). u * x) (sym (pow-add 2 (24 + suc c) (126 * N)) ∙ ap (λ (x : ℕ). 2 ^ x) (exponents n c g) ∙ pow-add 2 (N + 149 * (N - 1)) 150
+      ∙ ap (λ (x : ℕ). x * 2 ^ 150) (pow-add 2 N (149 * (N - 1))))
       ∙ sym (mul-assoc u (2 ^ N * 2 ^ (149 * (N - 1))) (2 ^ 150))
       ∙ ap (λ (x : ℕ). x * 2 ^ 150) (sym (mul-assoc u (2 ^ N) (2 ^ (149 * (N - 1))))))
     where
@@ -117,25 +124,30 @@ module _ (n c : ℕ) (g : 24 * suc n + 1 ≡ 24 + suc c) (v : 150 / suc n * suc 
   upper : u * 2 ^ suc n * 2 ^ (149 * (suc n - 1)) < ((t + 1) * 2 ^ (s / suc n + 126 - 150 / suc n)) ^ suc n
   upper =
       let K = s / suc n + 126 - 150 / suc n in
-      lt-of-le-of-lt (le-of-eq (sym scaled)) (lt-of-lt-of-le (mul-lt-mul-of-pos-right hi powers-pos) (le-of-eq (sym (mul-pow (t + 1) (2 ^ K) (suc n)))))
+      lt-of-le-of-lt (le-of-eq (sym scaled))
+      (lt-of-lt-of-le (mul-lt-mul-of-pos-right hi powers-pos) (le-of-eq (sym (mul-pow (t + 1) (2 ^ K) (suc n)))))
 
   lower-odd : t % 2 ≡ 1 → (t * 2 ^ (s / suc n + 126 - 150 / suc n)) ^ suc n < u * 2 ^ suc n * 2 ^ (149 * (suc n - 1))
   lower-odd h =
       let K = s / suc n + 126 - 150 / suc n in
       lt-of-le-of-lt (le-of-eq (mul-pow t (2 ^ K) (suc n)))
-      (lt-of-lt-of-le (mul-lt-mul-of-pos-right (lt-of-le-ne lo (λ (e : t ^ suc n ≡ m * 2 ^ (suc c + s % suc n)). no-tie t (suc n) m (c + s % suc n) h (e ∙ ap (λ (x : ℕ). m * 2 ^ x) (shift c (s % suc n))))) powers-pos) (le-of-eq scaled))
+      (lt-of-lt-of-le (mul-lt-mul-of-pos-right
+      (lt-of-le-ne lo (λ (e : t ^ suc n ≡ m * 2 ^ (suc c + s % suc n)). no-tie t (suc n) m (c + s % suc n) h
+      (e ∙ ap (λ (x : ℕ). m * 2 ^ x) (shift c (s % suc n))))) powers-pos) (le-of-eq scaled))
     where
       shift : (c j : ℕ) → suc c + j ≡ suc (c + j)
       shift c j = omega arith
 
-  below-side : (b : ℕ) → Held binary32 b → b < (t + 1) / 2 * 2 ^ (s / suc n + 126 - 150 / suc n) → ((t + 1) / 2 * 2 ^ (s / suc n + 126 - 150 / suc n) + b) ^ suc n < u * 2 ^ suc n * 2 ^ (149 * (suc n - 1))
+  below-side : (b : ℕ) → Held binary32 b → b < (t + 1) / 2 * 2 ^ (s / suc n + 126 - 150 / suc n)
+      → ((t + 1) / 2 * 2 ^ (s / suc n + 126 - 150 / suc n) + b) ^ suc n < u * 2 ^ suc n * 2 ^ (149 * (suc n - 1))
   below-side b B l = go (parity t (root-digits n (suc c) g u m s t P lo hi .0))
     where
       go : Parity t → ((t + 1) / 2 * 2 ^ (s / suc n + 126 - 150 / suc n) + b) ^ suc n < u * 2 ^ suc n * 2 ^ (149 * (suc n - 1))
       go (inl e) =
           let E = 2 ^ (s / suc n + 126 - 150 / suc n) in
           let q = (t + 1) / 2 in
-          lt-of-lt-of-le (pow-lt-pow-left (lt-of-lt-of-le (more (q * E) b l) (le-of-eq (sym (add-mul q q E) ∙ ap (λ (x : ℕ). x * E) (sym e)))) not-zero) lower
+          lt-of-lt-of-le (pow-lt-pow-left
+          (lt-of-lt-of-le (more (q * E) b l) (le-of-eq (sym (add-mul q q E) ∙ ap (λ (x : ℕ). x * E) (sym e)))) not-zero) lower
       go (inr o) =
           let K = s / suc n + 126 - 150 / suc n in
           let p = t / 2 in
@@ -143,7 +155,8 @@ module _ (n c : ℕ) (g : 24 * suc n + 1 ≡ 24 + suc c) (v : 150 / suc n * suc 
           lt-of-le-of-lt
           (pow-le-pow-left
           (le-trans (le-of-eq (ap (λ (x : ℕ). x * 2 ^ K + b) (o .1)))
-          (le-trans (more-le (suc p * 2 ^ K) b (p * 2 ^ K) (spaced-down binary32 K b B p (λ _. o .3) l′)) (le-of-eq (sym (add-mul (suc p) p (2 ^ K)) ∙ ap (λ (x : ℕ). x * 2 ^ K) (sym (o .2))))))
+          (le-trans (more-le (suc p * 2 ^ K) b (p * 2 ^ K) (spaced-down binary32 K b B p (λ _. o .3) l′))
+          (le-of-eq (sym (add-mul (suc p) p (2 ^ K)) ∙ ap (λ (x : ℕ). x * 2 ^ K) (sym (o .2))))))
           (suc n))
           (lower-odd (o .0))
 
@@ -152,7 +165,8 @@ module _ (n c : ℕ) (g : 24 * suc n + 1 ≡ 24 + suc c) (v : 150 / suc n * suc 
     λ l.
         lt-of-lt-of-le upper
         (pow-le-pow-left
-        (over t ((t + 1) / 2) (2 ^ (s / suc n + 126 - 150 / suc n)) b (covers t) (spaced-up binary32 (s / suc n + 126 - 150 / suc n) b B ((t + 1) / 2) (λ _. half n (suc c) g u m s t P lo hi .0) l))
+        (over t ((t + 1) / 2) (2 ^ (s / suc n + 126 - 150 / suc n)) b (covers t)
+        (spaced-up binary32 (s / suc n + 126 - 150 / suc n) b B ((t + 1) / 2) (λ _. half n (suc c) g u m s t P lo hi .0) l))
         (suc n)),
     λ l. below-side b B l,
   )
@@ -186,11 +200,14 @@ module _ (n c : ℕ) (g : 24 * suc n + 1 ≡ 24 + suc c) (D : Degree (suc n)) wh
       (record {
         is = record { fit = F; finite = O .0 };
         sign = O .1;
-        nearest = λ y Y. subst (λ (a : ℕ). Nearer (suc n) u a (mag binary32 y)) (sym Z) (nearer n c g (D .divides) (D .few) u m s t P (I .0) (I .1) (mag binary32 y) (held Y));
+        nearest =
+            λ y Y. subst (λ (a : ℕ). Nearer (suc n) u a (mag binary32 y)) (sym Z)
+            (nearer n c g (D .divides) (D .few) u m s t P (I .0) (I .1) (mag binary32 y) (held Y));
       })
 
   -- the root of every finite value that is not zero, with either sign
-  nearest : {x : Float} (b : Bool) → Fin binary32 x → 0 < mag binary32 x → NearestRoot (suc n) b (mag binary32 x) (rootOfUnits (suc n) b (mag binary32 x))
+  nearest : {x : Float} (b : Bool) → Fin binary32 x → 0 < mag binary32 x
+      → NearestRoot (suc n) b (mag binary32 x) (rootOfUnits (suc n) b (mag binary32 x))
   nearest {x} b p h = let d = halved p h in of-split b (mag binary32 x) (d .m) (d .s) (d .split)
 
 pub nearest-2 : {x : Float} (b : Bool) → Fin binary32 x → 0 < mag binary32 x → NearestRoot 2 b (mag binary32 x) (rootOfUnits 2 b (mag binary32 x))
@@ -209,7 +226,8 @@ nearest-3 b p h = nearest 2 48 refl (record { divides = refl; few = lit≤ tt; r
 some : (m : ℕ) → T (not (eqb (suc m) 0))
 some m = rw (eqb·suc-zero m) tt
 
-pub finite-above : (s : Bool) (m : ℕ) (e : ℤ) → T (fits binary32 (fin s (suc m) e)) → Fin binary32 (fin s (suc m) e) × (0 < mag binary32 (fin s (suc m) e))
+pub finite-above : (s : Bool) (m : ℕ) (e : ℤ) → T (fits binary32 (fin s (suc m) e))
+    → Fin binary32 (fin s (suc m) e) × (0 < mag binary32 (fin s (suc m) e))
 finite-above s m e F = (record { fit = F; finite = tt }, mag-pos binary32 s (suc m) e F (some m))
 
 pub sqrt-is : (x : Float) → T (fits binary32 x) → IsSqrt x (sqrtOf x)
@@ -231,7 +249,9 @@ cbrt-is (fin s (suc m) e) F = let p = finite-above s m e F in nearest-3 s (p .0)
 -- ---- nearer to one is farther from the other, so of two numbers' nearest roots the larger number's is the larger, or the same
 clash : (n : ℕ) {u v a b : ℕ} → u ≤ v → Nearer n u a b → Nearer n v b a → b < a → ⊥
 clash n {u} {v} {a} {b} h X Y l =
-    lt-irrefl _ (lt-of-lt-of-le (Y .0 l) (le-trans (le-of-eq (ap (λ (z : ℕ). z ^ n) (add-comm b a))) (le-trans (le-of-lt (X .1 l)) (mul-le-mul-right (2 ^ (149 * (n - 1))) (mul-le-mul-right (2 ^ n) h)))))
+    lt-irrefl _ (lt-of-lt-of-le (Y .0 l)
+    (le-trans (le-of-eq (ap (λ (z : ℕ). z ^ n) (add-comm b a)))
+    (le-trans (le-of-lt (X .1 l)) (mul-le-mul-right (2 ^ (149 * (n - 1))) (mul-le-mul-right (2 ^ n) h)))))
 
 pub root-mono : {n : ℕ} {s t : Bool} {u v : ℕ} {x y : Float} → NearestRoot n s u x → NearestRoot n t v y → u ≤ v → mag binary32 x ≤ mag binary32 y
 root-mono {n} {x = x} {y = y} X Y h =

@@ -1,18 +1,18 @@
--- The roots keep the order, and the square root of what is not negative is a number that is not negative. A root is a zero, +∞ or the nearest float of its number (`Plain`),
+-- The roots keep the order, and the square root of what is not negative is a number that is not negative. A root is a zero, +∞ or the nearest float
+-- of its number (`Plain`),
 -- and of two numbers the larger one's nearest root is no smaller (`root-mono`). Assumes nothing.
-use mathlib.Core.Path.{_≡_, refl, sym, ap, _∙_, subst}
+use mathlib.Core.Path.{_≡_, refl, sym, _∙_, subst}
 use mathlib.Core.Logic.{_⊎_, inl, inr}
 use Prim.Native.Nat.{ℕ, zero, suc, _+_, _-_, _*_, _/_, _^_, _≤_, _<_}
-use native.Mathlib.Nat.{le-trans, le-of-eq, lt-of-lt-of-le, lt-of-le-of-lt, lt-irrefl, not-le-of-lt, zero-mul, zero-div}
+use native.Mathlib.Nat.{le-trans, le-of-eq, lt-of-lt-of-le, lt-of-le-of-lt, lt-irrefl, not-le-of-lt}
 use native.Mathlib.Omega.{arith}
 use mathlib.Core.Bool.{Bool, true, false, not}
 use lib.IntN.{ℤ}
-use lib.Dec.{T, eqb, eqb·suc-zero}
+use lib.Dec.{T}
 use lib.Ieee.{Float, nan, inf, fin, binary32, up, down, size, odd, neg, isNan, fits}
 use lib.Ieee.Fits.{inf-fits}
-use Rattle.floatlaws.specs.Value.{limit, big, mag, hi, lo, negative, Num, one-side, both-sides, mag-under, overflow-le-big, overflow-pos}
-use Rattle.floatlaws.specs.Order.{Le, sides, neg-anti, neg-num, hi-neg, lo-neg}
-use Rattle.floatlaws.specs.Ops.{mag-pos}
+use Rattle.floatlaws.specs.Value.{limit, big, mag, hi, lo, negative, Num, one-side, both-sides, overflow-le-big, overflow-pos}
+use Rattle.floatlaws.specs.Order.{Le, sides, neg-num, hi-neg, lo-neg}
 use Rattle.floatlaws.specs.Finite.{Fin, num, fin-under, fin-of, mag-zero}
 use Rattle.floatlaws.specs.Interval.{In, within, plain}
 use Rattle.float.specs.Root.{iroot, rootOfUnits, sqrtOf, cbrtOf}
@@ -72,7 +72,8 @@ plain-mono {r = r} {s = s} (some p k N) (some q l M) h =
 
 -- ---- a root by its cases is such
 module _ (n : ℕ) (root : Float → Float) (at-inf : root (inf false) ≡ inf false) (at-zero : (s : Bool) (e : ℤ) → root (fin s 0 e) ≡ fin s 0 e)
-    (at-value : (m : ℕ) (e : ℤ) → T (fits binary32 (fin false (suc m) e)) → NearestRoot n false (mag binary32 (fin false (suc m) e)) (root (fin false (suc m) e))) where
+    (at-value : (m : ℕ) (e : ℤ) → T (fits binary32 (fin false (suc m) e)) → NearestRoot n false (mag binary32 (fin false (suc m) e))
+    (root (fin false (suc m) e))) where
   plain-root : {x : Float} → Num binary32 x → lo binary32 x ≡ 0 → Plain n x (root x)
   plain-root {x = nan} p z = absurd (unfold isNan in p .real)
   plain-root {x = inf true} p z = absurd (lt-irrefl 0 (lt-of-lt-of-le big-pos (le-of-eq (unfold lo mag in z))))
@@ -86,7 +87,8 @@ module _ (n : ℕ) (root : Float → Float) (at-inf : root (inf false) ≡ inf f
   plain-root {x = fin false (suc m) e} p z =
       let q = finite-above false m e (p .fit) in
       let h = sides-of (fin false (suc m) e) refl .0 in
-      some (q .0) (subst (λ (k : ℕ). 0 < k) (sym h) (q .1)) (subst (λ (k : ℕ). NearestRoot n false k (root (fin false (suc m) e))) (sym h) (at-value m e (p .fit)))
+      some (q .0) (subst (λ (k : ℕ). 0 < k) (sym h) (q .1))
+      (subst (λ (k : ℕ). NearestRoot n false k (root (fin false (suc m) e))) (sym h) (at-value m e (p .fit)))
 
 sqrt-plain : {x : Float} → Num binary32 x → lo binary32 x ≡ 0 → Plain 2 x (sqrtOf x)
 unfolding sqrtOf
@@ -154,7 +156,8 @@ cbrt-neg (fin s zero e) = refl
 cbrt-neg (fin s (suc m) e) = root-neg 3 s (suc m * up e * 2 ^ 149 / down e)
 
 -- of the sign of x, with the sides of its root and of that of -x
-pub cbrt-num : {x : Float} → Num binary32 x → Num binary32 (cbrtOf x) × ((lo binary32 x ≡ 0 → lo binary32 (cbrtOf x) ≡ 0) × (hi binary32 x ≡ 0 → hi binary32 (cbrtOf x) ≡ 0))
+pub cbrt-num : {x : Float} → Num binary32 x
+    → Num binary32 (cbrtOf x) × ((lo binary32 x ≡ 0 → lo binary32 (cbrtOf x) ≡ 0) × (hi binary32 x ≡ 0 → hi binary32 (cbrtOf x) ≡ 0))
 cbrt-num {x} p = (
   elim (one-side binary32 x) [
     | inl z ↦ back (cbrtOf x) (plain-num (below z) .0)
@@ -177,7 +180,8 @@ cbrt-mono {x} {y} p q h = go (one-side binary32 x) (one-side binary32 y)
 
     down : hi binary32 x ≡ 0 → hi binary32 y ≡ 0 → Le binary32 (cbrtOf x) (cbrtOf y)
     down a b =
-        let l : hi binary32 (neg y) ≤ hi binary32 (neg x) = le-trans (le-of-eq (hi-neg binary32 y)) (le-trans (sides h .1) (le-of-eq (sym (hi-neg binary32 x)))) in
+        let l : hi binary32 (neg y) ≤ hi binary32 (neg x) =
+        le-trans (le-of-eq (hi-neg binary32 y)) (le-trans (sides h .1) (le-of-eq (sym (hi-neg binary32 x)))) in
         let m = plain-mono (cbrt-plain (neg-num q) (lo-neg binary32 y ∙ b)) (cbrt-plain (neg-num p) (lo-neg binary32 x ∙ a)) l in
         let k = rw (cbrt-neg y, cbrt-neg x) at m in
         omega (arith, hi-neg binary32 (cbrtOf x), lo-neg binary32 (cbrtOf x), hi-neg binary32 (cbrtOf y), lo-neg binary32 (cbrtOf y))

@@ -1,13 +1,14 @@
 -- Each root of an f32 above zero is the pattern that the program makes, and the special values. Assumes nothing.
 use mathlib.Core.Path.{_≡_, refl, sym, ap, _∙_, subst}
 use Prim.Native.Nat.{ℕ, suc, _+_, _-_, _*_, _/_, _%_, _^_, _≤_, _<_}
-use native.Mathlib.Nat.{le-trans, le-of-eq, le-of-suc-le-suc, lt-of-lt-of-le, lt-of-le-of-lt, zero-lt-suc, le-add-right, zero-add, one-mul, mul-assoc, mul-le-mul, mul-lt-mul-of-pos-right, mul-le-mul-left, pow-suc, pow-zero, mod-lt, div-add-mod'}
+use native.Mathlib.Nat.{le-trans, le-of-eq, le-of-suc-le-suc, lt-of-lt-of-le, lt-of-le-of-lt, zero-lt-suc, le-add-right, zero-add, one-mul, mul-assoc}
+use native.Mathlib.Nat.{mul-le-mul, mul-lt-mul-of-pos-right, mul-le-mul-left, pow-suc, pow-zero, mod-lt, div-add-mod'}
 use native.Mathlib.Numerals.{add-one}
 use native.Mathlib.Omega.{arith}
 use mathlib.Core.Bool.{Bool, true, false, not, cond}
-use lib.Dec.{T, lit<, leb, ltb, leb→le, nleb→lt, ltb→lt, nltb→le}
+use lib.Dec.{T, lit<, leb, ltb, ltb→lt, nltb→le}
 use lib.Pow.{pow-add, pow-pos, pow-mono, shl-lt, shl-exact}
-use lib.Ieee.{Float, nan, inf, fin, binary32, odd, ofBits, toBits, isNan, nanBits, fits, ne, div}
+use lib.Ieee.{Float, nan, inf, fin, binary32, odd, ofBits, toBits, isNan, nanBits, fits, ne}
 use borrow.Author.Tests.{lt-leb, le-leb}
 use Rattle.float.specs.Root.{rootOfUnits, sqrtOf, cbrtOf}
 use Rattle.float.specs.Parts.{Split}
@@ -33,8 +34,10 @@ moved-lt m c h k = shl-exact 24 c 64 h (fit c k)
 pub moved-below : (m c hi : ℕ) → m < 0x100_0000 → c ≤ hi → m * 2 ^ c < 0x100_0000 * 2 ^ hi
 moved-below m c hi b h = lt-of-lt-of-le (mul-lt-mul-of-pos-right b (pow-pos c)) (mul-le-mul-left 0x100_0000 (pow-mono h))
 
--- ---- both roots. n is one less than the root's degree. u, in units, is m * 2 ^ (s - 24), and t is the whole part of the root of m * 2 ^ (c + s % suc n): it has 25 digits, and half of it, rounded up, is the significand of the root of u.
-module _ (n c : ℕ) (g : 24 * suc n + 1 ≡ 24 + c) (u m s t : ℕ) (P : Split u m s) (lo : t ^ suc n ≤ m * 2 ^ (c + s % suc n)) (hi : m * 2 ^ (c + s % suc n) < (t + 1) ^ suc n) where
+-- ---- both roots. n is one less than the root's degree. u, in units, is m * 2 ^ (s - 24), and t is the whole part of the root of m * 2 ^ (c + s %
+-- suc n): it has 25 digits, and half of it, rounded up, is the significand of the root of u.
+module _ (n c : ℕ) (g : 24 * suc n + 1 ≡ 24 + c) (u m s t : ℕ) (P : Split u m s) (lo : t ^ suc n ≤ m * 2 ^ (c + s % suc n))
+    (hi : m * 2 ^ (c + s % suc n) < (t + 1) ^ suc n) where
   pub left-over : s % suc n ≤ n
   left-over = le-of-suc-le-suc (mod-lt s (zero-lt-suc n))
 
@@ -43,7 +46,8 @@ module _ (n c : ℕ) (g : 24 * suc n + 1 ≡ 24 + c) (u m s t : ℕ) (P : Split 
   root-digits =
       let j = s % suc n in
       let a : 0x100_0000 ^ suc n ≤ m * 2 ^ (c + j) =
-      le-trans (le-of-eq (pow-pow 2 24 (suc n) ∙ ap (λ (x : ℕ). 2 ^ x) (low n c g) ∙ pow-add 2 23 c)) (mul-le-mul (P .least) (pow-mono (le-add-right c j))) in
+      le-trans (le-of-eq (pow-pow 2 24 (suc n) ∙ ap (λ (x : ℕ). 2 ^ x) (low n c g) ∙ pow-add 2 23 c))
+      (mul-le-mul (P .least) (pow-mono (le-add-right c j))) in
       let b : m * 2 ^ (c + j) < 0x200_0000 ^ suc n =
       lt-of-lt-of-le (shl-lt 24 (c + j) (P .under)) (le-trans (pow-mono (high n c j g left-over)) (le-of-eq (sym (pow-pow 2 25 (suc n))))) in
       (le-of-suc-le-suc (le-trans (root-lt (suc n) (lt-of-le-of-lt a hi)) (le-of-eq (add-one t))), root-lt (suc n) (lt-of-le-of-lt lo b))
@@ -67,11 +71,15 @@ module _ (n c : ℕ) (g : 24 * suc n + 1 ≡ 24 + c) (u m s t : ℕ) (P : Split 
   room k a b = lt-of-le-of-lt (mul-le-mul a (pow-mono b)) (lit< tt)
 
   -- k is the exponent, as the program has it
-  pub root-made : (b : Bool) (k : ℕ) → s / suc n + 126 - 150 / suc n ≡ k → k ≤ 252 → rootOfUnits (suc n) b u ≡ ofBits binary32 (cond b 0x8000_0000 0 + (k * 0x80_0000 + (t + 1) / 2))
-  root-made b k e h = root-is b ∙ ap (λ (x : ℕ). odd 25 b ((t + 1) / 2) x 149) e ∙ sym (made binary32 b ((t + 1) / 2) k (half .0) (half .1) (room k (half .1) h))
+  pub root-made : (b : Bool) (k : ℕ) → s / suc n + 126 - 150 / suc n ≡ k → k ≤ 252
+      → rootOfUnits (suc n) b u ≡ ofBits binary32 (cond b 0x8000_0000 0 + (k * 0x80_0000 + (t + 1) / 2))
+  root-made b k e h =
+      root-is b ∙ ap (λ (x : ℕ). odd 25 b ((t + 1) / 2) x 149) e ∙ sym (made binary32 b ((t + 1) / 2) k (half .0) (half .1) (room k (half .1) h))
 
   pub root-no-nan : (b : Bool) (k : ℕ) → k ≤ 252 → T (not (nanBits binary32 (cond b 0x8000_0000 0 + (k * 0x80_0000 + (t + 1) / 2))))
-  root-no-nan b k h = real-pattern binary32 (cond b 0x8000_0000 0 + (k * 0x80_0000 + (t + 1) / 2)) (le-trans (le-of-eq (unsigned binary32 b (k * 0x80_0000 + (t + 1) / 2) (small k (half .1) h .1))) (small k (half .1) h .0))
+  root-no-nan b k h =
+      real-pattern binary32 (cond b 0x8000_0000 0 + (k * 0x80_0000 + (t + 1) / 2))
+      (le-trans (le-of-eq (unsigned binary32 b (k * 0x80_0000 + (t + 1) / 2) (small k (half .1) h .1))) (small k (half .1) h .0))
     where
       small : (k : ℕ) {q : ℕ} → q ≤ 0x100_0000 → k ≤ 252 → (k * 0x80_0000 + q ≤ 0x7f80_0000) × (k * 0x80_0000 + q < 0x8000_0000)
       small k a b = omega arith
@@ -91,16 +99,21 @@ module _ (u m s t : ℕ) (P : Split u m s) (lo : t * t ≤ m * 2 ^ (25 + s % 2))
   small2 = omega (arith, P .far)
 
   pub sqrt-made : rootOfUnits 2 false u ≡ ofBits binary32 ((s / 2 + 51) * 0x80_0000 + (t + 1) / 2)
-  sqrt-made = root-made 1 25 refl u m s t P lo2 hi2 false (s / 2 + 51) (exponent (s / 2)) small2 ∙ ap (ofBits binary32) (zero-add ((s / 2 + 51) * 0x80_0000 + (t + 1) / 2))
+  sqrt-made =
+      root-made 1 25 refl u m s t P lo2 hi2 false (s / 2 + 51) (exponent (s / 2)) small2
+      ∙ ap (ofBits binary32) (zero-add ((s / 2 + 51) * 0x80_0000 + (t + 1) / 2))
     where
       exponent : (d : ℕ) → d + 126 - 75 ≡ d + 51
       exponent d = omega arith
 
   pub sqrt-no-nan : T (not (nanBits binary32 ((s / 2 + 51) * 0x80_0000 + (t + 1) / 2)))
-  sqrt-no-nan = subst (λ (b : ℕ). T (not (nanBits binary32 b))) (zero-add ((s / 2 + 51) * 0x80_0000 + (t + 1) / 2)) (root-no-nan 1 25 refl u m s t P lo2 hi2 false (s / 2 + 51) small2)
+  sqrt-no-nan =
+      subst (λ (b : ℕ). T (not (nanBits binary32 b))) (zero-add ((s / 2 + 51) * 0x80_0000 + (t + 1) / 2))
+      (root-no-nan 1 25 refl u m s t P lo2 hi2 false (s / 2 + 51) small2)
 
 -- ---- the cube root: the program has the root of a * 2 ^ 48, with a for m * 2 ^ (1 + s % 3)
-module _ (u m s t : ℕ) (P : Split u m s) (lo : t * t * t ≤ m * 2 ^ (1 + s % 3) * 2 ^ 48) (hi : m * 2 ^ (1 + s % 3) * 2 ^ 48 < (t + 1) * (t + 1) * (t + 1)) where
+module _ (u m s t : ℕ) (P : Split u m s) (lo : t * t * t ≤ m * 2 ^ (1 + s % 3) * 2 ^ 48)
+    (hi : m * 2 ^ (1 + s % 3) * 2 ^ 48 < (t + 1) * (t + 1) * (t + 1)) where
   whole : m * 2 ^ (1 + s % 3) * 2 ^ 48 ≡ m * 2 ^ (49 + s % 3)
   whole = mul-assoc m (2 ^ (1 + s % 3)) (2 ^ 48) ∙ ap (λ (x : ℕ). m * x) (sym (pow-add 2 (1 + s % 3) 48) ∙ ap (λ (x : ℕ). 2 ^ x) (sum (s % 3)))
     where
@@ -160,22 +173,28 @@ sqrt-zero x F e = subst (λ (y : Float). y ≡ sqrtOf y) (sym (by-zero binary32 
 pub clear : (b : ℕ) → (b % 0x8000_0000 ≡ 0 → ⊥) → b ≤ 0x8000_0000 → (b % 0x8000_0000 ≡ b) × (b < 0x8000_0000) × (0 < b)
 clear b h k = (omega arith, omega arith, omega arith)
 
-pub sqrt-inf : (x : Float) → T (fits binary32 x) → T (not (isNan x)) → toBits binary32 x < 0x8000_0000 → 0x7f80_0000 ≤ toBits binary32 x % 0x8000_0000 → x ≡ sqrtOf x
+pub sqrt-inf : (x : Float) → T (fits binary32 x) → T (not (isNan x)) → toBits binary32 x < 0x8000_0000
+    → 0x7f80_0000 ≤ toBits binary32 x % 0x8000_0000 → x ≡ sqrtOf x
 unfolding sqrtOf
 sqrt-inf x F n l h = subst (λ (y : Float). y ≡ sqrtOf y) (sym (by-inf binary32 x F n h ∙ ap inf (lt-leb 0x8000_0000 (toBits binary32 x) l))) refl
 
-pub sqrt-finite : (x : Float) → T (fits binary32 x) → toBits binary32 x < 0x8000_0000 → 0 < toBits binary32 x % 0x8000_0000 → toBits binary32 x % 0x8000_0000 < 0x7f80_0000
+pub sqrt-finite : (x : Float) → T (fits binary32 x) → toBits binary32 x < 0x8000_0000 → 0 < toBits binary32 x % 0x8000_0000
+    → toBits binary32 x % 0x8000_0000 < 0x7f80_0000
     → sqrtOf x ≡ rootOfUnits 2 false (valueOf binary32 (toBits binary32 x % 0x8000_0000))
 unfolding sqrtOf
 sqrt-finite x F l h k =
     let z = by-value binary32 x F h k in
     ap sqrtOf (z .is ∙ ap (λ (s : Bool). fin s (suc (z .m)) (z .e)) (lt-leb 0x8000_0000 (toBits binary32 x) l)) ∙ ap (rootOfUnits 2 false) (z .size)
 
-pub sqrt-negative : (x : Float) → T (fits binary32 x) → T (not (isNan x)) → 0x8000_0000 ≤ toBits binary32 x → 0 < toBits binary32 x % 0x8000_0000 → sqrtOf x ≡ nan
+pub sqrt-negative : (x : Float) → T (fits binary32 x) → T (not (isNan x)) → 0x8000_0000 ≤ toBits binary32 x → 0 < toBits binary32 x % 0x8000_0000
+    → sqrtOf x ≡ nan
 unfolding sqrtOf
-sqrt-negative x F n l h = go (ltb (toBits binary32 x % 0x8000_0000) 0x7f80_0000) (ltb→lt (toBits binary32 x % 0x8000_0000) 0x7f80_0000) (nltb→le (toBits binary32 x % 0x8000_0000) 0x7f80_0000)
+sqrt-negative x F n l h =
+    go (ltb (toBits binary32 x % 0x8000_0000) 0x7f80_0000) (ltb→lt (toBits binary32 x % 0x8000_0000) 0x7f80_0000)
+    (nltb→le (toBits binary32 x % 0x8000_0000) 0x7f80_0000)
   where
-    go : (b : Bool) → (T b → toBits binary32 x % 0x8000_0000 < 0x7f80_0000) → (T (not b) → 0x7f80_0000 ≤ toBits binary32 x % 0x8000_0000) → sqrtOf x ≡ nan
+    go : (b : Bool) → (T b → toBits binary32 x % 0x8000_0000 < 0x7f80_0000) → (T (not b) → 0x7f80_0000 ≤ toBits binary32 x % 0x8000_0000)
+        → sqrtOf x ≡ nan
     go true y w =
         let z = by-value binary32 x F h (y tt) in
         ap sqrtOf (z .is ∙ ap (λ (s : Bool). fin s (suc (z .m)) (z .e)) (le-leb 0x8000_0000 (toBits binary32 x) l))

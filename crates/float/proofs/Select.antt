@@ -1,18 +1,19 @@
--- The laws of `abs`, `max`, `min` and `clamp`, for either format. A test of two numbers says which is the larger, so each answer comes with an order (`max-rule`, `min-rule`, `clamp-rule`),
--- and a law of the answer is that law of each operand where it is the answer. A NaN is below nothing, so it is taken only where both operands are. Assumes nothing.
+-- The laws of `abs`, `max`, `min` and `clamp`, for either format. A test of two numbers says which is the larger, so each answer comes with an order
+-- (`max-rule`, `min-rule`, `clamp-rule`),
+-- and a law of the answer is that law of each operand where it is the answer. A NaN is below nothing, so it is taken only where both operands are.
+-- Assumes nothing.
 use mathlib.Core.Path.{_≡_, refl, sym, ap, _∙_, subst}
 use mathlib.Core.Logic.{_⊎_, inl, inr}
-use Prim.Native.Nat.{ℕ, zero, suc, _+_, _≤_, _<_, zero-le}
+use Prim.Native.Nat.{ℕ, suc, _<_, zero-le}
 use native.Mathlib.Nat as Nat
 use native.Mathlib.Nat.{le-step, le-of-suc-le-suc, eq-or-lt-of-le, not-suc-le-zero}
 use native.Mathlib.Omega.{arith}
 use mathlib.Core.Bool.{Bool, true, false, not, cond, _||_}
 use lib.Dec.{T}
 use lib.Ieee.{Float, nan, inf, fin, Format, lt, neg, isNan, fits}
-use lib.Ieee.Fits.{inf-fits, neg-fits, cond-fits}
+use lib.Ieee.Fits.{inf-fits, neg-fits}
 use Rattle.floatlaws.specs.Value.{mag, hi, lo, Num, mag-le, one-side, both-sides}
 use Rattle.floatlaws.specs.Order.{Le, Lt, of-lt, of-not-lt, le-refl, le-trans, of-sides, hi-neg, lo-neg}
-use Rattle.floatlaws.specs.Ops.{Real}
 use Rattle.floatlaws.specs.Finite.{Fin, num}
 use Rattle.float.specs.Select.{abs, max, min, clamp}
 
@@ -154,17 +155,20 @@ nan-or-num (fin s m e) F = inr (record { fit = F; real = unfold isNan in tt })
 module _ {f : Format} {a : Float} (p : Num f a) where
   pub max-number : (b : Float) → T (fits f b) → Num f (max a b) × Num f (max b a)
   max-number b F = elim (nan-or-num {f = f} b F) [
-    | inl e ↦ subst (λ (x : Float). Num f (max a x) × Num f (max x a)) (sym e) (subst (Num f) (sym (max-nan a .1)) p, subst (Num f) (sym (max-nan a .0)) p)
+    | inl e ↦ subst (λ (x : Float). Num f (max a x) × Num f (max x a)) (sym e)
+        (subst (Num f) (sym (max-nan a .1)) p, subst (Num f) (sym (max-nan a .0)) p)
     | inr q ↦ (max-num p q, max-num q p)
   ]
 
   pub min-number : (b : Float) → T (fits f b) → Num f (min a b) × Num f (min b a)
   min-number b F = elim (nan-or-num {f = f} b F) [
-    | inl e ↦ subst (λ (x : Float). Num f (min a x) × Num f (min x a)) (sym e) (subst (Num f) (sym (min-nan a .1)) p, subst (Num f) (sym (min-nan a .0)) p)
+    | inl e ↦ subst (λ (x : Float). Num f (min a x) × Num f (min x a)) (sym e)
+        (subst (Num f) (sym (min-nan a .1)) p, subst (Num f) (sym (min-nan a .0)) p)
     | inr q ↦ (min-num p q, min-num q p)
   ]
 
--- ---- the least of a loop's terms, from +∞: m = min(m, g(i)) for i from 0 on. After n turns it is a number, at most each term that is one, and at least what is at most all of these.
+-- ---- the least of a loop's terms, from +∞: m = min(m, g(i)) for i from 0 on. After n turns it is a number, at most each term that is one, and at
+-- least what is at most all of these.
 pub record Least (f : Format) (g : ℕ → Float) (n : ℕ) (m : Float) : Type 0 where
   pub num : Num f m
   pub le : (i : ℕ) → i < n → Num f (g i) → Le f m (g i)

@@ -1,14 +1,15 @@
--- What a program's tests `x < 0`, `x == 0` and `x != x` say of |x| and of a NaN: a float that equals 0 is a zero, and as a value of its format has the exponent 0. Assumes nothing.
+-- What a program's tests `x < 0`, `x == 0` and `x != x` say of |x| and of a NaN: a float that equals 0 is a zero, and as a value of its format has
+-- the exponent 0. Assumes nothing.
 use mathlib.Core.Path.{_≡_, refl, sym, ap, _∙_}
 use mathlib.Core.Bool.{Bool, true, false, _&&_, _||_}
-use Prim.Native.Nat.{ℕ, zero, suc, _+_, _*_, _^_, _<_, _≤_}
+use Prim.Native.Nat.{ℕ, zero, suc, _+_, _*_, _^_, _≤_}
 use native.Mathlib.Nat.{mul-one, one-mul, zero-mul, mul-pos, zero-lt-suc, pow-succ'}
 use native.Mathlib.Omega.{arith}
 use lib.Pow.{pow-pos}
 use lib.IntN.{ℤ, pos, negsuc}
-use lib.Dec.{T, eqb}
+use lib.Dec.{eqb}
 use borrow.Author.Tests.{ltb-true, ltb-false, eqb-true, eq-eqb}
-use lib.Ieee.{Float, nan, inf, fin, Format, up, down, lt, eq, ne, neg, fits, isNan}
+use lib.Ieee.{Float, nan, inf, fin, Format, up, down, lt, eq, neg, fits}
 use lib.Ieee.Fits.{up-pos}
 use Rattle.float.specs.Select.{abs}
 
@@ -45,7 +46,14 @@ nothing f nan p t = no t
 nothing f (inf s) p t = no t
 nothing f (fin s zero e) p t = ap (fin false 0) (flat e (eqb-true (up e * down e) 1 p))
 nothing f (fin s (suc m) e) p t =
-    absurd (omega (arith, mul-one (suc m * up e), eqb-true (suc m * up e * 1) (0 * 1 * down e) (and-left _ _ t), nought e, mul-pos (zero-lt-suc m) (up-pos e)))
+    absurd (omega (
+      arith,
+      mul-one (suc m * up e),
+      eqb-true (suc m * up e * 1) (0 * 1 * down e) (and-left _ _ t),
+      nought e,
+      mul-pos (zero-lt-suc m)
+          (up-pos e),
+    ))
 
 both : (p q : Bool) → p ≡ true → q ≡ true → (p && (false || q)) ≡ true
 both p q hp hq = cc

@@ -1,9 +1,11 @@
--- What `toSingle` does to a double's bit pattern. For callers: `single-fits`, its result is a value of binary32, and `single-same`, it keeps a value of binary32. Assumes nothing.
+-- What `toSingle` does to a double's bit pattern. For callers: `single-fits`, its result is a value of binary32, and `single-same`, it keeps a value
+-- of binary32. Assumes nothing.
 use mathlib.Core.Path.{_≡_, refl, sym, ap, _∙_, subst}
 use mathlib.Core.Logic.{_⊎_, inl, inr}
 use mathlib.Core.Bool.{Bool, true, false, not, cond}
-use Prim.Native.Nat.{ℕ, zero, suc, _+_, _-_, _*_, _/_, _%_, _^_, _≤_, _<_, compare}
-use native.Mathlib.Nat.{le-refl, le-trans, le-of-eq, le-of-lt, lt-of-lt-of-le, not-le-of-lt, eq-zero-or-pos, eq-or-lt-of-le, mul-le-mul, mul-le-mul-right, mul-div-cancel, le-div-iff-mul-le, mul-assoc, zero-mul, add-zero}
+use Prim.Native.Nat.{ℕ, _+_, _-_, _*_, _/_, _%_, _^_, _≤_, _<_}
+use native.Mathlib.Nat.{le-refl, le-trans, le-of-eq, lt-of-lt-of-le, eq-zero-or-pos, eq-or-lt-of-le, mul-le-mul-right, le-div-iff-mul-le, mul-assoc}
+use native.Mathlib.Nat.{zero-mul, add-zero}
 use native.Mathlib.Omega.{arith}
 use lib.IntN.{ℤ}
 use lib.Dec.{T, leb, lit<, lit≤}
@@ -30,7 +32,8 @@ pub single-val : (x : Float) (s : Bool) (a c : ℕ) → 0 < c → HasValue x s a
 unfolding toSingle
 single-val nan s a c C v = absurd v
 single-val (inf t) s a c C v = absurd v
-single-val (fin t m e) s a c C v = ap (λ (y : Bool). round binary32 y (m * up e) (down e)) (v .0) ∙ round-same binary32 s (m * up e) (down e) a c (down-pos e) C (v .1)
+single-val (fin t m e) s a c C v =
+    ap (λ (y : Bool). round binary32 y (m * up e) (down e)) (v .0) ∙ round-same binary32 s (m * up e) (down e) a c (down-pos e) C (v .1)
 
 -- ---- a double's digits q, rounded to a single: j digits go, and the pattern's exponent counts b
 pub rounds : (s : Bool) (q x j b : ℕ) → q < 2 ^ 53 → 29 ≤ j → (0 < b → (j ≡ 29) × (2 ^ 52 ≤ q)) → x + 149 + j ≡ b + 1074
@@ -59,7 +62,8 @@ at-most q j hi J = closest-hi q 24 j (lt-of-lt-of-le hi (pow-mono (more j J)))
 single-odd : (s : Bool) (q x : ℕ) → toSingle (odd 53 s q x 1074) ≡ round binary32 s (q * 2 ^ x) (2 ^ 1074)
 single-odd s q x = single-val (odd 53 s q x 1074) s (q * 2 ^ x) (2 ^ 1074) (pow-pos 1074) (odd-sign 53 s q x 1074)
 
-normal-64 : (s : Bool) (F t : ℕ) → 0 < F → F < 2047 → toSingle (ofFields binary64 s F t) ≡ round binary32 s ((0x10_0000_0000_0000 + t) * 2 ^ (F - 1)) (2 ^ 1074)
+normal-64 : (s : Bool) (F t : ℕ) → 0 < F → F < 2047
+    → toSingle (ofFields binary64 s F t) ≡ round binary32 s ((0x10_0000_0000_0000 + t) * 2 ^ (F - 1)) (2 ^ 1074)
 normal-64 s F t p h = ap toSingle (read-high binary64 s F t p h) ∙ single-odd s (0x10_0000_0000_0000 + t) (F - 1)
 
 low-64 : (s : Bool) (t : ℕ) → ofFields binary64 s 0 t ≡ odd 53 s t 0 1074
@@ -79,20 +83,25 @@ module _ (s : Bool) (F t : ℕ) (small : t < 0x10_0000_0000_0000) where
   q-lo = omega arith
 
   single-high : 897 ≤ F → F < 2047 → toSingle (ofFields binary64 s F t) ≡ units binary32 s (closest (0x10_0000_0000_0000 + t) (2 ^ 29)) (F - 897)
-  single-high a b = normal-64 s F t (omega arith) b ∙ rounds s (0x10_0000_0000_0000 + t) (F - 1) 29 (F - 897) q-hi (le-refl 29) (λ _. (refl, q-lo)) (omega arith)
+  single-high a b =
+      normal-64 s F t (omega arith) b ∙ rounds s (0x10_0000_0000_0000 + t) (F - 1) 29 (F - 897) q-hi (le-refl 29) (λ _. (refl, q-lo)) (omega arith)
 
   single-inf : F ≤ 2047 → (F ≡ 2047 → t ≡ 0) → 1151 ≤ F → toSingle (ofFields binary64 s F t) ≡ inf s
   single-inf a z b = elim (eq-or-lt-of-le a) [
     | inl e ↦ ap (λ (y : ℕ). toSingle (ofFields binary64 s y t)) e ∙ ap (λ (y : ℕ). toSingle (ofFields binary64 s 2047 y)) (z e) ∙ inf-64 s
-    | inr l ↦ single-high (omega arith) l ∙ units-inf binary32 s (closest (0x10_0000_0000_0000 + t) (2 ^ 29)) (F - 897) (closest-lo (0x10_0000_0000_0000 + t) 23 29 q-lo) (omega arith)
+    | inr l ↦ single-high (omega arith) l
+        ∙ units-inf binary32 s (closest (0x10_0000_0000_0000 + t) (2 ^ 29)) (F - 897) (closest-lo (0x10_0000_0000_0000 + t) 23 29 q-lo) (omega arith)
   ]
 
-  bits-high : 897 ≤ F → F < 1151 → toBits binary32 (toSingle (ofFields binary64 s F t)) ≡ cond s 0x8000_0000 0 + ((F - 897) * 0x80_0000 + closest (0x10_0000_0000_0000 + t) (2 ^ 29))
+  bits-high : 897 ≤ F → F < 1151
+      → toBits binary32 (toSingle (ofFields binary64 s F t)) ≡ cond s 0x8000_0000 0 + ((F - 897) * 0x80_0000 + closest (0x10_0000_0000_0000 + t) (2 ^ 29))
   bits-high a b =
       ap (toBits binary32) (single-high a (omega arith))
-      ∙ units-bits binary32 s (closest (0x10_0000_0000_0000 + t) (2 ^ 29)) (F - 897) (at-most (0x10_0000_0000_0000 + t) 29 q-hi (le-refl 29)) (λ _. closest-lo (0x10_0000_0000_0000 + t) 23 29 q-lo) (omega arith)
+      ∙ units-bits binary32 s (closest (0x10_0000_0000_0000 + t) (2 ^ 29)) (F - 897) (at-most (0x10_0000_0000_0000 + t) 29 q-hi (le-refl 29))
+      (λ _. closest-lo (0x10_0000_0000_0000 + t) 23 29 q-lo) (omega arith)
 
-bits-low : (s : Bool) (v : Float) (p x j : ℕ) → toSingle v ≡ round binary32 s (p * 2 ^ x) (2 ^ 1074) → p < 2 ^ 53 → 29 ≤ j → x + j ≡ 925 → toBits binary32 (toSingle v) ≡ cond s 0x8000_0000 0 + closest p (2 ^ j)
+bits-low : (s : Bool) (v : Float) (p x j : ℕ) → toSingle v ≡ round binary32 s (p * 2 ^ x) (2 ^ 1074) → p < 2 ^ 53 → 29 ≤ j → x + j ≡ 925
+    → toBits binary32 (toSingle v) ≡ cond s 0x8000_0000 0 + closest p (2 ^ j)
 bits-low s v p x j e h J k =
     ap (toBits binary32) (e ∙ rounds s p x j 0 h J (λ l. absurd (none l)) (omega arith))
     ∙ units-bits binary32 s (closest p (2 ^ j)) 0 (at-most p j h J) (λ l. absurd (none l)) (lit≤ tt)
@@ -108,10 +117,13 @@ module _ (m : ℕ) where
   pub narrows-inf : m ≤ 0x7ff0_0000_0000_0000 → 1151 ≤ m / 0x10_0000_0000_0000 → Narrows m 0x7f80_0000
   narrows-inf M h = record {
     small = lit≤ tt;
-    bits = λ s. ap (toBits binary32) (single-inf s (m / 0x10_0000_0000_0000) (m % 0x10_0000_0000_0000) (omega arith) (omega arith) (λ e. omega arith) h) ∙ inf-bits binary32 s;
+    bits =
+        λ s. ap (toBits binary32) (single-inf s (m / 0x10_0000_0000_0000) (m % 0x10_0000_0000_0000) (omega arith) (omega arith) (λ e. omega arith) h)
+        ∙ inf-bits binary32 s;
   }
 
-  pub narrows-high : (r : ℕ) → 897 ≤ m / 0x10_0000_0000_0000 → m / 0x10_0000_0000_0000 < 1151 → r ≡ closest (0x10_0000_0000_0000 + m % 0x10_0000_0000_0000) (2 ^ 29)
+  pub narrows-high : (r : ℕ) → 897 ≤ m / 0x10_0000_0000_0000 → m / 0x10_0000_0000_0000 < 1151
+      → r ≡ closest (0x10_0000_0000_0000 + m % 0x10_0000_0000_0000) (2 ^ 29)
       → Narrows m ((m / 0x10_0000_0000_0000 - 897) * 0x80_0000 + r)
   narrows-high r a b e =
       let c : r ≤ 0x100_0000 = le-trans (le-of-eq e) (at-most (0x10_0000_0000_0000 + m % 0x10_0000_0000_0000) 29 (omega arith) (le-refl 29)) in
@@ -120,7 +132,8 @@ module _ (m : ℕ) where
         bits = λ s. rw e (bits-high s (m / 0x10_0000_0000_0000) (m % 0x10_0000_0000_0000) (omega arith) a b);
       }
 
-  pub narrows-low : (r : ℕ) → 864 ≤ m / 0x10_0000_0000_0000 → m / 0x10_0000_0000_0000 < 897 → r ≡ closest (0x10_0000_0000_0000 + m % 0x10_0000_0000_0000) (2 ^ (926 - m / 0x10_0000_0000_0000))
+  pub narrows-low : (r : ℕ) → 864 ≤ m / 0x10_0000_0000_0000 → m / 0x10_0000_0000_0000 < 897
+      → r ≡ closest (0x10_0000_0000_0000 + m % 0x10_0000_0000_0000) (2 ^ (926 - m / 0x10_0000_0000_0000))
       → Narrows m r
   narrows-low r a b e =
       let F = m / 0x10_0000_0000_0000 in
@@ -128,20 +141,25 @@ module _ (m : ℕ) where
       let c : r ≤ 0x100_0000 = le-trans (le-of-eq e) (at-most (0x10_0000_0000_0000 + t) (926 - F) (omega arith) (omega arith)) in
       record {
         small = omega arith;
-        bits = λ s. rw e (bits-low s (ofFields binary64 s F t) (0x10_0000_0000_0000 + t) (F - 1) (926 - F) (normal-64 s F t (omega arith) (omega arith)) (omega arith) (omega arith) (omega arith));
+        bits =
+            λ s. rw e (bits-low s (ofFields binary64 s F t) (0x10_0000_0000_0000 + t) (F - 1) (926 - F) (normal-64 s F t (omega arith) (omega arith))
+            (omega arith) (omega arith) (omega arith));
       }
 
   pub narrows-zero : m / 0x10_0000_0000_0000 < 864 → Narrows m 0
   narrows-zero a = record { small = lit≤ tt; bits = λ s. go s (eq-zero-or-pos (m / 0x10_0000_0000_0000)) }
     where
-      go : (s : Bool) → (m / 0x10_0000_0000_0000 ≡ 0) ⊎ (0 < m / 0x10_0000_0000_0000) → toBits binary32 (toSingle (ofFields binary64 s (m / 0x10_0000_0000_0000) (m % 0x10_0000_0000_0000))) ≡ cond s 0x8000_0000 0 + 0
+      go : (s : Bool) → (m / 0x10_0000_0000_0000 ≡ 0) ⊎ (0 < m / 0x10_0000_0000_0000)
+          → toBits binary32 (toSingle (ofFields binary64 s (m / 0x10_0000_0000_0000) (m % 0x10_0000_0000_0000))) ≡ cond s 0x8000_0000 0 + 0
       go s (inl z) =
           let t = m % 0x10_0000_0000_0000 in
-          rw z (bits-low s (ofFields binary64 s 0 t) t 0 925 (ap toSingle (low-64 s t) ∙ single-odd s t 0) (omega arith) (lit≤ tt) refl ∙ ap (λ (y : ℕ). cond s 0x8000_0000 0 + y) (closest-zero t 53 925 (omega arith) (lit< tt)))
+          rw z (bits-low s (ofFields binary64 s 0 t) t 0 925 (ap toSingle (low-64 s t) ∙ single-odd s t 0) (omega arith) (lit≤ tt) refl
+          ∙ ap (λ (y : ℕ). cond s 0x8000_0000 0 + y) (closest-zero t 53 925 (omega arith) (lit< tt)))
       go s (inr p) =
           let F = m / 0x10_0000_0000_0000 in
           let t = m % 0x10_0000_0000_0000 in
-          bits-low s (ofFields binary64 s F t) (0x10_0000_0000_0000 + t) (F - 1) (926 - F) (normal-64 s F t p (omega arith)) (omega arith) (omega arith) (omega arith)
+          bits-low s (ofFields binary64 s F t) (0x10_0000_0000_0000 + t) (F - 1) (926 - F) (normal-64 s F t p (omega arith)) (omega arith)
+          (omega arith) (omega arith)
           ∙ ap (λ (y : ℕ). cond s 0x8000_0000 0 + y) (closest-zero (0x10_0000_0000_0000 + t) 53 (926 - F) (omega arith) (omega arith))
 
 -- ---- `toSingle` gives a value of binary32, and keeps one
@@ -201,8 +219,11 @@ unfolding toSingle hi lo
 single-rounds {x = nan} p = absurd (unfold isNan in p .real)
 single-rounds {x = inf true} p = unfold mag in inf-rounds binary32 true 0 (big binary64) (2 ^ 925) (pow-pos 925) (lit≤ tt)
 single-rounds {x = inf false} p = unfold mag in inf-rounds binary32 false (big binary64) 0 (2 ^ 925) (pow-pos 925) (lit≤ tt)
-single-rounds {x = fin true m e} p = round-rounds binary32 true (m * up e) (down e) 0 (mag binary64 (fin true m e)) (2 ^ 925) (down-pos e) (pow-pos 925) (in-units true m e (p .fit))
-single-rounds {x = fin false m e} p = round-rounds binary32 false (m * up e) (down e) (mag binary64 (fin false m e)) 0 (2 ^ 925) (down-pos e) (pow-pos 925) (in-units false m e (p .fit))
+single-rounds {x = fin true m e} p =
+    round-rounds binary32 true (m * up e) (down e) 0 (mag binary64 (fin true m e)) (2 ^ 925) (down-pos e) (pow-pos 925) (in-units true m e (p .fit))
+single-rounds {x = fin false m e} p =
+    round-rounds binary32 false (m * up e) (down e) (mag binary64 (fin false m e)) 0 (2 ^ 925) (down-pos e) (pow-pos 925)
+    (in-units false m e (p .fit))
 
 pub single-num : {x : Float} → Num binary64 x → Num binary32 (toSingle x)
 single-num p = single-rounds p .num
@@ -212,7 +233,8 @@ pub single-nan : (x : Float) → isNan (toSingle x) ≡ isNan x
 unfolding toSingle
 single-nan nan = refl
 single-nan (inf s) = refl
-single-nan (fin s m e) = is-false (isNan (round binary32 s (m * up e) (down e))) (round-num binary32 s (m * up e) (down e) .real) ∙ sym (unfold isNan in refl)
+single-nan (fin s m e) =
+    is-false (isNan (round binary32 s (m * up e) (down e))) (round-num binary32 s (m * up e) (down e) .real) ∙ sym (unfold isNan in refl)
 
 -- the order is kept, so no value of binary32 lies strictly between x and `toSingle x`
 pub single-mono : {x y : Float} → Num binary64 x → Num binary64 y → Le binary64 x y → Le binary32 (toSingle x) (toSingle y)
@@ -224,7 +246,8 @@ single-above {x} {y} p q h = subst (λ (z : Float). Le binary32 z (toSingle x)) 
 pub single-under : {x y : Float} → Num binary64 x → Num binary32 y → Le binary64 x y → Le binary32 (toSingle x) y
 single-under {x} {y} p q h = subst (λ (z : Float). Le binary32 (toSingle x) z) (single-same y (q .fit)) (single-mono p (widen-num q) h)
 
--- and no value of binary32 is nearer to x. (Of two that are as near, `round` takes the one whose last digit is even; from half a step above the largest on it is an infinity.)
+-- and no value of binary32 is nearer to x. (Of two that are as near, `round` takes the one whose last digit is even; from half a step above the
+-- largest on it is an infinity.)
 pub single-nearest : {x y : Float} → Num binary64 x → Fin binary32 (toSingle x) → Fin binary32 y → Apart binary64 (toSingle x) x ≤ Apart binary64 y x
 single-nearest {x} {y} p r q =
     let a = widen-sides (toSingle x) (r .fit) (r .finite) in

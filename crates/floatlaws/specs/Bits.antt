@@ -1,17 +1,22 @@
--- Bit patterns, for either format. A pattern is the sign's weight and the number g below it; up to g = `hid` the value is g units, and from there each field of the exponent doubles the unit (`valueOf`).
--- So a value is told by its pattern (`by-zero`, `by-inf`, `by-value`), and q * 2 ^ k units have the pattern k * `hid` + q, also where q is one past its digits and carries (`val-bits`, `units-bits`).
+-- Bit patterns, for either format. A pattern is the sign's weight and the number g below it; up to g = `hid` the value is g units, and from there
+-- each field of the exponent doubles the unit (`valueOf`).
+-- So a value is told by its pattern (`by-zero`, `by-inf`, `by-value`), and q * 2 ^ k units have the pattern k * `hid` + q, also where q is one past
+-- its digits and carries (`val-bits`, `units-bits`).
 -- A value of a format is its sign and its size (`same-value`, `same-float`). Assumes nothing.
 use mathlib.Core.Path.{_≡_, refl, sym, ap, ap₂, _∙_, subst}
 use mathlib.Core.Logic.{_⊎_, inl, inr}
 use Prim.Native.Nat.{ℕ, zero, suc, _+_, _-_, _*_, _/_, _%_, _^_, _≤_, _<_}
-use native.Mathlib.Nat.{le-refl, le-trans, le-of-eq, le-antisymm, lt-of-lt-of-le, lt-of-le-of-lt, lt-irrefl, not-le-of-lt, eq-or-lt-of-le, add-assoc, add-comm, add-mul, add-le-add, zero-mul, one-mul, mul-one, mul-assoc, mul-comm}
-use native.Mathlib.Nat.{mul-pos, mul-le-mul, mul-le-mul-right, eq-of-mul-eq-mul-right, suc-mul, pow-succ', mul-div-cancel, div-eq-of-lt, mod-eq-of-lt, le-div-iff-mul-le, div-lt-iff-lt-mul}
+use native.Mathlib.Nat.{le-refl, le-trans, le-of-eq, le-antisymm, lt-of-lt-of-le, lt-of-le-of-lt, lt-irrefl, not-le-of-lt, eq-or-lt-of-le, add-assoc}
+use native.Mathlib.Nat.{add-comm, add-le-add, zero-mul, one-mul, mul-one, mul-assoc, mul-comm}
+use native.Mathlib.Nat.{mul-pos, mul-le-mul, mul-le-mul-right, eq-of-mul-eq-mul-right, suc-mul, pow-succ', mul-div-cancel, div-eq-of-lt, mod-eq-of-lt}
+use native.Mathlib.Nat.{le-div-iff-mul-le, div-lt-iff-lt-mul}
 use native.Mathlib.Omega.{arith}
 use mathlib.Core.Bool.{Bool, true, false, not, cond}
 use lib.IntN.{ℤ, pos}
 use lib.Dec.{T, not-T, leb, ltb, eqb, ltb→lt, nltb→le, leb→le, nleb→lt}
 use lib.Pow.{pow-add, pow-pos, pow-mono, pow-lt, shl-lt}
-use lib.Ieee.{Float, nan, inf, fin, Format, binary32, binary64, prec, emax, low, up, down, size, odd, units, round, fits, isNan, hid, ones, top, ofFields, ofBits, nanBits, toBits}
+use lib.Ieee.{Float, nan, inf, fin, Format, binary32, binary64, prec, emax, low, up, down, size, odd, units, round, fits, isNan, hid, ones, top}
+use lib.Ieee.{ofFields, ofBits, nanBits, toBits}
 use lib.Ieee.Fits.{two, two-le-pos, down-pos, odd-fits, round-is}
 use lib.Ieee.Nearest.{closest, closest-same, div-same}
 use lib.Ieee.Bits.{cond-no, is-false, ofBits-toBits, nanBits-is, nanBits-above}
@@ -44,7 +49,9 @@ read-low f s g h = ap₂ (λ (x t : ℕ). ofFields f s x t) (div-eq-of-lt h) (mo
 
 under-ones : (f : Format) (s : Bool) (x t : ℕ) → suc x < ones f → ofFields f s (suc x) t ≡ odd (prec f) s (hid f + t) x (low f)
 unfolding ofFields
-under-ones f s x t h = ap (λ (b : Bool). cond b (cond (eqb t 0) (inf s) nan) (odd (prec f) s (hid f + t) x (low f))) (ne-eqb (suc x) (ones f) (differ (suc x) (ones f) h))
+under-ones f s x t h =
+    ap (λ (b : Bool). cond b (cond (eqb t 0) (inf s) nan) (odd (prec f) s (hid f + t) x (low f)))
+    (ne-eqb (suc x) (ones f) (differ (suc x) (ones f) h))
   where
     differ : (a b : ℕ) → a < b → a ≡ b → ⊥
     differ a b h e = omega arith
@@ -61,7 +68,8 @@ read f s g k = go (ltb g (hid f)) (ltb→lt g (hid f)) (nltb→le g (hid f))
     go : (b : Bool) → (T b → g < hid f) → (T (not b) → hid f ≤ g) → HasValue (ofFields f s (g / hid f) (g % hid f)) s (valueOf f g) (2 ^ low f)
     go true y z =
         subst (λ (x : Float). HasValue x s (valueOf f g) (2 ^ low f)) (sym (read-low f s g (y tt)))
-        (subst (λ (a : ℕ). HasValue (odd (prec f) s g 0 (low f)) s a (2 ^ low f)) (mul-one g ∙ sym (value-low f g (y tt))) (odd-sign (prec f) s g 0 (low f)))
+        (subst (λ (a : ℕ). HasValue (odd (prec f) s g 0 (low f)) s a (2 ^ low f)) (mul-one g ∙ sym (value-low f g (y tt)))
+        (odd-sign (prec f) s g 0 (low f)))
     go false y z =
         let x = g / hid f in
         let t = g % hid f in
@@ -98,7 +106,9 @@ above f (inf t) s a F h v = absurd v
 above f (fin t zero e) s a F h v = absurd (none h (v .1))
   where
     none : 0 < a → 0 * up e * 2 ^ low f ≡ a * down e → ⊥
-    none h p = lt-irrefl 0 (subst (λ (x : ℕ). 0 < x) (sym p ∙ ap (λ (x : ℕ). x * 2 ^ low f) (zero-mul (up e)) ∙ zero-mul (2 ^ low f)) (mul-pos h (down-pos e)))
+    none h p =
+        lt-irrefl 0 (subst (λ (x : ℕ). 0 < x) (sym p ∙ ap (λ (x : ℕ). x * 2 ^ low f) (zero-mul (up e)) ∙ zero-mul (2 ^ low f))
+        (mul-pos h (down-pos e)))
 above f (fin t (suc m) e) s a F h v =
     let i = ap (λ (b : Bool). fin b (suc m) e) (v .0) in
     record { m = m; e = e; is = i; size = ap (mag f) (sym i) ∙ mag-val f (fin t (suc m) e) s a F v }
@@ -170,12 +180,14 @@ unfolding toBits
 toBits-val f nan s a v = absurd v
 toBits-val f (inf t) s a v = absurd v
 toBits-val f (fin t m e) s a v =
-    ap (λ (n : ℕ). cond t (top f) 0 + (size n - prec f) * hid f + n / 2 ^ (size n - prec f)) (ap (λ (n : ℕ). n / down e) (v .1) ∙ mul-div-cancel a (down-pos e))
+    ap (λ (n : ℕ). cond t (top f) 0 + (size n - prec f) * hid f + n / 2 ^ (size n - prec f))
+    (ap (λ (n : ℕ). n / down e) (v .1) ∙ mul-div-cancel a (down-pos e))
     ∙ ap (λ (y : Bool). cond y (top f) 0 + (size a - prec f) * hid f + a / 2 ^ (size a - prec f)) (v .0)
     ∙ add-assoc (cond s (top f) 0) ((size a - prec f) * hid f) (a / 2 ^ (size a - prec f))
 
 -- two values that fit, of one sign and one size, are the same
-pub same-value : (f : Format) (x y : Float) (s : Bool) (a : ℕ) → T (fits f x) → T (fits f y) → HasValue x s a (2 ^ low f) → HasValue y s a (2 ^ low f) → x ≡ y
+pub same-value : (f : Format) (x y : Float) (s : Bool) (a : ℕ) → T (fits f x) → T (fits f y) → HasValue x s a (2 ^ low f)
+    → HasValue y s a (2 ^ low f) → x ≡ y
 same-value f x y s a p q v w =
     sym (ofBits-toBits f x p) ∙ ap (ofBits f) (toBits-val f x s a v ∙ sym (toBits-val f y s a w)) ∙ ofBits-toBits f y q
 
@@ -202,7 +214,8 @@ module _ (f : Format) (x : Float) (s : Bool) where
       ∙ ap (λ (d : ℕ). cond s (top f) 0 + (d * hid f + a / 2 ^ d)) z
       ∙ ap (λ (d : ℕ). cond s (top f) 0 + (k * hid f + d)) (mul-div-cancel q (pow-pos k))
 
-  pub val-bits : (q k : ℕ) → q ≤ 2 ^ prec f → (0 < k → hid f ≤ q) → HasValue x s (q * 2 ^ k) (2 ^ low f) → toBits f x ≡ cond s (top f) 0 + (k * hid f + q)
+  pub val-bits : (q k : ℕ) → q ≤ 2 ^ prec f → (0 < k → hid f ≤ q) → HasValue x s (q * 2 ^ k) (2 ^ low f)
+      → toBits f x ≡ cond s (top f) 0 + (k * hid f + q)
   val-bits q k hi lo v = go (eq-or-lt-of-le hi)
     where
       double : 2 ^ prec f ≡ hid f * 2
@@ -264,11 +277,13 @@ units-bits f s q k hi lo K = go (eq-or-lt-of-le hi) (eq-or-lt-of-le K)
     under : (p k e : ℕ) → k < e → p + k < p + e
     under p k e h = omega arith
 
-    go : (q ≡ 2 ^ prec f) ⊎ (q < 2 ^ prec f) → (k ≡ 2 * emax f - 1) ⊎ (k < 2 * emax f - 1) → toBits f (units f s q k) ≡ cond s (top f) 0 + (k * hid f + q)
+    go : (q ≡ 2 ^ prec f) ⊎ (q < 2 ^ prec f) → (k ≡ 2 * emax f - 1) ⊎ (k < 2 * emax f - 1)
+        → toBits f (units f s q k) ≡ cond s (top f) 0 + (k * hid f + q)
     go (inr l) d = of-value (lt-of-lt-of-le (shl-lt (prec f) k l) (pow-mono (le-trans (add-le-add (le-refl (prec f)) K) (le-of-eq (room f)))))
     go (inl e) (inr d) =
         of-value (subst (λ (n : ℕ). n * 2 ^ k < overflow f) (sym e)
-        (subst (λ (n : ℕ). n < overflow f) (pow-add 2 (prec f) k) (pow-lt (lt-of-lt-of-le (under (prec f) k (2 * emax f - 1) d) (le-of-eq (room f))))))
+        (subst (λ (n : ℕ). n < overflow f) (pow-add 2 (prec f) k)
+        (pow-lt (lt-of-lt-of-le (under (prec f) k (2 * emax f - 1) d) (le-of-eq (room f))))))
     go (inl e) (inl d) =
         ap (toBits f) (ap₂ (λ (a b : ℕ). units f s a b) e d ∙ first-inf f s)
         ∙ inf-bits f s
@@ -290,7 +305,8 @@ shifted q k l j b m e =
     mul-assoc (q * 2 ^ k) (2 ^ l) (2 ^ j)
     ∙ mul-assoc q (2 ^ k) (2 ^ l * 2 ^ j)
     ∙ ap (λ (x : ℕ). q * x)
-    (sym (mul-assoc (2 ^ k) (2 ^ l) (2 ^ j)) ∙ sym (pow-add 2 (k + l) j ∙ ap (λ (x : ℕ). x * 2 ^ j) (pow-add 2 k l)) ∙ ap (λ (x : ℕ). 2 ^ x) e ∙ pow-add 2 b m)
+    (sym (mul-assoc (2 ^ k) (2 ^ l) (2 ^ j)) ∙ sym (pow-add 2 (k + l) j ∙ ap (λ (x : ℕ). x * 2 ^ j) (pow-add 2 k l)) ∙ ap (λ (x : ℕ). 2 ^ x) e
+    ∙ pow-add 2 b m)
     ∙ sym (mul-assoc q (2 ^ b) (2 ^ m))
 
 pub round-at : (f : Format) (s : Bool) (q k l j b : ℕ) → k + low f + j ≡ b + l → size (q * 2 ^ b / 2 ^ j) - prec f ≡ b
@@ -299,7 +315,8 @@ round-at f s q k l j b e z =
     let n = q * 2 ^ k * 2 ^ low f in
     let x : n * 2 ^ j ≡ q * 2 ^ b * 2 ^ l = shifted q k (low f) j b l e in
     round-is f s (q * 2 ^ k) (2 ^ l)
-    ∙ ap (λ (y : ℕ). units f s (closest n (2 ^ l * 2 ^ y)) y) (ap (λ (y : ℕ). size y - prec f) (div-same n (2 ^ l) (q * 2 ^ b) (2 ^ j) (pow-pos l) (pow-pos j) x) ∙ z)
+    ∙ ap (λ (y : ℕ). units f s (closest n (2 ^ l * 2 ^ y)) y)
+    (ap (λ (y : ℕ). size y - prec f) (div-same n (2 ^ l) (q * 2 ^ b) (2 ^ j) (pow-pos l) (pow-pos j) x) ∙ z)
     ∙ ap (λ (y : ℕ). units f s y b)
     (closest-same n (2 ^ l * 2 ^ b) q (2 ^ j) (mul-pos (pow-pos l) (pow-pos b)) (pow-pos j)
     (x ∙ mul-assoc q (2 ^ b) (2 ^ l) ∙ ap (λ (y : ℕ). q * y) (mul-comm (2 ^ b) (2 ^ l))))

@@ -1,4 +1,5 @@
--- A constant of a program, and what it is worth: (n - m) / d, with the denominator multiplied out. Where the float and the numbers are closed antt computes the test:
+-- A constant of a program, and what it is worth: (n - m) / d, with the denominator multiplied out. Where the float and the numbers are closed antt
+-- computes the test:
 -- `const binary32 (fin false 3 (negsuc 1)) 3 0 4 (unfold isConst in tt)` is 0.75. Assumes nothing.
 use mathlib.Core.Path.{_≡_}
 use Prim.Native.Nat.{ℕ, _*_}
@@ -27,7 +28,8 @@ const f x n m d t =
     let b : Bool = finite x in
     let c : Bool = eqb (hi f x * d) (n * unit f) in
     let e : Bool = eqb (lo f x * d) (m * unit f) in
-    let i : Fin f x = record { fit = and-l a b (and-l (a && b) c (and-l (a && b && c) e t)); finite = and-r a b (and-l (a && b) c (and-l (a && b && c) e t)) } in
+    let i : Fin f x =
+    record { fit = and-l a b (and-l (a && b) c (and-l (a && b && c) e t)); finite = and-r a b (and-l (a && b) c (and-l (a && b && c) e t)) } in
     record {
       is = i;
       num = num i;

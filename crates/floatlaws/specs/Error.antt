@@ -1,14 +1,19 @@
--- How far a rounded number is from the number. With v = a / c units, of 2 ^ (prec - 1) units at least and not rounded to an infinity, the rounded number is within v / 2 ^ prec of v (`relative`);
--- and below 2 ^ prec units it is within half a unit (`absolute`). Both are said with the denominators multiplied out, and once more for a float that is rounded from v (`Rounds`). Assumes nothing.
+-- How far a rounded number is from the number. With v = a / c units, of 2 ^ (prec - 1) units at least and not rounded to an infinity, the rounded
+-- number is within v / 2 ^ prec of v (`relative`);
+-- and below 2 ^ prec units it is within half a unit (`absolute`). Both are said with the denominators multiplied out, and once more for a float that
+-- is rounded from v (`Rounds`). Assumes nothing.
 use mathlib.Core.Path.{_≡_, sym, ap, _∙_}
-use Prim.Native.Nat.{ℕ, zero, suc, _+_, _-_, _*_, _/_, _%_, _^_, _≤_, _<_, compare, Ordering, Ordering·lt, Ordering·eq, Ordering·gt, zero-le}
-use native.Mathlib.Nat.{le-trans, le-of-eq, lt-of-lt-of-le, not-le-of-lt, lt-irrefl, lt-of-not-le, lt-of-le-of-lt, le-of-lt, le-of-suc-le-suc, one-mul, sub-zero, add-mul, mul-add, suc-mul, mul-one, mul-comm, mul-assoc, mul-left-comm, mul-right-comm, mul-pos, mul-le-mul-right, mul-le-mul-left, lt-of-mul-lt-mul-right, mul-lt-mul-of-pos-right, le-of-mul-le-mul-right, eq-of-mul-eq-mul-right, div-add-mod', mod-lt, le-div-iff-mul-le, div-lt-iff-lt-mul, pow-suc}
+use Prim.Native.Nat.{ℕ, suc, _+_, _-_, _*_, _/_, _%_, _^_, _≤_, _<_, compare, zero-le}
+use native.Mathlib.Nat.{le-trans, le-of-eq, lt-of-lt-of-le, not-le-of-lt, lt-of-not-le, lt-of-le-of-lt, le-of-lt, le-of-suc-le-suc, one-mul, sub-zero}
+use native.Mathlib.Nat.{add-mul, mul-add, mul-one, mul-comm, mul-assoc, mul-left-comm, mul-right-comm, mul-pos, mul-le-mul-right, mul-le-mul-left}
+use native.Mathlib.Nat.{lt-of-mul-lt-mul-right, mul-lt-mul-of-pos-right, le-of-mul-le-mul-right, eq-of-mul-eq-mul-right, le-div-iff-mul-le}
+use native.Mathlib.Nat.{div-lt-iff-lt-mul}
 use native.Mathlib.Omega.{arith}
 use native.Mathlib.Decide.{decLe}
 use mathlib.Core.Bool.{false, not}
-use lib.Dec.{T, isLe, isEq, leb→le, nleb→lt, eqb→eq, lit<, lit≤}
+use lib.Dec.{T, lit<, lit≤}
 use lib.Pow.{pow-add, pow-pos, pow-lt}
-use lib.Ieee.{Float, nan, inf, fin, Format, binary32, binary64, prec, emax, low, size, nearest, round, div, isNan}
+use lib.Ieee.{Float, nan, inf, fin, Format, binary32, binary64, prec, emax, low, size, round, div, isNan}
 use lib.Ieee.Digits.{size-le, size-reaches}
 use lib.Ieee.Fits.{round-fits, two, two-le-pos}
 use lib.Ieee.Nearest.{closest, nearest-ge}
@@ -32,7 +37,8 @@ near-grid f a c h =
     let c' = c * 2 ^ low f in
     let x = round f false a c' in
     eq-of-mul-eq-mul-right (2 ^ low f) (pow-pos (low f)) (mag f x) (grid f a c')
-    (mag-of-value f x false (grid f a c') (2 ^ low f) (round-fits f false a c') (round-val f a c' (round-under f a c' (fin-of-mag x (round-num f false a c' .real) h))))
+    (mag-of-value f x false (grid f a c') (2 ^ low f) (round-fits f false a c')
+    (round-val f a c' (round-under f a c' (fin-of-mag x (round-num f false a c' .real) h))))
   where
     fin-of-mag : (x : Float) → T (not (isNan x)) → mag f x < overflow f → T (finite x)
     fin-of-mag nan r h = absurd r
@@ -79,7 +85,8 @@ module _ (f : Format) (a c : ℕ) (C : 0 < c) (N : prec f ≤ wide f a c) where
       let z = wide f a c in
       le-trans
       (le-of-eq (ac (2 ^ (p - 1)) (2 ^ (z - p)) (c * l) ∙ ap (λ (x : ℕ). x * (c * l)) (sym (pow-add 2 (p - 1) (z - p)))))
-      (le-div-iff-mul-le (mul-pos C (pow-pos (low f))) .0 (size-reaches (a * l / (c * l)) (p - 1 + (z - p)) (last-digit p z (two-le-pos p (two f)) N)))
+      (le-div-iff-mul-le (mul-pos C (pow-pos (low f))) .0
+      (size-reaches (a * l / (c * l)) (p - 1 + (z - p)) (last-digit p z (two-le-pos p (two f)) N)))
     where
       ac : (x y c : ℕ) → x * (c * y) ≡ x * y * c
       ac x y c = simp (mul-assoc, mul-comm)
@@ -88,7 +95,8 @@ module _ (f : Format) (a c : ℕ) (C : 0 < c) (N : prec f ≤ wide f a c) where
       last-digit p z P h = omega arith
 
   dropped : c * 2 ^ lost f a c * 2 ^ (prec f - 1) ≤ a
-  dropped = le-of-mul-le-mul-right {k = 2 ^ low f} (le-trans (le-of-eq (ac (2 ^ (prec f - 1)) (2 ^ lost f a c) c (2 ^ low f))) reached) (pow-pos (low f))
+  dropped =
+      le-of-mul-le-mul-right {k = 2 ^ low f} (le-trans (le-of-eq (ac (2 ^ (prec f - 1)) (2 ^ lost f a c) c (2 ^ low f))) reached) (pow-pos (low f))
     where
       ac : (x y c l : ℕ) → c * y * x * l ≡ x * (c * l * y)
       ac x y c l = simp (mul-assoc, mul-comm, mul-left-comm)
@@ -97,7 +105,8 @@ module _ (f : Format) (a c : ℕ) (C : 0 < c) (N : prec f ≤ wide f a c) where
   full =
       let n = a * 2 ^ low f in
       let d = c * 2 ^ low f * 2 ^ lost f a c in
-      le-trans (le-div-iff-mul-le (mul-pos (mul-pos C (pow-pos (low f))) (pow-pos (lost f a c))) .1 reached) (nearest-ge (n / d) (compare (n % d * 2) d))
+      le-trans (le-div-iff-mul-le (mul-pos (mul-pos C (pow-pos (low f))) (pow-pos (lost f a c))) .1 reached)
+      (nearest-ge (n / d) (compare (n % d * 2) d))
 
 -- ---- the rounded number as q * 2 ^ k units: where digits are dropped, `prec` of them are kept
 pub record Kept (f : Format) (a c : ℕ) : Type 0 where
@@ -132,10 +141,12 @@ widen x y z w n h k =
 
 enough : (f : Format) (a c : ℕ) → 0 < c → 2 ^ (prec f - 1) * c ≤ a → prec f ≤ wide f a c
 enough f a c C n =
-    normal-of-fraction f a (c * 2 ^ low f) (mul-pos C (pow-pos (low f))) (le-trans (le-of-eq (sym (mul-assoc (2 ^ (prec f - 1)) c (2 ^ low f)))) (mul-le-mul-right (2 ^ low f) n))
+    normal-of-fraction f a (c * 2 ^ low f) (mul-pos C (pow-pos (low f)))
+    (le-trans (le-of-eq (sym (mul-assoc (2 ^ (prec f - 1)) c (2 ^ low f)))) (mul-le-mul-right (2 ^ low f) n))
 
 -- a part in 2 ^ prec of the number
-pub relative : (f : Format) (a c : ℕ) → 0 < c → near f a c < overflow f → 2 ^ (prec f - 1) * c ≤ a → Within (near f a c * c * 2 ^ prec f) (a * 2 ^ prec f) a
+pub relative : (f : Format) (a c : ℕ) → 0 < c → near f a c < overflow f → 2 ^ (prec f - 1) * c ≤ a
+    → Within (near f a c * c * 2 ^ prec f) (a * 2 ^ prec f) a
 relative f a c C h n =
     let p = prec f in
     rw (half-pow p (two-le-pos p (two f)))
@@ -149,7 +160,8 @@ relative-near f a c C h n =
     let q = kept p (a * 2 ^ low f) (c * 2 ^ low f) in
     rw (half-pow p (two-le-pos p (two f)))
     (widen (near f a c * c) a (c * 2 ^ lost f a c) (near f a c * c) (2 ^ (p - 1)) (near-err f a c C h)
-    (rw (near-grid f a c h) (le-trans (le-of-eq (ac (2 ^ (p - 1)) (2 ^ lost f a c) c)) (mul-le-mul-right c (mul-le-mul-right (2 ^ lost f a c) (full f a c C (enough f a c C n)))))))
+    (rw (near-grid f a c h) (le-trans (le-of-eq (ac (2 ^ (p - 1)) (2 ^ lost f a c) c))
+    (mul-le-mul-right c (mul-le-mul-right (2 ^ lost f a c) (full f a c C (enough f a c C n)))))))
   where
     ac : (x y c : ℕ) → c * y * x ≡ x * y * c
     ac x y c = simp (mul-assoc, mul-comm, mul-left-comm)
@@ -164,11 +176,17 @@ absolute f a c C h n = rw (none, mul-one c) at (near-err f a c C h)
     few z p h = omega arith
 
     none : drop (prec f) (a * l) (c * l) ≡ 0
-    none = few (size (a * l / (c * l))) (prec f) (size-le (a * l / (c * l)) (prec f) (div-lt-iff-lt-mul (mul-pos C (pow-pos (low f))) .1 (lt-of-lt-of-le (mul-lt-mul-of-pos-right n (pow-pos (low f))) (le-of-eq (mul-assoc (2 ^ prec f) c l)))))
+    none =
+        few (size (a * l / (c * l))) (prec f)
+        (size-le (a * l / (c * l)) (prec f)
+        (div-lt-iff-lt-mul (mul-pos C (pow-pos (low f))) .1
+        (lt-of-lt-of-le (mul-lt-mul-of-pos-right n (pow-pos (low f))) (le-of-eq (mul-assoc (2 ^ prec f) c l)))))
 
 -- ---- a number is in the normal range where its rounded number is above 2 ^ (prec - 1) units
 least : (f : Format) → near f (2 ^ (prec f - 1)) 1 ≡ 2 ^ (prec f - 1)
-least f = near-exact f (2 ^ (prec f - 1)) 1 1 (prec f - 1) (pow-pos 0) (fine f) (lt-of-le-of-lt (le-of-eq (one-mul (2 ^ (prec f - 1)))) (pow-lt (room f))) (sym (one-mul (2 ^ (prec f - 1))) ∙ sym (mul-one (1 * 2 ^ (prec f - 1)))) ∙ one-mul (2 ^ (prec f - 1))
+least f =
+    near-exact f (2 ^ (prec f - 1)) 1 1 (prec f - 1) (pow-pos 0) (fine f) (lt-of-le-of-lt (le-of-eq (one-mul (2 ^ (prec f - 1)))) (pow-lt (room f)))
+    (sym (one-mul (2 ^ (prec f - 1))) ∙ sym (mul-one (1 * 2 ^ (prec f - 1)))) ∙ one-mul (2 ^ (prec f - 1))
   where
     fine : (f : Format) → 1 < 2 ^ prec f
     fine binary32 = lit< tt
@@ -208,7 +226,8 @@ module _ {f : Format} {z : Float} {P N C : ℕ} (r : Rounds f z P N C) where
   absolute-lo h n = rw (r .lo) (absolute f (N - P) C (r .below) (rw (r .lo) at h) n)
 
 -- ---- a ratio survives: where m * v * (2 ^ prec + 1) ≤ n * v' * (2 ^ prec - 1), the rounded numbers are in the order m * . ≤ n * .
-ratio : (t m n x y a c b d : ℕ) → 0 < c * d * t → x * c * t ≤ a * t + a → b * t ≤ y * d * t + b → m * (a * d) * (t + 1) + n * (b * c) ≤ n * (b * c) * t → m * x ≤ n * y
+ratio : (t m n x y a c b d : ℕ) → 0 < c * d * t → x * c * t ≤ a * t + a → b * t ≤ y * d * t + b
+    → m * (a * d) * (t + 1) + n * (b * c) ≤ n * (b * c) * t → m * x ≤ n * y
 ratio t m n x y a c b d pos p q h =
     let s1 : m * x * (c * d * t) ≡ x * c * t * (m * d) = simp (mul-assoc, mul-comm, mul-left-comm) in
     let s2 : x * c * t * (m * d) ≤ (a * t + a) * (m * d) = mul-le-mul-right (m * d) p in
@@ -223,10 +242,12 @@ ratio t m n x y a c b d pos p q h =
     let s11 : y * d * t * (n * c) ≡ n * y * (c * d * t) = simp (mul-assoc, mul-comm, mul-left-comm) in
     le-of-mul-le-mul-right {k = c * d * t} (omega arith) pos
 
-pub gap : {f : Format} {z z' : Float} {P N C P' N' C' : ℕ} (m n : ℕ) → Rounds f z P N C → Rounds f z' P' N' C' → Normal f (hi f z) → Normal f (hi f z')
+pub gap : {f : Format} {z z' : Float} {P N C P' N' C' : ℕ} (m n : ℕ) → Rounds f z P N C → Rounds f z' P' N' C' → Normal f (hi f z)
+    → Normal f (hi f z')
     → m * ((P - N) * C') * (2 ^ prec f + 1) + n * ((P' - N') * C) ≤ n * ((P' - N') * C) * 2 ^ prec f → m * hi f z ≤ n * hi f z'
 gap {f} {z} {z'} {P} {N} {C} {P'} {N'} {C'} m n r s u v h =
-    ratio (2 ^ prec f) m n (hi f z) (hi f z') (P - N) C (P' - N') C' (mul-pos (mul-pos (r .below) (s .below)) (pow-pos (prec f))) (relative-hi r u .0) (relative-hi s v .1) h
+    ratio (2 ^ prec f) m n (hi f z) (hi f z') (P - N) C (P' - N') C' (mul-pos (mul-pos (r .below) (s .below)) (pow-pos (prec f)))
+    (relative-hi r u .0) (relative-hi s v .1) h
 
 -- of numbers that are not negative
 pub gap-plus : {f : Format} {z z' : Float} {P C P' C' : ℕ} (m n : ℕ) → Rounds f z P 0 C → Rounds f z' P' 0 C' → Normal f (hi f z) → Normal f (hi f z')
@@ -284,7 +305,8 @@ half-below t x y a c b d pos four p q h B =
     let s8 : b * c * 4 ≤ b * c * t = mul-le-mul-left (b * c) four in
     omega arith)
 
-pub apart : {f : Format} {z z' : Float} {P N C P' N' C' : ℕ} → Rounds f z P N C → Rounds f z' P' N' C' → 2 * ((P - N) * C') ≤ (P' - N') * C → Normal f (hi f z') → hi f z < hi f z'
+pub apart : {f : Format} {z z' : Float} {P N C P' N' C' : ℕ} → Rounds f z P N C → Rounds f z' P' N' C' → 2 * ((P - N) * C') ≤ (P' - N') * C
+    → Normal f (hi f z') → hi f z < hi f z'
 unfolding limit
 apart {f} {z} {z'} {P} {N} {C} {P'} {N'} {C'} r s h v = go (decLe (2 ^ (prec f - 1) * C) a)
   where
@@ -318,16 +340,21 @@ apart {f} {z} {z'} {P} {N} {C} {P'} {N'} {C'} r s h v = go (decLe (2 ^ (prec f -
         (mul-pos (lt-of-lt-of-le (mul-pos (pow-pos (prec f - 1)) (s .below)) wide-b) (r .below)))
     go (no k) =
         lt-of-le-of-lt
-        (le-trans (le-of-eq (r .hi)) (le-trans (near-mono f a C (2 ^ (prec f - 1)) 1 (r .below) (pow-pos 0) (le-trans (le-of-eq (mul-one a)) (le-of-lt (lt-of-not-le k)))) (le-of-eq (least f))))
+        (le-trans (le-of-eq (r .hi))
+        (le-trans (near-mono f a C (2 ^ (prec f - 1)) 1 (r .below) (pow-pos 0) (le-trans (le-of-eq (mul-one a)) (le-of-lt (lt-of-not-le k))))
+        (le-of-eq (least f))))
         (v .least)
 
 -- of quotients by one divisor
-pub div-apart : {f : Format} {x x' y : Float} → Num f x → Num f x' → Num f y → 0 < hi f y → Num f (div f x y) → Num f (div f x' y) → lo f x ≡ 0 → lo f x' ≡ 0
+pub div-apart : {f : Format} {x x' y : Float} → Num f x → Num f x' → Num f y → 0 < hi f y → Num f (div f x y) → Num f (div f x' y) → lo f x ≡ 0
+    → lo f x' ≡ 0
     → 2 * hi f x ≤ hi f x' → Normal f (hi f (div f x' y)) → Lt f (div f x y) (div f x' y)
 div-apart {f} {x} {x'} {y} p p' q c n n' a a' h v =
     let r = div-plus p q c n a in
     let s = div-plus p' q c n' a' in
-    let l = apart r s (rw (sub-zero (hi f x * unit f), sub-zero (hi f x' * unit f)) (le-trans (le-of-eq (ac (hi f x) (unit f) (hi f y))) (mul-le-mul-right (hi f y) (mul-le-mul-right (unit f) h)))) v in
+    let l =
+    apart r s (rw (sub-zero (hi f x * unit f), sub-zero (hi f x' * unit f))
+    (le-trans (le-of-eq (ac (hi f x) (unit f) (hi f y))) (mul-le-mul-right (hi f y) (mul-le-mul-right (unit f) h)))) v in
     let z = above-none f (div f x' y) (lt-of-le-of-lt zero-le l) in
     omega arith
   where

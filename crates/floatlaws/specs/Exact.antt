@@ -1,9 +1,11 @@
--- Where an operation loses nothing: a result that is a value of the format is that value (`exactly`), a product with a power of two in range (`scale`, `halve`), a whole number as a float (`int-exact`);
+-- Where an operation loses nothing: a result that is a value of the format is that value (`exactly`), a product with a power of two in range
+-- (`scale`, `halve`), a whole number as a float (`int-exact`);
 -- and the difference of two values that are not the same is not 0 and has the right sign (gradual underflow). Assumes nothing.
 use mathlib.Core.Path.{_≡_, refl, sym, ap, _∙_}
 use mathlib.Core.Logic.{_⊎_, inl, inr}
 use Prim.Native.Nat.{ℕ, suc, _+_, _-_, _*_, _^_, _≤_, _<_}
-use native.Mathlib.Nat.{le-refl, le-trans, le-of-eq, lt-of-lt-of-le, lt-of-le-of-lt, lt-of-not-le, not-le-of-lt, add-comm, add-le-add, sub-zero, zero-sub, sub-le, sub-add-cancel, mul-le-mul-left, zero-mul, mul-one, mul-comm, mul-assoc, mul-pos}
+use native.Mathlib.Nat.{le-refl, le-trans, le-of-eq, lt-of-lt-of-le, lt-of-le-of-lt, add-comm, add-le-add, sub-zero, zero-sub, sub-le, sub-add-cancel}
+use native.Mathlib.Nat.{mul-le-mul-left, zero-mul, mul-one, mul-comm, mul-assoc, mul-pos}
 use native.Mathlib.Omega.{arith}
 use lib.IntN.{pos}
 use lib.Dec.{T, lit<, le→leb}
@@ -36,10 +38,14 @@ one-unit f = near-exact f 1 1 1 0 (pow-pos 0) (one-lt f) (one-under f) refl
 
 module _ {f : Format} {x y : Float} (p : Num f x) (q : Num f y) (r : Num f (sub f x y)) where
   pub sub-above : Lt f y x → 0 < hi f (sub f x y)
-  sub-above h = rw (sub-rounds p q r .hi) (le-trans (le-of-eq (sym (one-unit f))) (near-le f 1 (hi f x + lo f y - (lo f x + hi f y)) 1 (pow-pos 0) (omega arith)))
+  sub-above h =
+      rw (sub-rounds p q r .hi)
+      (le-trans (le-of-eq (sym (one-unit f))) (near-le f 1 (hi f x + lo f y - (lo f x + hi f y)) 1 (pow-pos 0) (omega arith)))
 
   pub sub-below : Lt f x y → 0 < lo f (sub f x y)
-  sub-below h = rw (sub-rounds p q r .lo) (le-trans (le-of-eq (sym (one-unit f))) (near-le f 1 (lo f x + hi f y - (hi f x + lo f y)) 1 (pow-pos 0) (omega arith)))
+  sub-below h =
+      rw (sub-rounds p q r .lo)
+      (le-trans (le-of-eq (sym (one-unit f))) (near-le f 1 (lo f x + hi f y - (hi f x + lo f y)) 1 (pow-pos 0) (omega arith)))
 
 -- ---- a power of two
 near-scale : (f : Format) (x : Float) (k : ℕ) → Fin f x → mag f x * 2 ^ k < overflow f → near f (mag f x * 2 ^ k) 1 ≡ mag f x * 2 ^ k
@@ -47,34 +53,47 @@ near-scale f nan k p h = absurd (p .finite)
 near-scale f (inf s) k p h = absurd (p .finite)
 near-scale f (fin s m e) k p h =
     let g = shape f s m e (p .fit) in
-    let w : mag f (fin s m e) * 2 ^ k ≡ m * 2 ^ (g .j + k) = ap (λ (z : ℕ). z * 2 ^ k) (mag-shape f s m e (p .fit)) ∙ mul-assoc m (2 ^ g .j) (2 ^ k) ∙ ap (λ (z : ℕ). m * z) (sym (pow-add 2 (g .j) k)) in
+    let w : mag f (fin s m e) * 2 ^ k ≡ m * 2 ^ (g .j + k) =
+    ap (λ (z : ℕ). z * 2 ^ k) (mag-shape f s m e (p .fit)) ∙ mul-assoc m (2 ^ g .j) (2 ^ k) ∙ ap (λ (z : ℕ). m * z) (sym (pow-add 2 (g .j) k)) in
     rw w (near-exact f (m * 2 ^ (g .j + k)) 1 m (g .j + k) (pow-pos 0) (g .small) (rw w at h) (sym (mul-one (m * 2 ^ (g .j + k)))))
 
 -- a factor that is not negative acts on each side by itself
-mul-each : {f : Format} {x t : Float} → Num f x → Num f t → Num f (mul f x t) → lo f t ≡ 0 → (hi f (mul f x t) ≡ near f (hi f x * hi f t) (unit f)) × (lo f (mul f x t) ≡ near f (lo f x * hi f t) (unit f))
-mul-each {f} {x} {t} p q r b = (mul-rounds p q r .hi ∙ ap (λ (z : ℕ). near f z (unit f)) (go (one-side f x) .0), mul-rounds p q r .lo ∙ ap (λ (z : ℕ). near f z (unit f)) (go (one-side f x) .1))
+mul-each : {f : Format} {x t : Float} → Num f x → Num f t → Num f (mul f x t) → lo f t ≡ 0
+    → (hi f (mul f x t) ≡ near f (hi f x * hi f t) (unit f)) × (lo f (mul f x t) ≡ near f (lo f x * hi f t) (unit f))
+mul-each {f} {x} {t} p q r b = (
+  mul-rounds p q r .hi ∙ ap (λ (z : ℕ). near f z (unit f)) (go (one-side f x) .0),
+  mul-rounds p q r .lo
+      ∙ ap (λ (z : ℕ). near f z (unit f)) (go (one-side f x) .1),
+)
   where
     clear : (n : ℕ) → n ≡ 0 → n * hi f t ≡ 0
     clear n z = ap (λ (k : ℕ). k * hi f t) z ∙ zero-mul (hi f t)
 
-    go : (hi f x ≡ 0) ⊎ (lo f x ≡ 0) → (hi f x * hi f t + lo f x * lo f t - (hi f x * lo f t + lo f x * hi f t) ≡ hi f x * hi f t) × (hi f x * lo f t + lo f x * hi f t - (hi f x * hi f t + lo f x * lo f t) ≡ lo f x * hi f t)
+    go : (hi f x ≡ 0) ⊎ (lo f x ≡ 0)
+        → (hi f x * hi f t + lo f x * lo f t - (hi f x * lo f t + lo f x * hi f t) ≡ hi f x * hi f t) × (hi f x * lo f t + lo f x * hi f t - (hi f x * hi f t + lo f x * lo f t) ≡ lo f x * hi f t)
     go (inl z) = rw b (omega (arith, clear (hi f x) z))
     go (inr z) = rw b (omega (arith, clear (lo f x) z))
 
 -- t is 2 ^ k
-pub scale : {f : Format} {x t : Float} (k : ℕ) → Fin f x → Num f t → Num f (mul f x t) → hi f t ≡ 2 ^ k * unit f → lo f t ≡ 0 → (hi f x + lo f x) * 2 ^ k < limit f
+pub scale : {f : Format} {x t : Float} (k : ℕ) → Fin f x → Num f t → Num f (mul f x t) → hi f t ≡ 2 ^ k * unit f → lo f t ≡ 0
+    → (hi f x + lo f x) * 2 ^ k < limit f
     → (hi f (mul f x t) ≡ hi f x * 2 ^ k) × (lo f (mul f x t) ≡ lo f x * 2 ^ k)
 unfolding limit
 scale {f} {x} {t} k p q r a b h = (mul-each (num p) q r b .0 ∙ moved (hi f x) ∙ own .0, mul-each (num p) q r b .1 ∙ moved (lo f x) ∙ own .1)
   where
     own : (near f (hi f x * 2 ^ k) 1 ≡ hi f x * 2 ^ k) × (near f (lo f x * 2 ^ k) 1 ≡ lo f x * 2 ^ k)
-    own = each-side f x (λ n. near f (n * 2 ^ k) 1 ≡ n * 2 ^ k) (rw (zero-mul (2 ^ k)) (near-zero f 1 (pow-pos 0))) (near-scale f x k p (rw (both-sides f x) at h))
+    own =
+        each-side f x (λ n. near f (n * 2 ^ k) 1 ≡ n * 2 ^ k) (rw (zero-mul (2 ^ k)) (near-zero f 1 (pow-pos 0)))
+        (near-scale f x k p (rw (both-sides f x) at h))
 
     moved : (n : ℕ) → near f (n * hi f t) (unit f) ≡ near f (n * 2 ^ k) 1
-    moved n = near-same f (n * hi f t) (unit f) (n * 2 ^ k) 1 (unit-pos f) (pow-pos 0) (mul-one (n * hi f t) ∙ ap (λ (z : ℕ). n * z) a ∙ sym (mul-assoc n (2 ^ k) (unit f)))
+    moved n =
+        near-same f (n * hi f t) (unit f) (n * 2 ^ k) 1 (unit-pos f) (pow-pos 0)
+        (mul-one (n * hi f t) ∙ ap (λ (z : ℕ). n * z) a ∙ sym (mul-assoc n (2 ^ k) (unit f)))
 
 -- the power of two first, as in 2.0 * x
-pub scale' : {f : Format} {x t : Float} (k : ℕ) → Fin f x → Num f t → Num f (mul f t x) → hi f t ≡ 2 ^ k * unit f → lo f t ≡ 0 → (hi f x + lo f x) * 2 ^ k < limit f
+pub scale' : {f : Format} {x t : Float} (k : ℕ) → Fin f x → Num f t → Num f (mul f t x) → hi f t ≡ 2 ^ k * unit f → lo f t ≡ 0
+    → (hi f x + lo f x) * 2 ^ k < limit f
     → (hi f (mul f t x) ≡ hi f x * 2 ^ k) × (lo f (mul f t x) ≡ lo f x * 2 ^ k)
 scale' {f} {x} {t} k p q r a b h = rw (mul-swap f t x) (scale k p q (rw (mul-swap f t x) at r) a b h)
 
@@ -88,17 +107,22 @@ near-halve f (inf s) k p h = absurd (p .finite)
 near-halve f (fin s m e) k p h =
     let g = shape f s m e (p .fit) in
     let w = mag-shape f s m e (p .fit) in
-    let l : k ≤ g .j = room (prec f) (g .j) k (two-le-pos (prec f) (two f)) (exp-lt (lt-of-le-of-lt (rw w at h) (shl-lt (prec f) (g .j) (g .small)))) in
-    let a : m * 2 ^ (g .j - k) * 2 ^ k ≡ m * 2 ^ g .j = mul-assoc m (2 ^ (g .j - k)) (2 ^ k) ∙ ap (λ (z : ℕ). m * z) (sym (pow-add 2 (g .j - k) k) ∙ ap (λ (z : ℕ). 2 ^ z) (sub-add-cancel l)) in
+    let l : k ≤ g .j =
+    room (prec f) (g .j) k (two-le-pos (prec f) (two f)) (exp-lt (lt-of-le-of-lt (rw w at h) (shl-lt (prec f) (g .j) (g .small)))) in
+    let a : m * 2 ^ (g .j - k) * 2 ^ k ≡ m * 2 ^ g .j =
+    mul-assoc m (2 ^ (g .j - k)) (2 ^ k) ∙ ap (λ (z : ℕ). m * z) (sym (pow-add 2 (g .j - k) k) ∙ ap (λ (z : ℕ). 2 ^ z) (sub-add-cancel l)) in
     let b : m * 2 ^ (g .j - k) < overflow f = lt-of-le-of-lt (mul-le-mul-left m (pow-mono (sub-le (g .j) k))) (g .under) in
     ap (λ (z : ℕ). z * 2 ^ k) (near-exact f (mag f (fin s m e)) (2 ^ k) m (g .j - k) (pow-pos k) (g .small) b (w ∙ sym a)) ∙ a ∙ sym w
 
-half-sides : {f : Format} {x : Float} (k : ℕ) → Fin f x → 2 ^ (prec f - 1 + k) ≤ hi f x + lo f x → (near f (hi f x) (2 ^ k) * 2 ^ k ≡ hi f x) × (near f (lo f x) (2 ^ k) * 2 ^ k ≡ lo f x)
+half-sides : {f : Format} {x : Float} (k : ℕ) → Fin f x → 2 ^ (prec f - 1 + k) ≤ hi f x + lo f x
+    → (near f (hi f x) (2 ^ k) * 2 ^ k ≡ hi f x) × (near f (lo f x) (2 ^ k) * 2 ^ k ≡ lo f x)
 half-sides {f} {x} k p h =
-    each-side f x (λ n. near f n (2 ^ k) * 2 ^ k ≡ n) (rw (near-zero f (2 ^ k) (pow-pos k)) (zero-mul (2 ^ k))) (near-halve f x k p (rw (both-sides f x) at h))
+    each-side f x (λ n. near f n (2 ^ k) * 2 ^ k ≡ n) (rw (near-zero f (2 ^ k) (pow-pos k)) (zero-mul (2 ^ k)))
+    (near-halve f x k p (rw (both-sides f x) at h))
 
 -- t is 2 ^ -k
-pub halve : {f : Format} {x t : Float} (k : ℕ) → Fin f x → Num f t → Num f (mul f x t) → hi f t * 2 ^ k ≡ unit f → lo f t ≡ 0 → 2 ^ (prec f - 1 + k) ≤ hi f x + lo f x
+pub halve : {f : Format} {x t : Float} (k : ℕ) → Fin f x → Num f t → Num f (mul f x t) → hi f t * 2 ^ k ≡ unit f → lo f t ≡ 0
+    → 2 ^ (prec f - 1 + k) ≤ hi f x + lo f x
     → (hi f (mul f x t) * 2 ^ k ≡ hi f x) × (lo f (mul f x t) * 2 ^ k ≡ lo f x)
 halve {f} {x} {t} k p q r a b h =
     let o = half-sides k p h in
@@ -109,7 +133,8 @@ halve {f} {x} {t} k p q r a b h =
     moved n = near-same f (n * hi f t) (unit f) n (2 ^ k) (unit-pos f) (pow-pos k) (mul-assoc n (hi f t) (2 ^ k) ∙ ap (λ (z : ℕ). n * z) a)
 
 -- t is 2 ^ k, and divides
-pub div-halve : {f : Format} {x t : Float} (k : ℕ) → Fin f x → Num f t → Num f (div f x t) → hi f t ≡ 2 ^ k * unit f → 2 ^ (prec f - 1 + k) ≤ hi f x + lo f x
+pub div-halve : {f : Format} {x t : Float} (k : ℕ) → Fin f x → Num f t → Num f (div f x t) → hi f t ≡ 2 ^ k * unit f
+    → 2 ^ (prec f - 1 + k) ≤ hi f x + lo f x
     → (hi f (div f x t) * 2 ^ k ≡ hi f x) × (lo f (div f x t) * 2 ^ k ≡ lo f x)
 div-halve {f} {x} {t} k p q r a h =
     let c : 0 < hi f t = lt-of-lt-of-le (mul-pos (pow-pos k) (unit-pos f)) (le-of-eq (sym a)) in
@@ -121,7 +146,9 @@ div-halve {f} {x} {t} k p q r a h =
     )
   where
     moved : (n : ℕ) → 0 < hi f t → near f (n * unit f) (hi f t) ≡ near f n (2 ^ k)
-    moved n c = near-same f (n * unit f) (hi f t) n (2 ^ k) c (pow-pos k) (mul-assoc n (unit f) (2 ^ k) ∙ ap (λ (z : ℕ). n * z) (mul-comm (unit f) (2 ^ k) ∙ sym a))
+    moved n c =
+        near-same f (n * unit f) (hi f t) n (2 ^ k) c (pow-pos k)
+        (mul-assoc n (unit f) (2 ^ k) ∙ ap (λ (z : ℕ). n * z) (mul-comm (unit f) (2 ^ k) ∙ sym a))
 
     clear : (n : ℕ) → n ≡ 0 → n * unit f ≡ 0
     clear n z = ap (λ (k : ℕ). k * unit f) z ∙ zero-mul (unit f)
@@ -134,12 +161,15 @@ div-halve {f} {x} {t} k p q r a h =
 pub int-exact : (f : Format) (n : ℕ) → n < 2 ^ prec f → (hi f (ofInt f (pos n)) ≡ n * unit f) × (lo f (ofInt f (pos n)) ≡ 0)
 unfolding unit
 int-exact f n h = (
-  int-rounds f n .hi ∙ ap (λ (z : ℕ). near f z 1) (sub-zero (n * 2 ^ low f)) ∙ near-exact f (n * 2 ^ low f) 1 n (low f) (pow-pos 0) h fine (sym (mul-one (n * 2 ^ low f))),
+  int-rounds f n .hi ∙ ap (λ (z : ℕ). near f z 1) (sub-zero (n * 2 ^ low f))
+      ∙ near-exact f (n * 2 ^ low f) 1 n (low f) (pow-pos 0) h fine (sym (mul-one (n * 2 ^ low f))),
   int-rounds f n .lo ∙ ap (λ (z : ℕ). near f z 1) (zero-sub (n * 2 ^ low f)) ∙ near-zero f 1 (pow-pos 0),
 )
   where
     fine : n * 2 ^ low f < overflow f
-    fine = lt-of-lt-of-le (shl-lt (prec f) (low f) h) (pow-mono (le-trans (add-le-add (reach f) (le-refl (low f))) (le-of-eq (add-comm (suc (emax f)) (low f)))))
+    fine =
+        lt-of-lt-of-le (shl-lt (prec f) (low f) h)
+        (pow-mono (le-trans (add-le-add (reach f) (le-refl (low f))) (le-of-eq (add-comm (suc (emax f)) (low f)))))
 
 -- its cast is defined
 pub in-float : (f : Format) (n : ℕ) → n ≤ 2 ^ prec f → T (inFloat f (pos n))

@@ -1,4 +1,5 @@
--- Finite values (`Fin f x`), and where an operation's result is no NaN: a sum or a difference with a finite side, a product of finite factors or with a factor that is finite and not 0,
+-- Finite values (`Fin f x`), and where an operation's result is no NaN: a sum or a difference with a finite side, a product of finite factors or with
+-- a factor that is finite and not 0,
 -- a quotient by a finite number above zero. Assumes nothing.
 use mathlib.Core.Path.{_≡_}
 use Prim.Native.Nat.{ℕ, zero, suc, _+_, _-_, _*_, _<_}
@@ -69,8 +70,10 @@ cond-real false x y p q = q
 sum-real : (f : Format) (s : Bool) (a : ℕ) (t : Bool) (b c : ℕ) → Real (sum f s a t b c)
 unfolding sum
 sum-real f s a t b c =
-    cond-real (Bool·beq s t) (round f s (a + b) c) (cond (ltb a b) (round f t (b - a) c) (round f (s && ltb b a) (a - b) c)) (round-num f s (a + b) c .real)
-    (cond-real (ltb a b) (round f t (b - a) c) (round f (s && ltb b a) (a - b) c) (round-num f t (b - a) c .real) (round-num f (s && ltb b a) (a - b) c .real))
+    cond-real (Bool·beq s t) (round f s (a + b) c) (cond (ltb a b) (round f t (b - a) c) (round f (s && ltb b a) (a - b) c))
+    (round-num f s (a + b) c .real)
+    (cond-real (ltb a b) (round f t (b - a) c) (round f (s && ltb b a) (a - b) c) (round-num f t (b - a) c .real)
+    (round-num f (s && ltb b a) (a - b) c .real))
 
 add-real : (f : Format) (x y : Float) → T (finite x) → Real y → Real (add f x y)
 unfolding add isNan
@@ -133,7 +136,8 @@ mul-real-pos f (fin s m e) (inf t) p h q = rw (not-zero f s m e h) tt
 mul-real-pos f (fin s m e) (fin t n d) p h q = round-num f (unlike s t) (m * up e * (n * up d)) (down e * down d) .real
 
 pub mul-num-pos : {f : Format} {x y : Float} → Fin f x → 0 < hi f x → Num f y → Num f (mul f x y)
-mul-num-pos {f} {x} {y} p h q = record { fit = mul-fits f x y; real = mul-real-pos f x y (p .finite) (lt-of-lt-of-le h (omega (arith, both-sides f x))) (q .real) }
+mul-num-pos {f} {x} {y} p h q =
+    record { fit = mul-fits f x y; real = mul-real-pos f x y (p .finite) (lt-of-lt-of-le h (omega (arith, both-sides f x))) (q .real) }
 
 div-real : (f : Format) (x y : Float) → Real x → T (finite y) → 0 < hi f y → Real (div f x y)
 unfolding div hi isNan
@@ -144,7 +148,8 @@ div-real f (inf s) (fin t n d) p q h = tt
 div-real f (fin s m e) nan p q h = absurd q
 div-real f (fin s m e) (inf t) p q h = absurd q
 div-real f (fin s m e) (fin true n d) p q h = absurd (lt-irrefl 0 h)
-div-real f (fin s m e) (fin false n d) p q h = rw (not-zero f false n d h) (round-num f (unlike s false) (m * up e * down d) (n * up d * down e) .real)
+div-real f (fin s m e) (fin false n d) p q h =
+    rw (not-zero f false n d h) (round-num f (unlike s false) (m * up e * down d) (n * up d * down e) .real)
 
 pub div-num : {f : Format} {x y : Float} → Num f x → Fin f y → 0 < hi f y → Num f (div f x y)
 div-num {f} {x} {y} p q h = record { fit = div-fits f x y; real = div-real f x y (p .real) (q .finite) h }
@@ -157,7 +162,8 @@ div-real' f (inf s) y p q h = absurd p
 div-real' f (fin s m e) nan p q h = absurd q
 div-real' f (fin s m e) (inf t) p q h = tt
 div-real' f (fin s m e) (fin true n d) p q h = absurd (lt-irrefl 0 h)
-div-real' f (fin s m e) (fin false n d) p q h = rw (not-zero f false n d h) (round-num f (unlike s false) (m * up e * down d) (n * up d * down e) .real)
+div-real' f (fin s m e) (fin false n d) p q h =
+    rw (not-zero f false n d h) (round-num f (unlike s false) (m * up e * down d) (n * up d * down e) .real)
 
 pub div-num' : {f : Format} {x y : Float} → Fin f x → Num f y → 0 < hi f y → Num f (div f x y)
 div-num' {f} {x} {y} p q h = record { fit = div-fits f x y; real = div-real' f x y (p .finite) (q .real) h }
@@ -173,4 +179,8 @@ mul-real-both f (fin s m e) y p q h k = mul-real-pos f (fin s m e) y tt h q
 
 pub mul-num-both : {f : Format} {x y : Float} → Num f x → Num f y → 0 < hi f x → 0 < hi f y → Num f (mul f x y)
 mul-num-both {f} {x} {y} p q h k =
-    record { fit = mul-fits f x y; real = mul-real-both f x y (p .real) (q .real) (lt-of-lt-of-le h (omega (arith, both-sides f x))) (lt-of-lt-of-le k (omega (arith, both-sides f y))) }
+    record {
+      fit = mul-fits f x y;
+      real = mul-real-both f x y (p .real) (q .real) (lt-of-lt-of-le h (omega (arith, both-sides f x)))
+          (lt-of-lt-of-le k (omega (arith, both-sides f y)));
+    }

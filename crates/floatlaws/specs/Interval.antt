@@ -1,5 +1,7 @@
--- Intervals: `In f a b x` says that the finite x is from a to b, two finite values of the format. Each operation takes intervals to the interval of its own results at the ends, since it keeps the order.
--- With closed ends antt runs the operation there, so that a bound on a formula is the formula at the ends and one test: `finite` of each end on the way (`unfold add in tt`), `le` at the last.
+-- Intervals: `In f a b x` says that the finite x is from a to b, two finite values of the format. Each operation takes intervals to the interval of
+-- its own results at the ends, since it keeps the order.
+-- With closed ends antt runs the operation there, so that a bound on a formula is the formula at the ends and one test: `finite` of each end on the
+-- way (`unfold add in tt`), `le` at the last.
 -- A product's and a quotient's operands are not negative. Assumes nothing.
 use mathlib.Core.Path.{_≡_, refl}
 use Prim.Native.Nat.{_-_, _^_, _<_}
@@ -59,10 +61,17 @@ in-pos p t = le-pos (num (p .from)) t (p .low)
 
 -- an interval whose lower end is in the normal range
 pub in-normal : {f : Format} {a b x : Float} → In f a b x → T (ltb (2 ^ (prec f - 1)) (hi f a)) → Normal f (hi f x)
-in-normal {f} {a} p t = let s = sides (p .low) in record { least = lt-of-lt-of-le (ltb→lt (2 ^ (prec f - 1)) (hi f a) t) (s .0); most = omega (arith, fin-under (p .is)) }
+in-normal {f} {a} p t =
+    let s = sides (p .low) in record { least = lt-of-lt-of-le (ltb→lt (2 ^ (prec f - 1)) (hi f a) t) (s .0); most = omega (arith, fin-under (p .is)) }
 
 four : (a b c d : Bool) → T (a && b && c && d) → T a × T b × T c × T d
-four a b c d t = (and-l a b (and-l (a && b) c (and-l (a && b && c) d t)), and-r a b (and-l (a && b) c (and-l (a && b && c) d t)), and-r (a && b) c (and-l (a && b && c) d t), and-r (a && b && c) d t)
+four a b c d t = (
+  and-l a b (and-l (a && b) c (and-l (a && b && c) d t)),
+  and-r a b (and-l (a && b) c (and-l (a && b && c) d t)),
+  and-r (a && b) c
+      (and-l (a && b && c) d t),
+  and-r (a && b && c) d t,
+)
 
 pub neg-in : {f : Format} {a b x : Float} → In f a b x → In f (neg b) (neg a) (neg x)
 neg-in p = record { from = neg-fin (p .to); to = neg-fin (p .from); is = neg-fin (p .is); low = neg-anti (p .high); high = neg-anti (p .low) }
@@ -106,10 +115,12 @@ module _ {f : Format} {a b x a' b' y : Float} (p : In f a b x) (q : In f a' b' y
       let B : Fin f (div f b a') = record { fit = div-fits f b a'; finite = k .3 } in
       within A B n
       (div-both (num (p .from)) (num (p .is)) (num (q .to)) (num (q .is)) (num A) n (plain f a (k .0)) c (p .low) (q .high))
-      (div-both (num (p .is)) (num (p .to)) (num (q .is)) (num (q .from)) n (num B) (none p (k .0)) (hi-positive f a' (num (q .from)) (k .1)) (p .high) (q .low))
+      (div-both (num (p .is)) (num (p .to)) (num (q .is)) (num (q .from)) n (num B) (none p (k .0)) (hi-positive f a' (num (q .from)) (k .1))
+      (p .high) (q .low))
 
   -- the second factor of either sign
-  pub mul-in-signed : T (not (negative a) && negative a' && not (negative b') && (finite (mul f b a') && finite (mul f b b'))) → In f (mul f b a') (mul f b b') (mul f x y)
+  pub mul-in-signed : T (not (negative a) && negative a' && not (negative b') && (finite (mul f b a') && finite (mul f b b')))
+      → In f (mul f b a') (mul f b b') (mul f x y)
   mul-in-signed t =
       let k = four (not (negative a)) (negative a') (not (negative b')) (finite (mul f b a') && finite (mul f b b')) t in
       let n = mul-num (p .is) (q .is) in
@@ -118,5 +129,7 @@ module _ {f : Format} {a b x a' b' y : Float} (p : In f a b x) (q : In f a' b' y
       let A : Fin f (mul f b a') = record { fit = mul-fits f b a'; finite = and-l (finite (mul f b a')) (finite (mul f b b')) (k .3) } in
       let B : Fin f (mul f b b') = record { fit = mul-fits f b b'; finite = and-r (finite (mul f b a')) (finite (mul f b b')) (k .3) } in
       within A B n
-      (le-trans (mul-anti (num (p .is)) (num (p .to)) (num (q .from)) l (num A) (minus f a' (k .1)) (p .high)) (mul-mono' (num (q .from)) (num (q .is)) (num (p .is)) l n (none p (k .0)) (q .low)))
-      (le-trans (mul-mono' (num (q .is)) (num (q .to)) (num (p .is)) n h (none p (k .0)) (q .high)) (mul-mono (num (p .is)) (num (p .to)) (num (q .to)) h (num B) (plain f b' (k .2)) (p .high)))
+      (le-trans (mul-anti (num (p .is)) (num (p .to)) (num (q .from)) l (num A) (minus f a' (k .1)) (p .high))
+      (mul-mono' (num (q .from)) (num (q .is)) (num (p .is)) l n (none p (k .0)) (q .low)))
+      (le-trans (mul-mono' (num (q .is)) (num (q .to)) (num (p .is)) n h (none p (k .0)) (q .high))
+      (mul-mono (num (p .is)) (num (p .to)) (num (q .to)) h (num B) (plain f b' (k .2)) (p .high)))

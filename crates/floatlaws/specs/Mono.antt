@@ -29,10 +29,12 @@ grows a b c d k h = le-trans (le-of-eq (sym (add-mul a b k))) (le-trans (mul-le-
 
 module _ {f : Format} {x y z : Float} (p : Num f x) (q : Num f y) (s : Num f z) where
   pub mul-mono : Num f (mul f x z) → Num f (mul f y z) → lo f z ≡ 0 → Le f x y → Le f (mul f x z) (mul f y z)
-  mul-mono r r' e h = same-den (mul-rounds p s r) (mul-rounds q s r') (rw e (let k = grows (hi f x) (lo f y) (hi f y) (lo f x) (hi f z) (h .le) in omega arith))
+  mul-mono r r' e h =
+      same-den (mul-rounds p s r) (mul-rounds q s r') (rw e (let k = grows (hi f x) (lo f y) (hi f y) (lo f x) (hi f z) (h .le) in omega arith))
 
   pub mul-anti : Num f (mul f x z) → Num f (mul f y z) → hi f z ≡ 0 → Le f x y → Le f (mul f y z) (mul f x z)
-  mul-anti r r' e h = same-den (mul-rounds q s r') (mul-rounds p s r) (rw e (let k = grows (hi f x) (lo f y) (hi f y) (lo f x) (lo f z) (h .le) in omega arith))
+  mul-anti r r' e h =
+      same-den (mul-rounds q s r') (mul-rounds p s r) (rw e (let k = grows (hi f x) (lo f y) (hi f y) (lo f x) (lo f z) (h .le) in omega arith))
 
   -- the same with z first
   pub mul-mono' : Num f (mul f z x) → Num f (mul f z y) → lo f z ≡ 0 → Le f x y → Le f (mul f z x) (mul f z y)
@@ -57,7 +59,8 @@ module _ {f : Format} {x x' y y' : Float} (p : Num f x) (p' : Num f x') (q : Num
   div-both r r' a c h k =
       let i = sides h in
       let j = sides k in
-      rounds-mono (div-plus p q (omega arith) r a) (div-plus p' q' c r' (omega arith)) (omega (arith, mul-le-mul (mul-le-mul-right (unit f) (i .0)) (j .0)))
+      rounds-mono (div-plus p q (omega arith) r a) (div-plus p' q' c r' (omega arith))
+      (omega (arith, mul-le-mul (mul-le-mul-right (unit f) (i .0)) (j .0)))
 
 -- ---- integers as floats
 pub int-mono : (f : Format) (m n : ℕ) → m ≤ n → Le f (ofInt f (pos m)) (ofInt f (pos n))

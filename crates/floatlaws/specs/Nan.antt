@@ -1,4 +1,5 @@
--- What a program's test `x != x` says: only a NaN differs from itself, since any other value is as large as itself. And 0 / 0 makes one. Assumes nothing.
+-- What a program's test `x != x` says: only a NaN differs from itself, since any other value is as large as itself. And 0 / 0 makes one. Assumes
+-- nothing.
 use mathlib.Core.Path.{_≡_, refl, sym, _∙_, subst}
 use Prim.Native.Nat.{_*_}
 use mathlib.Core.Bool.{Bool, true, false, not}

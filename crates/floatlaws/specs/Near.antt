@@ -1,10 +1,13 @@
--- Rounding, as a function on numbers: `near f a c` is the fraction a / c of units, rounded to a value of the format, in units; `big` where that is an infinity.
--- It keeps the order, and a value of the format is its own. `Rounds f z P N C` says that the float z is the rounded (P - N) / C units: each operation's result is such a z (`Ops`),
+-- Rounding, as a function on numbers: `near f a c` is the fraction a / c of units, rounded to a value of the format, in units; `big` where that is an
+-- infinity.
+-- It keeps the order, and a value of the format is its own. `Rounds f z P N C` says that the float z is the rounded (P - N) / C units: each
+-- operation's result is such a z (`Ops`),
 -- and each law here is stated once, over `Rounds`. Assumes nothing.
 use mathlib.Core.Path.{_≡_, refl, sym, ap, ap₂, _∙_}
 use mathlib.Core.Logic.{_⊎_, inl, inr}
 use Prim.Native.Nat.{ℕ, zero, suc, _+_, _-_, _*_, _^_, _≤_, _<_, zero-le}
-use native.Mathlib.Nat.{le-trans, le-of-eq, le-antisymm, zero-mul, mul-one, one-mul, sub-eq-zero-of-le, mul-comm, mul-assoc, mul-pos, mul-sub, mul-le-mul-right, mul-le-mul-left, le-of-mul-le-mul-right, eq-of-mul-eq-mul-right}
+use native.Mathlib.Nat.{le-trans, le-of-eq, le-antisymm, zero-mul, mul-one, one-mul, sub-eq-zero-of-le, mul-comm, mul-assoc, mul-pos, mul-sub}
+use native.Mathlib.Nat.{mul-le-mul-right, mul-le-mul-left, le-of-mul-le-mul-right, eq-of-mul-eq-mul-right}
 use native.Mathlib.Omega.{arith}
 use mathlib.Core.Bool.{Bool, true, false, not, cond}
 use lib.Dec.{T, ltb}
@@ -65,7 +68,8 @@ near-mono f a c b d C D h =
     let t = round-mono f a (c * l) b (d * l) (mul-pos C (pow-pos (low f))) (mul-pos D (pow-pos (low f))) k in
     let p = round-num f false a (c * l) in
     let q = round-num f false b (d * l) in
-    le-trans (le-of-eq (sym (hi-plus f a (c * l)))) (le-trans (sides {x = round f false a (c * l)} {y = round f false b (d * l)} (of-le p q t) .0) (le-of-eq (hi-plus f b (d * l))))
+    le-trans (le-of-eq (sym (hi-plus f a (c * l))))
+    (le-trans (sides {x = round f false a (c * l)} {y = round f false b (d * l)} (of-le p q t) .0) (le-of-eq (hi-plus f b (d * l))))
   where
     hi-plus : (f : Format) (a c : ℕ) → hi f (round f false a c) ≡ mag f (round f false a c)
     hi-plus f a c = unfold hi in ap (λ (t : Bool). cond t 0 (mag f (round f false a c))) (round-made f false a c .sign)
@@ -106,10 +110,13 @@ unfolding near
 near-big f a c = mag-le f (round f false a (c * 2 ^ low f)) (round-fits f false a (c * 2 ^ low f))
 
 pub near-top : (f : Format) (a c : ℕ) → 0 < c → overflow f * c ≤ a → near f a c ≡ big f
-near-top f a c C h = le-antisymm (near-big f a c) (le-trans (le-of-eq (sym (at-top f))) (near-mono f (overflow f) 1 a c (pow-pos 0) C (le-trans h (le-of-eq (sym (mul-one a))))))
+near-top f a c C h =
+    le-antisymm (near-big f a c)
+    (le-trans (le-of-eq (sym (at-top f))) (near-mono f (overflow f) 1 a c (pow-pos 0) C (le-trans h (le-of-eq (sym (mul-one a))))))
 
 pub near-tiny : (f : Format) (a c : ℕ) → 0 < c → a * 4 ≤ c → near f a c ≡ 0
-near-tiny f a c C h = le-antisymm (le-trans (near-mono f a c 1 4 C (pow-pos 2) (le-trans h (le-of-eq (sym (one-mul c))))) (le-of-eq (at-quarter f))) zero-le
+near-tiny f a c C h =
+    le-antisymm (le-trans (near-mono f a c 1 4 C (pow-pos 2) (le-trans h (le-of-eq (sym (one-mul c))))) (le-of-eq (at-quarter f))) zero-le
 
 -- ---- a value of the format is its own
 pub near-self : (f : Format) (x : Float) → Num f x → near f (mag f x) 1 ≡ mag f x
@@ -130,7 +137,8 @@ pub sub-mul : (a b c : ℕ) → (a - b) * c ≡ a * c - b * c
 sub-mul a b c = mul-comm (a - b) c ∙ mul-sub c a b ∙ ap₂ (λ (x y : ℕ). x - y) (mul-comm c a) (mul-comm c b)
 
 -- of two numbers the larger rounds to the larger
-pub rounds-mono : {f : Format} {z z' : Float} {P N C P' N' C' : ℕ} → Rounds f z P N C → Rounds f z' P' N' C' → P * C' + N' * C ≤ P' * C + N * C' → Le f z z'
+pub rounds-mono : {f : Format} {z z' : Float} {P N C P' N' C' : ℕ} → Rounds f z P N C → Rounds f z' P' N' C' → P * C' + N' * C ≤ P' * C + N * C'
+    → Le f z z'
 rounds-mono {f} {z} {z'} {P} {N} {C} {P'} {N'} {C'} r s h =
     let a = sub-mul P N C' in
     let b = sub-mul P' N' C in
@@ -154,7 +162,11 @@ rounds-self {f} {x} p = record { num = p; below = pow-pos 0; hi = go (one-side f
     nothing-sub a b e = omega arith
 
     clear : (a b : ℕ) → a ≡ 0 → near f b 1 ≡ b → (a ≡ near f (a - b) 1) × (b ≡ near f (b - a) 1)
-    clear a b z e = (z ∙ sym (ap (λ (n : ℕ). near f n 1) (nothing-sub a b z) ∙ near-zero f 1 (pow-pos 0)), sym (ap (λ (n : ℕ). near f n 1) (sub-nothing b a z) ∙ e))
+    clear a b z e = (
+      z ∙ sym (ap (λ (n : ℕ). near f n 1) (nothing-sub a b z) ∙ near-zero f 1 (pow-pos 0)),
+      sym
+          (ap (λ (n : ℕ). near f n 1) (sub-nothing b a z) ∙ e),
+    )
 
     go : (hi f x ≡ 0) ⊎ (lo f x ≡ 0) → (hi f x ≡ near f (hi f x - lo f x) 1) × (lo f x ≡ near f (lo f x - hi f x) 1)
     go (inl z) = clear (hi f x) (lo f x) z (own .1)
@@ -167,18 +179,21 @@ above p r h = rounds-mono (rounds-self p) r (omega arith)
 pub under : {f : Format} {x z : Float} {P N C : ℕ} → Num f x → Rounds f z P N C → P + lo f x * C ≤ hi f x * C + N → Le f z x
 under p r h = rounds-mono r (rounds-self p) (omega arith)
 
-pub rounds-same : {f : Format} {z z' : Float} {P N C P' N' C' : ℕ} → Rounds f z P N C → Rounds f z' P' N' C' → P * C' + N' * C ≡ P' * C + N * C' → Same f z z'
+pub rounds-same : {f : Format} {z z' : Float} {P N C P' N' C' : ℕ} → Rounds f z P N C → Rounds f z' P' N' C' → P * C' + N' * C ≡ P' * C + N * C'
+    → Same f z z'
 rounds-same r s e = same (rounds-mono r s (le-of-eq e)) (rounds-mono s r (omega arith))
 
 -- ---- what `round` makes of a fraction a / c that is (P - N) / C units
-near-equal : (f : Format) (a c P N C : ℕ) → 0 < c → 0 < C → P * c ≡ a * 2 ^ low f * C + N * c → (near f (a * 2 ^ low f) c ≡ near f (P - N) C) × (near f (N - P) C ≡ 0)
+near-equal : (f : Format) (a c P N C : ℕ) → 0 < c → 0 < C → P * c ≡ a * 2 ^ low f * C + N * c
+    → (near f (a * 2 ^ low f) c ≡ near f (P - N) C) × (near f (N - P) C ≡ 0)
 near-equal f a c P N C c-pos C-pos e =
     let l = sub-mul P N c in
     let n : N - P ≡ 0 = sub-eq-zero-of-le (le-of-mul-le-mul-right {k = c} (omega arith) c-pos) in
     (near-same f (a * 2 ^ low f) c (P - N) C c-pos C-pos (omega arith), ap (λ (x : ℕ). near f x C) n ∙ near-zero f C C-pos)
 
 -- of the sign s the number's two sides are taken in order or in reverse
-pub round-rounds : (f : Format) (s : Bool) (a c P N C : ℕ) → 0 < c → 0 < C → cond s N P * c ≡ a * 2 ^ low f * C + cond s P N * c → Rounds f (round f s a c) P N C
+pub round-rounds : (f : Format) (s : Bool) (a c P N C : ℕ) → 0 < c → 0 < C → cond s N P * c ≡ a * 2 ^ low f * C + cond s P N * c
+    → Rounds f (round f s a c) P N C
 round-rounds f false a c P N C c-pos C-pos e =
     let k = near-equal f a c P N C c-pos C-pos e in
     record { num = round-num f false a c; below = C-pos; hi = hi-round f false a c c-pos ∙ k .0; lo = lo-round f false a c c-pos ∙ sym (k .1) }

@@ -1,19 +1,21 @@
--- No value of the format is nearer to the exact number than the rounded one (`nearest`): what `round` means, said without its steps, of every operation's result.
--- The rounded number is q * 2 ^ k units and at most half of 2 ^ k away (`near-err`), and from q * 2 ^ k the next value of the format is a whole 2 ^ k away (`spaced-up`, `spaced-down`). Assumes nothing.
+-- No value of the format is nearer to the exact number than the rounded one (`nearest`): what `round` means, said without its steps, of every
+-- operation's result.
+-- The rounded number is q * 2 ^ k units and at most half of 2 ^ k away (`near-err`), and from q * 2 ^ k the next value of the format is a whole 2 ^ k
+-- away (`spaced-up`, `spaced-down`). Assumes nothing.
 use mathlib.Core.Path.{_≡_, refl, sym, ap, _∙_, subst}
 use mathlib.Core.Logic.{_⊎_, inl, inr}
-use Prim.Native.Nat.{ℕ, zero, suc, _+_, _-_, _*_, _/_, _^_, _≤_, _<_, zero-le}
-use native.Mathlib.Nat.{le-refl, le-trans, le-of-eq, le-of-lt, le-of-suc-le-suc, lt-of-lt-of-le, lt-of-le-of-lt, lt-irrefl, eq-or-lt-of-le, eq-zero-or-pos, add-comm, add-mul, mul-one, mul-comm, mul-assoc}
-use native.Mathlib.Nat.{mul-le-mul-right, lt-of-mul-lt-mul-right, add-sub-of-le, sub-add-cancel, sub-eq-zero-of-le, zero-mul, one-mul, suc-mul, add-le-add}
+use Prim.Native.Nat.{ℕ, zero, suc, _+_, _-_, _*_, _^_, _≤_, _<_, zero-le}
+use native.Mathlib.Nat.{le-refl, le-trans, le-of-eq, le-of-lt, le-of-suc-le-suc, lt-of-lt-of-le, lt-of-le-of-lt, lt-irrefl, eq-or-lt-of-le, add-mul}
+use native.Mathlib.Nat.{mul-comm, mul-assoc}
+use native.Mathlib.Nat.{mul-le-mul-right, lt-of-mul-lt-mul-right, sub-add-cancel, sub-eq-zero-of-le, zero-mul, one-mul, suc-mul, add-le-add}
 use native.Mathlib.Numerals.{add-one}
 use native.Mathlib.Omega.{arith}
 use native.Mathlib.Decide.{decLe}
 use mathlib.Core.Bool.{Bool, true, false, not}
 use lib.Dec.{T, leb, leb→le, nleb→lt}
 use lib.Pow.{pow-add, pow-pos, pow-mono, shl-lt}
-use lib.Ieee.{Float, nan, inf, fin, Format, prec, low}
+use lib.Ieee.{Float, nan, inf, fin, Format, prec}
 use lib.Ieee.Fits.{two, two-le-pos}
-use lib.Ieee.Order.{drop}
 use lib.Ieee.Scale.{overflow}
 use Rattle.floatlaws.specs.Value.{limit, mag, hi, lo, shape, mag-shape, one-side, each-side}
 use Rattle.floatlaws.specs.Near.{near, near-zero, Rounds}
@@ -42,7 +44,8 @@ coarse c i k h =
 
 fine : (f : Format) (c i k : ℕ) → c < 2 ^ prec f → i < k → c * 2 ^ i < 2 ^ (prec f - 1) * 2 ^ k
 fine f c i k h l =
-    lt-of-lt-of-le (shl-lt (prec f) i h) (le-trans (pow-mono (one-less (prec f) i k (two-le-pos (prec f) (two f)) l)) (le-of-eq (pow-add 2 (prec f - 1) k)))
+    lt-of-lt-of-le (shl-lt (prec f) i h)
+    (le-trans (pow-mono (one-less (prec f) i k (two-le-pos (prec f) (two f)) l)) (le-of-eq (pow-add 2 (prec f - 1) k)))
   where
     one-less : (p i k : ℕ) → 0 < p → i < k → p + i ≤ p - 1 + k
     one-less p i k h l = omega arith
@@ -54,7 +57,8 @@ module _ (f : Format) (k b : ℕ) (H : Held f b) where
       go : (x : Bool) → (T x → k ≤ H .i) → (T (not x) → H .i < k) → (q + 1) * 2 ^ k ≤ b
       go true y z =
           let e : b ≡ H .c * 2 ^ (H .i - k) * 2 ^ k = H .is ∙ coarse (H .c) (H .i) k (y tt) in
-          le-trans (mul-le-mul-right (2 ^ k) (le-trans (le-of-eq (add-one q)) (lt-of-mul-lt-mul-right (2 ^ k) (lt-of-lt-of-le l (le-of-eq e))))) (le-of-eq (sym e))
+          le-trans (mul-le-mul-right (2 ^ k) (le-trans (le-of-eq (add-one q)) (lt-of-mul-lt-mul-right (2 ^ k) (lt-of-lt-of-le l (le-of-eq e)))))
+          (le-of-eq (sym e))
       go false y z =
           absurd (lt-irrefl b (lt-of-lt-of-le (lt-of-le-of-lt (le-of-eq (H .is)) (fine f (H .c) (H .i) k (H .small) (z tt)))
           (le-trans (mul-le-mul-right (2 ^ k) (h (lt-of-le-of-lt zero-le (z tt)))) (le-of-lt l))))
@@ -67,7 +71,8 @@ module _ (f : Format) (k b : ℕ) (H : Held f b) where
           let e : b ≡ H .c * 2 ^ (H .i - k) * 2 ^ k = H .is ∙ coarse (H .c) (H .i) k (y tt) in
           le-trans (le-of-eq e) (mul-le-mul-right (2 ^ k) (le-of-suc-le-suc (lt-of-mul-lt-mul-right (2 ^ k) (lt-of-le-of-lt (le-of-eq (sym e)) l))))
       go false y z =
-          le-of-lt (lt-of-lt-of-le (lt-of-le-of-lt (le-of-eq (H .is)) (fine f (H .c) (H .i) k (H .small) (z tt))) (mul-le-mul-right (2 ^ k) (h (lt-of-le-of-lt zero-le (z tt)))))
+          le-of-lt (lt-of-lt-of-le (lt-of-le-of-lt (le-of-eq (H .is)) (fine f (H .c) (H .i) k (H .small) (z tt)))
+          (mul-le-mul-right (2 ^ k) (h (lt-of-le-of-lt zero-le (z tt)))))
 
 -- ---- the distance of two numbers
 abbrev pub dist : ℕ → ℕ → ℕ
@@ -90,7 +95,9 @@ module _ (f : Format) (a c b : ℕ) (C : 0 < c) (h : near f a c < overflow f) (H
       omega arith
     where
       step : (q t c : ℕ) → q * t * c + c * t ≡ (q + 1) * t * c
-      step q t c = ap (λ (x : ℕ). q * t * c + x) (mul-comm c t) ∙ sym (ap (λ (x : ℕ). x * c) (add-mul q 1 t ∙ ap (λ (x : ℕ). q * t + x) (one-mul t)) ∙ add-mul (q * t) t c)
+      step q t c =
+          ap (λ (x : ℕ). q * t * c + x) (mul-comm c t)
+          ∙ sym (ap (λ (x : ℕ). x * c) (add-mul q 1 t ∙ ap (λ (x : ℕ). q * t + x) (one-mul t)) ∙ add-mul (q * t) t c)
 
   -- from below, where the number is below the rounded one: then q is above the least that is kept, and b is at least one step down
   below : b < near f a c → a < near f a c * c → dist (near f a c * c) a ≤ dist (b * c) a
@@ -119,7 +126,8 @@ module _ (f : Format) (a c b : ℕ) (C : 0 < c) (h : near f a c < overflow f) (H
       go zero e = absurd (none zero e refl)
       go (suc p) e =
           let w : b * c + c * t ≤ near f a c * c =
-          le-trans (add-le-add (mul-le-mul-right c (spaced-down f (K .k) b H p (more (suc p) p e) (subst (λ (x : ℕ). b < x * t) e (lt-of-lt-of-le l (le-of-eq (K .is)))))) (le-refl (c * t)))
+          le-trans (add-le-add (mul-le-mul-right c
+          (spaced-down f (K .k) b H p (more (suc p) p e) (subst (λ (x : ℕ). b < x * t) e (lt-of-lt-of-le l (le-of-eq (K .is)))))) (le-refl (c * t)))
           (le-of-eq (step p t c ∙ ap (λ (x : ℕ). x * t * c) (sym e) ∙ ap (λ (x : ℕ). x * c) (sym (K .is)))) in
           let r = K .err in
           omega arith
@@ -184,7 +192,8 @@ nearest {f} {z} {y} {P} {N} {C} r p q = go (decLe N P) (one-side f y)
     go (yes h) o =
         let e = sym (sub-add-cancel h) in
         le-trans (le-of-eq (along (hi f z * C) (P - N) P N (lo f z * C) e (clear (lo f z) (r .lo ∙ none N P h)))) (elim o [
-          | inl z ↦ le-trans (up 0 (held-zero f)) (le-trans (le-of-eq (ap (λ (n : ℕ). dist n (P - N)) (zero-mul C))) (across (P - N) P N (hi f y * C) (lo f y * C) e (clear (hi f y) z)))
+          | inl z ↦ le-trans (up 0 (held-zero f))
+              (le-trans (le-of-eq (ap (λ (n : ℕ). dist n (P - N)) (zero-mul C))) (across (P - N) P N (hi f y * C) (lo f y * C) e (clear (hi f y) z)))
           | inr z ↦ le-trans (up (hi f y) (H .0)) (le-of-eq (sym (along (hi f y * C) (P - N) P N (lo f y * C) e (clear (lo f y) z))))
         ])
     go (no h) o =
@@ -192,5 +201,6 @@ nearest {f} {z} {y} {P} {N} {C} r p q = go (decLe N P) (one-side f y)
         let e = sym (sub-add-cancel l) in
         le-trans (le-of-eq (back (lo f z * C) (N - P) P N (hi f z * C) e (clear (hi f z) (r .hi ∙ none P N l)))) (elim o [
           | inl z ↦ le-trans (down (lo f y) (H .1)) (le-of-eq (sym (back (lo f y * C) (N - P) P N (hi f y * C) e (clear (hi f y) z))))
-          | inr z ↦ le-trans (down 0 (held-zero f)) (le-trans (le-of-eq (ap (λ (n : ℕ). dist n (N - P)) (zero-mul C))) (across' (N - P) P N (hi f y * C) (lo f y * C) e (clear (lo f y) z)))
+          | inr z ↦ le-trans (down 0 (held-zero f))
+              (le-trans (le-of-eq (ap (λ (n : ℕ). dist n (N - P)) (zero-mul C))) (across' (N - P) P N (hi f y * C) (lo f y * C) e (clear (lo f y) z)))
         ])

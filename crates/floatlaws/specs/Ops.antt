@@ -1,8 +1,10 @@
--- Each operation's result is its exact result rounded (`Rounds`), where it is no NaN: infinities need no case of their own. The exact result is (P - N) / C units:
+-- Each operation's result is its exact result rounded (`Rounds`), where it is no NaN: infinities need no case of their own. The exact result is (P -
+-- N) / C units:
 -- P and N from the operands' `hi` and `lo`, and C is 1 for a sum, `unit` for a product and the divisor for a quotient. Assumes nothing.
 use mathlib.Core.Path.{_≡_, refl, sym, ap, ap₂, _∙_, subst, subst₂}
 use Prim.Native.Nat.{ℕ, zero, suc, _+_, _-_, _*_, _/_, _^_, _≤_, _<_, zero-le}
-use native.Mathlib.Nat.{le-trans, le-of-eq, le-of-lt, lt-irrefl, zero-add, add-zero, add-mul, zero-mul, mul-comm, mul-assoc, mul-left-comm, mul-mul-mul-comm, mul-pos, mul-le-mul, mul-le-mul-right, mul-le-mul-left, le-mul-of-pos-right, zero-lt-suc}
+use native.Mathlib.Nat.{le-trans, le-of-eq, le-of-lt, lt-irrefl, zero-add, add-zero, add-mul, zero-mul, mul-comm, mul-assoc, mul-left-comm}
+use native.Mathlib.Nat.{mul-mul-mul-comm, mul-pos, mul-le-mul, mul-le-mul-right, mul-le-mul-left, le-mul-of-pos-right, zero-lt-suc}
 use native.Mathlib.Omega.{arith}
 use mathlib.Core.Bool.{Bool, true, false, not, _&&_, cond}
 use lib.IntN.{ℤ, pos}
@@ -40,15 +42,19 @@ sum-rounds f true a true b c A B C p q =
 sum-rounds f false a true b c A B C p q = go (ltb a b) (ltb→lt a b) (nltb→le a b)
   where
     go : (u : Bool) → (T u → a < b) → (T (not u) → b ≤ a) → Rounds f (cond u (round f true (b - a) c) (round f false (a - b) c)) (A + 0) (0 + B) 1
-    go true h k = round-rounds f true (b - a) c (A + 0) (0 + B) 1 C (pow-pos 0) (simp (zero-add, add-zero) (diff a b c (2 ^ low f) A B p q (le-of-lt (h tt))))
+    go true h k =
+        round-rounds f true (b - a) c (A + 0) (0 + B) 1 C (pow-pos 0) (simp (zero-add, add-zero) (diff a b c (2 ^ low f) A B p q (le-of-lt (h tt))))
     go false h k = round-rounds f false (a - b) c (A + 0) (0 + B) 1 C (pow-pos 0) (simp (zero-add, add-zero) (diff b a c (2 ^ low f) B A q p (k tt)))
 sum-rounds f true a false b c A B C p q = go (ltb a b) (ltb b a) (ltb→lt a b) (nltb→le a b) (ltb→lt b a) (nltb→le b a)
   where
     go : (u v : Bool) → (T u → a < b) → (T (not u) → b ≤ a) → (T v → b < a) → (T (not v) → a ≤ b)
         → Rounds f (cond u (round f false (b - a) c) (round f (true && v) (a - b) c)) (0 + B) (A + 0) 1
-    go true v h k i j = round-rounds f false (b - a) c (0 + B) (A + 0) 1 C (pow-pos 0) (simp (zero-add, add-zero) (diff a b c (2 ^ low f) A B p q (le-of-lt (h tt))))
-    go false true h k i j = round-rounds f true (a - b) c (0 + B) (A + 0) 1 C (pow-pos 0) (simp (zero-add, add-zero) (diff b a c (2 ^ low f) B A q p (k tt)))
-    go false false h k i j = round-rounds f false (a - b) c (0 + B) (A + 0) 1 C (pow-pos 0) (simp (zero-add, add-zero) (even a b c (2 ^ low f) A B p q (j tt) (k tt)))
+    go true v h k i j =
+        round-rounds f false (b - a) c (0 + B) (A + 0) 1 C (pow-pos 0) (simp (zero-add, add-zero) (diff a b c (2 ^ low f) A B p q (le-of-lt (h tt))))
+    go false true h k i j =
+        round-rounds f true (a - b) c (0 + B) (A + 0) 1 C (pow-pos 0) (simp (zero-add, add-zero) (diff b a c (2 ^ low f) B A q p (k tt)))
+    go false false h k i j =
+        round-rounds f false (a - b) c (0 + B) (A + 0) 1 C (pow-pos 0) (simp (zero-add, add-zero) (even a b c (2 ^ low f) A B p q (j tt) (k tt)))
 
 -- with an infinity
 twice : (f : Format) → overflow f + overflow f ≤ big f
@@ -61,13 +67,15 @@ twice f = le-trans (double (overflow f)) (mul-le-mul-left (overflow f) (two-le f
     two-le binary32 = lit≤ tt
     two-le binary64 = lit≤ tt
 
-sum-far : (s t : Bool) (W B M : ℕ) → W + W ≤ B → M < W → W * 1 + cond s (cond s 0 B + cond t 0 M) (cond s B 0 + cond t M 0) ≤ cond s (cond s B 0 + cond t M 0) (cond s 0 B + cond t 0 M)
+sum-far : (s t : Bool) (W B M : ℕ) → W + W ≤ B → M < W
+    → W * 1 + cond s (cond s 0 B + cond t 0 M) (cond s B 0 + cond t M 0) ≤ cond s (cond s B 0 + cond t M 0) (cond s 0 B + cond t 0 M)
 sum-far false false W B M h k = omega arith
 sum-far false true W B M h k = omega arith
 sum-far true false W B M h k = omega arith
 sum-far true true W B M h k = omega arith
 
-sum-far' : (s t : Bool) (W B M : ℕ) → W + W ≤ B → M < W → W * 1 + cond t (cond s 0 M + cond t 0 B) (cond s M 0 + cond t B 0) ≤ cond t (cond s M 0 + cond t B 0) (cond s 0 M + cond t 0 B)
+sum-far' : (s t : Bool) (W B M : ℕ) → W + W ≤ B → M < W
+    → W * 1 + cond t (cond s 0 M + cond t 0 B) (cond s M 0 + cond t B 0) ≤ cond t (cond s M 0 + cond t B 0) (cond s 0 M + cond t 0 B)
 sum-far' false false W B M h k = omega arith
 sum-far' false true W B M h k = omega arith
 sum-far' true false W B M h k = omega arith
@@ -89,7 +97,8 @@ add-rounds {f} {x = fin s m e} {y = inf t} p q r =
     inf-rounds f t (cond s 0 (mag f (fin s m e)) + cond t 0 (big f)) (cond s (mag f (fin s m e)) 0 + cond t (big f) 0) 1 (pow-pos 0)
     (sum-far' s t (overflow f) (big f) (mag f (fin s m e)) (twice f) (mag-under f s m e (p .fit)))
 add-rounds {f} {x = fin s m e} {y = fin t n d} p q r =
-    sum-rounds f s (m * up e * down d) t (n * up d * down e) (down e * down d) (mag f (fin s m e)) (mag f (fin t n d)) (mul-pos (down-pos e) (down-pos d))
+    sum-rounds f s (m * up e * down d) t (n * up d * down e) (down e * down d) (mag f (fin s m e)) (mag f (fin t n d))
+    (mul-pos (down-pos e) (down-pos d))
     (cross f s m e d (p .fit)) (cross' f t n d e (q .fit))
 
 pub sub-rounds : {f : Format} {x y : Float} → Num f x → Num f y → Num f (sub f x y) → Rounds f (sub f x y) (hi f x + lo f y) (lo f x + hi f y) 1
@@ -104,14 +113,18 @@ plus s t M K = cond s 0 M * cond t 0 K + cond s M 0 * cond t K 0
 abbrev minus : Bool → Bool → ℕ → ℕ → ℕ
 minus s t M K = cond s 0 M * cond t K 0 + cond s M 0 * cond t 0 K
 
-mul-sides : (s t : Bool) (M K : ℕ) → (cond (unlike s t) (minus s t M K) (plus s t M K) ≡ M * K) × (cond (unlike s t) (plus s t M K) (minus s t M K) ≡ 0)
+mul-sides : (s t : Bool) (M K : ℕ)
+    → (cond (unlike s t) (minus s t M K) (plus s t M K) ≡ M * K) × (cond (unlike s t) (plus s t M K) (minus s t M K) ≡ 0)
 mul-sides false false M K = (omega arith, omega arith)
 mul-sides false true M K = (omega arith, omega arith)
 mul-sides true false M K = (omega arith, omega arith)
 mul-sides true true M K = (omega arith, omega arith)
 
-mul-far : (f : Format) (s t : Bool) (M K : ℕ) → overflow f * 2 ^ low f ≤ M * K → Rounds f (inf (unlike s t)) (plus s t M K) (minus s t M K) (2 ^ low f)
-mul-far f s t M K h = let k = mul-sides s t M K in inf-rounds f (unlike s t) (plus s t M K) (minus s t M K) (2 ^ low f) (pow-pos (low f)) (rw (k .0, k .1) (omega arith))
+mul-far : (f : Format) (s t : Bool) (M K : ℕ) → overflow f * 2 ^ low f ≤ M * K
+    → Rounds f (inf (unlike s t)) (plus s t M K) (minus s t M K) (2 ^ low f)
+mul-far f s t M K h =
+    let k = mul-sides s t M K in inf-rounds f (unlike s t) (plus s t M K) (minus s t M K) (2 ^ low f) (pow-pos (low f))
+    (rw (k .0, k .1) (omega arith))
 
 low-le : (f : Format) → 2 ^ low f ≤ overflow f
 low-le f = pow-mono (more (low f) (suc (emax f)))
@@ -121,7 +134,8 @@ low-le f = pow-mono (more (low f) (suc (emax f)))
 
 pub mag-pos : (f : Format) (s : Bool) (n : ℕ) (d : ℤ) → T (fits f (fin s n d)) → T (not (eqb n 0)) → 0 < mag f (fin s n d)
 mag-pos f s zero d t z = absurd z
-mag-pos f s (suc n) d t z = first-pos (mag f (fin s (suc n) d)) (down d) (rw (mag-is f s (suc n) d t) (mul-pos (mul-pos (zero-lt-suc n) (up-pos d)) (pow-pos (low f))))
+mag-pos f s (suc n) d t z =
+    first-pos (mag f (fin s (suc n) d)) (down d) (rw (mag-is f s (suc n) d t) (mul-pos (mul-pos (zero-lt-suc n) (up-pos d)) (pow-pos (low f))))
 
 pub hi-positive : (f : Format) (x : Float) → Num f x → T (positive x) → 0 < hi f x
 hi-positive f nan p t = absurd t
@@ -137,40 +151,48 @@ hi-positive f (fin false (suc m) e) p t = unfold hi in mag-pos f false (suc m) e
 big-mul : (f : Format) (K : ℕ) → 0 < K → overflow f * 2 ^ low f ≤ big f * K
 big-mul f K h = le-trans (mul-le-mul-left (overflow f) (low-le f)) (le-mul-of-pos-right (big f) h)
 
-pub mul-rounds : {f : Format} {x y : Float} → Num f x → Num f y → Num f (mul f x y) → Rounds f (mul f x y) (hi f x * hi f y + lo f x * lo f y) (hi f x * lo f y + lo f x * hi f y) (unit f)
+pub mul-rounds : {f : Format} {x y : Float} → Num f x → Num f y → Num f (mul f x y)
+    → Rounds f (mul f x y) (hi f x * hi f y + lo f x * lo f y) (hi f x * lo f y + lo f x * hi f y) (unit f)
 unfolding unit mul hi lo mag isNan
 mul-rounds {f} {x = nan} p q r = absurd (p .real)
 mul-rounds {f} {x = inf s} {y = nan} p q r = absurd (q .real)
 mul-rounds {f} {x = inf s} {y = inf t} p q r = mul-far f s t (big f) (big f) (big-mul f (big f) (mul-pos (overflow-pos f) (overflow-pos f)))
 mul-rounds {f} {x = inf s} {y = fin t n d} p q r = go (eqb n 0) (mag-pos f t n d (q .fit)) (r .real)
   where
-    go : (b : Bool) → (T (not b) → 0 < mag f (fin t n d)) → Real (cond b nan (inf (unlike s t))) → Rounds f (cond b nan (inf (unlike s t))) (plus s t (big f) (mag f (fin t n d))) (minus s t (big f) (mag f (fin t n d))) (2 ^ low f)
+    go : (b : Bool) → (T (not b) → 0 < mag f (fin t n d)) → Real (cond b nan (inf (unlike s t)))
+        → Rounds f (cond b nan (inf (unlike s t))) (plus s t (big f) (mag f (fin t n d))) (minus s t (big f) (mag f (fin t n d))) (2 ^ low f)
     go true h r = absurd r
     go false h r = mul-far f s t (big f) (mag f (fin t n d)) (big-mul f (mag f (fin t n d)) (h tt))
 mul-rounds {f} {x = fin s m e} {y = nan} p q r = absurd (q .real)
 mul-rounds {f} {x = fin s m e} {y = inf t} p q r = go (eqb m 0) (mag-pos f s m e (p .fit)) (r .real)
   where
-    go : (b : Bool) → (T (not b) → 0 < mag f (fin s m e)) → Real (cond b nan (inf (unlike s t))) → Rounds f (cond b nan (inf (unlike s t))) (plus s t (mag f (fin s m e)) (big f)) (minus s t (mag f (fin s m e)) (big f)) (2 ^ low f)
+    go : (b : Bool) → (T (not b) → 0 < mag f (fin s m e)) → Real (cond b nan (inf (unlike s t)))
+        → Rounds f (cond b nan (inf (unlike s t))) (plus s t (mag f (fin s m e)) (big f)) (minus s t (mag f (fin s m e)) (big f)) (2 ^ low f)
     go true h r = absurd r
-    go false h r = mul-far f s t (mag f (fin s m e)) (big f) (le-trans (big-mul f (mag f (fin s m e)) (h tt)) (le-of-eq (mul-comm (big f) (mag f (fin s m e)))))
+    go false h r =
+        mul-far f s t (mag f (fin s m e)) (big f) (le-trans (big-mul f (mag f (fin s m e)) (h tt)) (le-of-eq (mul-comm (big f) (mag f (fin s m e)))))
 mul-rounds {f} {x = fin s m e} {y = fin t n d} p q r =
     let M = mag f (fin s m e) in
     let K = mag f (fin t n d) in
     let k = mul-sides s t M K in
     let z = zero-mul (down e * down d) in
     let w : M * K * (down e * down d) ≡ m * up e * (n * up d) * 2 ^ low f * 2 ^ low f =
-    mul-mul-mul-comm M K (down e) (down d) ∙ ap₂ (λ (a b : ℕ). a * b) (mag-is f s m e (p .fit)) (mag-is f t n d (q .fit)) ∙ mul-mul-mul-comm (m * up e) (2 ^ low f) (n * up d) (2 ^ low f)
+    mul-mul-mul-comm M K (down e) (down d) ∙ ap₂ (λ (a b : ℕ). a * b) (mag-is f s m e (p .fit)) (mag-is f t n d (q .fit))
+    ∙ mul-mul-mul-comm (m * up e) (2 ^ low f) (n * up d) (2 ^ low f)
     ∙ sym (mul-assoc (m * up e * (n * up d)) (2 ^ low f) (2 ^ low f)) in
-    round-rounds f (unlike s t) (m * up e * (n * up d)) (down e * down d) (plus s t M K) (minus s t M K) (2 ^ low f) (mul-pos (down-pos e) (down-pos d)) (pow-pos (low f))
+    round-rounds f (unlike s t) (m * up e * (n * up d)) (down e * down d) (plus s t M K) (minus s t M K) (2 ^ low f)
+    (mul-pos (down-pos e) (down-pos d)) (pow-pos (low f))
     (rw (k .0, k .1) (omega arith))
 
 -- ---- the quotient by a number above zero
 -- what has the sign s, and size A, over L and a divisor of no sign: the sides
-div-sides : (s : Bool) (A L : ℕ) → (cond (unlike s false) (cond s A 0 * L) (cond s 0 A * L) ≡ A * L) × (cond (unlike s false) (cond s 0 A * L) (cond s A 0 * L) ≡ 0)
+div-sides : (s : Bool) (A L : ℕ)
+    → (cond (unlike s false) (cond s A 0 * L) (cond s 0 A * L) ≡ A * L) × (cond (unlike s false) (cond s 0 A * L) (cond s A 0 * L) ≡ 0)
 div-sides false A L = (refl, zero-mul L)
 div-sides true A L = (refl, zero-mul L)
 
-div-far : (f : Format) (s : Bool) (K : ℕ) → 0 < K → K ≤ overflow f → Rounds f (inf (unlike s false)) (cond s 0 (big f) * 2 ^ low f) (cond s (big f) 0 * 2 ^ low f) K
+div-far : (f : Format) (s : Bool) (K : ℕ) → 0 < K → K ≤ overflow f
+    → Rounds f (inf (unlike s false)) (cond s 0 (big f) * 2 ^ low f) (cond s (big f) 0 * 2 ^ low f) K
 div-far f s K C h =
     let k = div-sides s (big f) (2 ^ low f) in
     let l : overflow f * K ≤ big f * 2 ^ low f = le-trans (mul-le-mul-left (overflow f) h) (le-mul-of-pos-right (big f) (pow-pos (low f))) in
@@ -189,7 +211,8 @@ unfolding hi lo mag
 zero-sides f true = (refl, ap (λ (x : ℕ). x / 1) (zero-mul (2 ^ low f)))
 zero-sides f false = (ap (λ (x : ℕ). x / 1) (zero-mul (2 ^ low f)), refl)
 
-div-tiny : (f : Format) (s : Bool) (A : ℕ) → A < overflow f → Rounds f (fin (unlike s false) 0 (pos 0)) (cond s 0 A * 2 ^ low f) (cond s A 0 * 2 ^ low f) (big f)
+div-tiny : (f : Format) (s : Bool) (A : ℕ) → A < overflow f
+    → Rounds f (fin (unlike s false) 0 (pos 0)) (cond s 0 A * 2 ^ low f) (cond s A 0 * 2 ^ low f) (big f)
 div-tiny f s A h = record {
   num = zero-num f (unlike s false);
   below = B;
@@ -220,7 +243,8 @@ div-cross M K X Y dx dy L p q =
     let c : M * dx * (Y * L) ≡ X * L * (K * dy) = ap₂ (λ (u v : ℕ). u * v) p (sym q) in
     omega arith
 
-pub div-rounds : {f : Format} {x y : Float} → Num f x → Num f y → 0 < hi f y → Num f (div f x y) → Rounds f (div f x y) (hi f x * unit f) (lo f x * unit f) (hi f y)
+pub div-rounds : {f : Format} {x y : Float} → Num f x → Num f y → 0 < hi f y → Num f (div f x y)
+    → Rounds f (div f x y) (hi f x * unit f) (lo f x * unit f) (hi f y)
 unfolding unit div hi lo mag isNan
 div-rounds {f} {x = nan} p q c r = absurd (p .real)
 div-rounds {f} {x = inf s} {y = nan} p q c r = absurd (q .real)
@@ -243,22 +267,28 @@ div-rounds {f} {x = fin s m e} {y = fin false n d} p q c r = go (eqb n 0) (eqb�
     N : 0 < n * up d
     N = first-pos (n * up d) (2 ^ low f) (rw (← mag-is f false n d (q .fit)) (mul-pos c (down-pos d)))
 
-    go : (b : Bool) → (T b → n ≡ 0) → Rounds f (cond b (cond (eqb m 0) nan (inf (unlike s false))) (round f (unlike s false) (m * up e * down d) (n * up d * down e))) (cond s 0 A * 2 ^ low f) (cond s A 0 * 2 ^ low f) K
+    go : (b : Bool) → (T b → n ≡ 0)
+        → Rounds f (cond b (cond (eqb m 0) nan (inf (unlike s false))) (round f (unlike s false) (m * up e * down d) (n * up d * down e))) (cond s 0 A * 2 ^ low f) (cond s A 0 * 2 ^ low f) K
     go true z = absurd (lt-irrefl 0 (subst (λ (k : ℕ). 0 < k) (ap (λ (k : ℕ). k * up d) (z tt) ∙ zero-mul (up d)) N))
     go false z =
         let k = div-sides s A (2 ^ low f) in
-        round-rounds f (unlike s false) (m * up e * down d) (n * up d * down e) (cond s 0 A * 2 ^ low f) (cond s A 0 * 2 ^ low f) K (mul-pos N (down-pos e)) c
+        round-rounds f (unlike s false) (m * up e * down d) (n * up d * down e) (cond s 0 A * 2 ^ low f) (cond s A 0 * 2 ^ low f) K
+        (mul-pos N (down-pos e)) c
         (rw (k .0, k .1) (div-cross A K (m * up e) (n * up d) (down e) (down d) (2 ^ low f) (mag-is f s m e (p .fit)) (mag-is f false n d (q .fit))))
 
 -- ---- of operands that are not negative
-pub mul-plus : {f : Format} {x y : Float} → Num f x → Num f y → Num f (mul f x y) → lo f x ≡ 0 → lo f y ≡ 0 → Rounds f (mul f x y) (hi f x * hi f y) 0 (unit f)
-mul-plus {f} {x} {y} p q r a b = subst₂ (λ (P N : ℕ). Rounds f (mul f x y) P N (unit f)) (rw (a, b) (omega arith)) (rw (a, b) (omega arith)) (mul-rounds p q r)
+pub mul-plus : {f : Format} {x y : Float} → Num f x → Num f y → Num f (mul f x y) → lo f x ≡ 0 → lo f y ≡ 0
+    → Rounds f (mul f x y) (hi f x * hi f y) 0 (unit f)
+mul-plus {f} {x} {y} p q r a b =
+    subst₂ (λ (P N : ℕ). Rounds f (mul f x y) P N (unit f)) (rw (a, b) (omega arith)) (rw (a, b) (omega arith)) (mul-rounds p q r)
 
-pub div-plus : {f : Format} {x y : Float} → Num f x → Num f y → 0 < hi f y → Num f (div f x y) → lo f x ≡ 0 → Rounds f (div f x y) (hi f x * unit f) 0 (hi f y)
+pub div-plus : {f : Format} {x y : Float} → Num f x → Num f y → 0 < hi f y → Num f (div f x y) → lo f x ≡ 0
+    → Rounds f (div f x y) (hi f x * unit f) 0 (hi f y)
 div-plus {f} {x} {y} p q c r a = subst (λ (N : ℕ). Rounds f (div f x y) (hi f x * unit f) N (hi f y)) (rw a (omega arith)) (div-rounds p q c r)
 
 -- ---- a negated numerator: the sides change places
-pub div-neg : {f : Format} {x y : Float} → Num f x → Num f y → 0 < hi f y → Num f (div f x y) → Num f (div f (neg x) y) → (hi f (div f (neg x) y) ≡ lo f (div f x y)) × (lo f (div f (neg x) y) ≡ hi f (div f x y))
+pub div-neg : {f : Format} {x y : Float} → Num f x → Num f y → 0 < hi f y → Num f (div f x y) → Num f (div f (neg x) y)
+    → (hi f (div f (neg x) y) ≡ lo f (div f x y)) × (lo f (div f (neg x) y) ≡ hi f (div f x y))
 div-neg {f} {x} {y} p q c r s =
     let a = div-rounds p q c r in
     let b = div-rounds {f = f} {x = neg x} {y = y} (neg-num p) q c s in

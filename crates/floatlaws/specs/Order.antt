@@ -1,5 +1,7 @@
--- The order of the values of a format that are no NaN, infinities included: `Le f x y` and `Lt f x y`, as the order of what they are worth. They are records, so that x and y are inferred from
--- a hypothesis, and `omega arith` proves them and reads them. `of-le` and `to-le` go between `Le` and the test `le` of a program, and so for `lt` and `eq`. Assumes nothing.
+-- The order of the values of a format that are no NaN, infinities included: `Le f x y` and `Lt f x y`, as the order of what they are worth. They are
+-- records, so that x and y are inferred from
+-- a hypothesis, and `omega arith` proves them and reads them. `of-le` and `to-le` go between `Le` and the test `le` of a program, and so for `lt` and
+-- `eq`. Assumes nothing.
 use mathlib.Core.Path.{_≡_, refl, sym, ap, _∙_}
 use mathlib.Core.Logic.{_⊎_, inl, inr}
 use Prim.Native.Nat.{ℕ, _+_, _*_, _^_, _≤_, _<_}
@@ -142,7 +144,8 @@ pub widen-le : {x y : Float} → Num binary32 x → Num binary32 y → Le binary
 widen-le p q h = of-le (widen-num p) (widen-num q) (to-le p q h)
 
 -- in the units of binary64, which are 2 ^ -925 of those of binary32
-pub widen-sides : (x : Float) → T (fits binary32 x) → T (finite x) → (hi binary64 x ≡ hi binary32 x * 2 ^ 925) × (lo binary64 x ≡ lo binary32 x * 2 ^ 925)
+pub widen-sides : (x : Float) → T (fits binary32 x) → T (finite x)
+    → (hi binary64 x ≡ hi binary32 x * 2 ^ 925) × (lo binary64 x ≡ lo binary32 x * 2 ^ 925)
 widen-sides nan F t = absurd t
 widen-sides (inf s) F t = absurd t
 widen-sides (fin s m e) F t = unfold hi lo in go (mag binary64 (fin s m e)) (mag binary32 (fin s m e)) (2 ^ 925) s (widen-mag s m e F)

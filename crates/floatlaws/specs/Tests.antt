@@ -16,13 +16,19 @@ module _ {f : Format} {x y : Float} (p : Fin f x) (q : Fin f y) where
 
 module _ {f : Format} {x y z : Float} (p : Fin f x) (q : Fin f y) (r : Fin f z) where
   pub add-le : T (le x y) → T (le (add f x z) (add f y z))
-  add-le t = let a = add-num p (num r) in let b = add-num q (num r) in to-le a b (add-mono (num p) (num q) (num r) (num r) a b (of-le (num p) (num q) t) (le-refl f z))
+  add-le t =
+      let a = add-num p (num r) in let b = add-num q (num r) in to-le a b
+      (add-mono (num p) (num q) (num r) (num r) a b (of-le (num p) (num q) t) (le-refl f z))
 
   pub sub-le : T (le x y) → T (le (sub f x z) (sub f y z))
-  sub-le t = let a = sub-num p (num r) in let b = sub-num q (num r) in to-le a b (sub-mono (num p) (num q) (num r) (num r) a b (of-le (num p) (num q) t) (le-refl f z))
+  sub-le t =
+      let a = sub-num p (num r) in let b = sub-num q (num r) in to-le a b
+      (sub-mono (num p) (num q) (num r) (num r) a b (of-le (num p) (num q) t) (le-refl f z))
 
   pub sub-ge : T (le x y) → T (le (sub f z y) (sub f z x))
-  sub-ge t = let a = sub-num r (num q) in let b = sub-num r (num p) in to-le a b (sub-mono (num r) (num r) (num q) (num p) a b (le-refl f z) (of-le (num p) (num q) t))
+  sub-ge t =
+      let a = sub-num r (num q) in let b = sub-num r (num p) in to-le a b
+      (sub-mono (num r) (num r) (num q) (num p) a b (le-refl f z) (of-le (num p) (num q) t))
 
   pub mul-le : T (not (negative z)) → T (le x y) → T (le (mul f x z) (mul f y z))
   mul-le s t = let a = mul-num p r in let b = mul-num q r in to-le a b (mul-mono (num p) (num q) (num r) a b (plain f z s) (of-le (num p) (num q) t))

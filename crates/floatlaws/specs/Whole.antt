@@ -1,11 +1,14 @@
--- Whole numbers, for the laws of the floats: powers of two, how many binary digits a number has (`size`), and a fraction to the nearest whole number (`closest`).
--- A number from 2 ^ j on has more than j digits, and one below 2 ^ j has at most j: both sides pin `size`. Nothing here is about floats. Assumes nothing.
+-- Whole numbers, for the laws of the floats: powers of two, how many binary digits a number has (`size`), and a fraction to the nearest whole number
+-- (`closest`).
+-- A number from 2 ^ j on has more than j digits, and one below 2 ^ j has at most j: both sides pin `size`. Nothing here is about floats. Assumes
+-- nothing.
 use mathlib.Core.Path.{_≡_, refl, sym, ap, _∙_, subst}
 use mathlib.Core.Logic.{_⊎_, inl, inr}
-use mathlib.Core.Bool.{Bool, not}
+use mathlib.Core.Bool.{not}
 use Prim.Native.Nat.{ℕ, zero, suc, _+_, _-_, _*_, _/_, _%_, _^_, _≤_, _<_, compare, Ordering, Ordering·lt, Ordering·eq, Ordering·gt}
-use native.Mathlib.Nat.{le-trans, le-of-eq, le-antisymm, le-of-suc-le-suc, lt-of-lt-of-le, lt-of-le-of-lt, lt-of-not-le, not-le-of-lt, lt-irrefl, eq-zero-or-pos}
-use native.Mathlib.Nat.{add-mul, mul-zero, mul-suc, mul-mul-mul-comm, suc-mul, pow-zero, pow-suc, pow-le-pow-left, div-eq-of-lt, div-eq-of-lt-le, div-add-mod', mod-lt, mod-eq-of-lt, le-div-iff-mul-le}
+use native.Mathlib.Nat.{le-trans, le-of-eq, le-antisymm, le-of-suc-le-suc, lt-of-le-of-lt, lt-of-not-le, not-le-of-lt, lt-irrefl, eq-zero-or-pos}
+use native.Mathlib.Nat.{add-mul, mul-zero, mul-suc, mul-mul-mul-comm, suc-mul, pow-zero, pow-suc, pow-le-pow-left, div-eq-of-lt, div-eq-of-lt-le}
+use native.Mathlib.Nat.{div-add-mod', mod-lt, mod-eq-of-lt, le-div-iff-mul-le}
 use native.Mathlib.Numerals.{add-one}
 use native.Mathlib.Omega.{arith}
 use lib.Dec.{T, isLe, isEq, eqb, leb→le, nleb→lt, eqb→eq, eqb-refl}
@@ -120,7 +123,8 @@ closest-near a b B = go (compare (a % b * 2) b) (cmp (a % b * 2) b)
 
 -- ---- n / 2 ^ k to the nearest whole number
 -- By one sum and one shift. n is w * u + r: half of u, less one, and one more where w is odd, carries into the quotient as `nearest` does.
-carry : (n h u w r p : ℕ) → 0 < h → u ≡ 2 * h → p ≡ w * u → p + r ≡ n → r < u → (o : Ordering) → Cmp o (r * 2) u → (n + (h - 1) + w % 2) / u ≡ nearest w o
+carry : (n h u w r p : ℕ) → 0 < h → u ≡ 2 * h → p ≡ w * u → p + r ≡ n → r < u → (o : Ordering) → Cmp o (r * 2) u
+    → (n + (h - 1) + w % 2) / u ≡ nearest w o
 carry n h u w r p H U P E R = go
   where
     one-more : (v : ℕ) → (v + 1) * u ≡ v * u + u

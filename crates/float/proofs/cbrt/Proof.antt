@@ -46,13 +46,15 @@ shl-a : tie.Need-shl-a
 shl-a c = search needs
 
 -- what `split` gave
-parts : (c : tie.After-split) → Split (valueOf binary32 (toBits binary32 (c .before .before .before .before .args .x) % 0x8000_0000)) (c .split .result .m) (c .split .result .s)
+parts : (c : tie.After-split)
+    → Split (valueOf binary32 (toBits binary32 (c .before .before .before .before .args .x) % 0x8000_0000)) (c .split .result .m) (c .split .result .s)
 parts c = c .split .ensures
 
 small-shift : (s : ℕ) → 1 + s % 3 ≤ 40
 small-shift s = omega arith
 
-moved : (c : tie.After-split) → (c .split .result .m * 2 ^ (1 + c .split .result .s % 3)) % 2 ^ 64 ≡ c .split .result .m * 2 ^ (1 + c .split .result .s % 3)
+moved : (c : tie.After-split)
+    → (c .split .result .m * 2 ^ (1 + c .split .result .s % 3)) % 2 ^ 64 ≡ c .split .result .m * 2 ^ (1 + c .split .result .s % 3)
 moved c = moved-lt (c .split .result .m) (1 + c .split .result .s % 3) (parts c .under) (small-shift (c .split .result .s))
 
 icbrt-long-requires : tie.Need-icbrt-long-requires
@@ -63,10 +65,14 @@ icbrt-long-requires c κs =
 -- the root has 25 digits, and it is the program's pattern
 module _ (c : tie.After-icbrt-long) where
   at-least : c .icbrt-long .result * c .icbrt-long .result * c .icbrt-long .result ≤ c .before .before .before .split .result .m * 2 ^ (1 + c .before .before .before .split .result .s % 3) * 2 ^ 48
-  at-least = subst (λ (a : ℕ). c .icbrt-long .result * c .icbrt-long .result * c .icbrt-long .result ≤ a * 2 ^ 48) (moved (c .before .before .before)) (c .icbrt-long .ensures .0)
+  at-least =
+      subst (λ (a : ℕ). c .icbrt-long .result * c .icbrt-long .result * c .icbrt-long .result ≤ a * 2 ^ 48) (moved (c .before .before .before))
+      (c .icbrt-long .ensures .0)
 
   below : c .before .before .before .split .result .m * 2 ^ (1 + c .before .before .before .split .result .s % 3) * 2 ^ 48 < (c .icbrt-long .result + 1) * (c .icbrt-long .result + 1) * (c .icbrt-long .result + 1)
-  below = subst (λ (a : ℕ). a * 2 ^ 48 < (c .icbrt-long .result + 1) * (c .icbrt-long .result + 1) * (c .icbrt-long .result + 1)) (moved (c .before .before .before)) (c .icbrt-long .ensures .1)
+  below =
+      subst (λ (a : ℕ). a * 2 ^ 48 < (c .icbrt-long .result + 1) * (c .icbrt-long .result + 1) * (c .icbrt-long .result + 1))
+      (moved (c .before .before .before)) (c .icbrt-long .ensures .1)
 
   digits : (0x100_0000 ≤ c .icbrt-long .result) × (c .icbrt-long .result < 0x200_0000)
   digits = cbrt-digits _ _ _ (c .icbrt-long .result) (parts (c .before .before .before)) at-least below
@@ -93,7 +99,15 @@ add-result-2 : tie.Need-add-result-2
 add-result-2 c = omega (arith, digits (c .before), far (c .before))
 
 add-result-3 : tie.Need-add-result-3
-add-result-3 c = omega (arith, digits (c .before), far (c .before), toBits-lt binary32 (c .before .before .before .before .before .before .before .before .args .x) (held (c .before .before .before .before .before .before .before .before)))
+add-result-3 c =
+    omega (
+      arith,
+      digits (c .before),
+      far (c .before),
+      toBits-lt binary32
+          (c .before .before .before .before .before .before .before .before .args .x)
+          (held (c .before .before .before .before .before .before .before .before)),
+    )
 
 -- the sign's bit
 sign : (c : tie.Start) → toBits binary32 (c .args .x) - toBits binary32 (c .args .x) % 0x8000_0000 ≡ cond (leb 0x8000_0000 (toBits binary32 (c .args .x))) 0x8000_0000 0
@@ -107,7 +121,8 @@ float-from-bits-result c =
     let at = c .before .before .before .before .before .before .before .before in
     let r = (c .before .before .before .before .split .result .s / 3 + 76) * 0x80_0000 + (c .before .icbrt-long .result + 1) / 2 in
     subst (λ (b : ℕ). T (not (nanBits binary32 (b + r)))) (sym (sign at))
-    (cbrt-no-nan _ _ _ (c .before .icbrt-long .result) (parts (c .before .before .before .before)) (at-least (c .before)) (below (c .before)) (leb 0x8000_0000 (toBits binary32 (at .args .x))))
+    (cbrt-no-nan _ _ _ (c .before .icbrt-long .result) (parts (c .before .before .before .before)) (at-least (c .before)) (below (c .before))
+    (leb 0x8000_0000 (toBits binary32 (at .args .x))))
 
 returns-4 : tie.Need-returns-4
 returns-4 c =
@@ -116,7 +131,8 @@ returns-4 c =
     let r = (c .before .before .before .before .split .result .s / 3 + 76) * 0x80_0000 + (c .before .icbrt-long .result + 1) / 2 in
     ap (λ (b : ℕ). ofBits binary32 (b + r)) (sign at)
     ∙ sym (cbrt-finite x (held at) (omega (arith, c .before .before .before .before .before .before .if2 .left)) (omega arith)
-    ∙ cbrt-made _ _ _ (c .before .icbrt-long .result) (parts (c .before .before .before .before)) (at-least (c .before)) (below (c .before)) (leb 0x8000_0000 (toBits binary32 x)))
+    ∙ cbrt-made _ _ _ (c .before .icbrt-long .result) (parts (c .before .before .before .before)) (at-least (c .before)) (below (c .before))
+    (leb 0x8000_0000 (toBits binary32 x)))
 
 pub cbrt-spec : {M : Type 1} → statement M
 cbrt-spec =

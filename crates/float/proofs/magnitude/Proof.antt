@@ -18,7 +18,9 @@ round-shift-requires : tie.Need-round-shift-requires
 round-shift-requires c κs = search needs
 
 returns-2 : tie.Need-returns-2
-returns-2 c = narrows-high (c .before .before .before .args .m) (c .round-shift .result) (c .before .if2 .taken) (c .before .before .if1 .left) (c .round-shift .ensures)
+returns-2 c =
+    narrows-high (c .before .before .before .args .m) (c .round-shift .result) (c .before .if2 .taken) (c .before .before .if1 .left)
+    (c .round-shift .ensures)
 
 add-result : tie.Need-add-result
 add-result c = omega (arith, returns-2 c .small)
@@ -30,10 +32,13 @@ round-shift-requires-2 : tie.Need-round-shift-requires-2
 round-shift-requires-2 c κs = search needs
 
 returns-3 : tie.Need-returns-3
-returns-3 c = narrows-low (c .before .before .before .before .args .m) (c .round-shift2 .result) (c .before .if3 .taken) (c .before .before .if2 .left) (c .round-shift2 .ensures)
+returns-3 c =
+    narrows-low (c .before .before .before .before .args .m) (c .round-shift2 .result) (c .before .if3 .taken) (c .before .before .if2 .left)
+    (c .round-shift2 .ensures)
 
 returns-4 : tie.Need-returns-4
 returns-4 c = narrows-zero (c .before .before .before .args .m) (c .if3 .left)
 
 pub magnitude-spec : {M : Type 1} → statement M
-magnitude-spec = tie.close (tie.spec add-digits returns mul-result round-shift-requires add-result returns-2 sub-round-shift round-shift-requires-2 returns-3 returns-4)
+magnitude-spec =
+    tie.close (tie.spec add-digits returns mul-result round-shift-requires add-result returns-2 sub-round-shift round-shift-requires-2 returns-3 returns-4)

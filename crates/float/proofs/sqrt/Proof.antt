@@ -9,7 +9,8 @@ use lib.Ieee.{binary32, fits, toBits}
 use Rattle.floatlaws.specs.Nan.{no-nan, zero-by-zero}
 use Rattle.floatlaws.specs.Bits.{valueOf}
 use Rattle.float.specs.Parts.{Split}
-use Rattle.float.proofs.Rounding.{moved-lt, moved-below, sqrt-nan, sqrt-zero, sqrt-inf, sqrt-negative, sqrt-finite, sqrt-digits, sqrt-made, sqrt-no-nan, clear}
+use Rattle.float.proofs.Rounding.{moved-lt, moved-below, sqrt-nan, sqrt-zero, sqrt-inf, sqrt-negative, sqrt-finite, sqrt-digits, sqrt-made}
+use Rattle.float.proofs.Rounding.{sqrt-no-nan, clear}
 use Rattle.float.proofs.sqrt.Statement.{statement}
 use Rattle.float.proofs.sqrt.Tie as tie
 
@@ -29,10 +30,12 @@ returns-2 c = sqrt-zero _ (held (c .before .before)) (c .if2 .taken)
 returns-3 : tie.Need-returns-3
 returns-3 c =
     let x = c .before .before .before .args .x in
-    zero-by-zero binary32 ∙ sym (sqrt-negative x (held (c .before .before .before)) (float-to-bits-bits (c .before .before)) (omega arith) (omega (arith, c .before .if2 .left)))
+    zero-by-zero binary32 ∙ sym
+    (sqrt-negative x (held (c .before .before .before)) (float-to-bits-bits (c .before .before)) (omega arith) (omega (arith, c .before .if2 .left)))
 
 -- the pattern is that of a value above zero
-pattern : (c : tie.Else3) → (toBits binary32 (c .before .before .before .args .x) % 0x8000_0000 ≡ toBits binary32 (c .before .before .before .args .x)) × (toBits binary32 (c .before .before .before .args .x) < 0x8000_0000) × (0 < toBits binary32 (c .before .before .before .args .x))
+pattern : (c : tie.Else3)
+    → (toBits binary32 (c .before .before .before .args .x) % 0x8000_0000 ≡ toBits binary32 (c .before .before .before .args .x)) × (toBits binary32 (c .before .before .before .args .x) < 0x8000_0000) × (0 < toBits binary32 (c .before .before .before .args .x))
 pattern c = clear (toBits binary32 (c .before .before .before .args .x)) (c .before .if2 .left) (c .if3 .left)
 
 returns-4 : tie.Need-returns-4
@@ -56,13 +59,15 @@ shl-w : tie.Need-shl-w
 shl-w c = search needs
 
 -- what `split` gave
-parts : (c : tie.After-split) → Split (valueOf binary32 (toBits binary32 (c .before .before .before .before .before .args .x))) (c .split .result .m) (c .split .result .s)
+parts : (c : tie.After-split)
+    → Split (valueOf binary32 (toBits binary32 (c .before .before .before .before .before .args .x))) (c .split .result .m) (c .split .result .s)
 parts c = c .split .ensures
 
 small-shift : (s : ℕ) → 25 + s % 2 ≤ 40
 small-shift s = omega arith
 
-moved : (c : tie.After-split) → (c .split .result .m * 2 ^ (25 + c .split .result .s % 2)) % 2 ^ 64 ≡ c .split .result .m * 2 ^ (25 + c .split .result .s % 2)
+moved : (c : tie.After-split)
+    → (c .split .result .m * 2 ^ (25 + c .split .result .s % 2)) % 2 ^ 64 ≡ c .split .result .m * 2 ^ (25 + c .split .result .s % 2)
 moved c = moved-lt (c .split .result .m) (25 + c .split .result .s % 2) (parts c .under) (small-shift (c .split .result .s))
 
 isqrt-requires : tie.Need-isqrt-requires
@@ -96,7 +101,8 @@ add-result-2 : tie.Need-add-result-2
 add-result-2 c = omega (arith, digits (c .before), parts (c .before .before .before .before) .far)
 
 float-from-bits-result : tie.Need-float-from-bits-result
-float-from-bits-result c = sqrt-no-nan _ _ _ (c .before .isqrt .result) (parts (c .before .before .before .before)) (at-least (c .before)) (below (c .before))
+float-from-bits-result c =
+    sqrt-no-nan _ _ _ (c .before .isqrt .result) (parts (c .before .before .before .before)) (at-least (c .before)) (below (c .before))
 
 returns-5 : tie.Need-returns-5
 returns-5 c =

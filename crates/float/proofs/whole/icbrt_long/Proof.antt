@@ -34,7 +34,12 @@ cube-le-requires-3 : tie.Need-cube-le-requires-3
 cube-le-requires-3 c κs = search needs
 
 returns-3 : tie.Need-returns-3
-returns-3 c = (c .before .cube-le3 .ensures .0 (c .if4 .taken), subst (λ (x : ℕ). c .before .before .before .before .before .before .args .a * 2 ^ 48 < x * x * x) (sym (less-one _ (c .before .before .if3 .taken))) (c .before .before .before .before .cube-le .ensures .1 (c .before .before .before .if1 .left)))
+returns-3 c = (
+  c .before .cube-le3 .ensures .0 (c .if4 .taken),
+  subst
+      (λ (x : ℕ). c .before .before .before .before .before .before .args .a * 2 ^ 48 < x * x * x) (sym (less-one _ (c .before .before .if3 .taken)))
+      (c .before .before .before .before .cube-le .ensures .1 (c .before .before .before .if1 .left)),
+)
 
 icbrt-slow-requires-2 : tie.Need-icbrt-slow-requires-2
 icbrt-slow-requires-2 c κs = search needs

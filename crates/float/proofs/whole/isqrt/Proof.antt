@@ -38,7 +38,11 @@ mul-if4 : tie.Need-mul-if4
 mul-if4 c = record { fits = square-fits _ (omega arith) }
 
 returns-3 : tie.Need-returns-3
-returns-3 c = (c .if4 .taken, subst (λ (x : ℕ). c .before .before .before .before .args .w < x * x) (sym (less-one _ (c .before .if3 .taken))) (c .before .before .if1 .left))
+returns-3 c = (
+  c .if4 .taken,
+  subst (λ (x : ℕ). c .before .before .before .before .args .w < x * x) (sym (less-one _ (c .before .if3 .taken)))
+      (c .before .before .if1 .left),
+)
 
 isqrt-slow-requires-2 : tie.Need-isqrt-slow-requires-2
 isqrt-slow-requires-2 c κs = search needs
