@@ -1,6 +1,6 @@
--- The whole part of an n-th root, for any n above 0: `iroot n v` is the one q with q ^ n ≤ v < (q + 1) ^ n, and a radicand that is 2 ^ (d * n) times
--- another has the other's root in its leading digits.
--- The law of both roots' rounding, `rounded`, is at the end. Assumes nothing.
+-- The whole part of an n-th root, for any n above 0: `iroot n v` is the one q with q ^ n ≤ v < (q + 1) ^ n, since each digit is set exactly where
+-- the power stays at most v. A radicand that is 2 ^ (d * n) times another has the other's root in its leading digits. The law of both roots'
+-- rounding, `rounded`, is at the end. Assumes nothing.
 use mathlib.Core.Path.{_≡_, sym, ap, _∙_, subst}
 use Prim.Native.Nat.{ℕ, zero, suc, _+_, _-_, _*_, _/_, _^_, _≤_, _<_, zero-le}
 use native.Mathlib.Nat.{le-trans, le-of-eq, le-of-suc-le-suc, lt-of-lt-of-le, lt-of-le-of-lt, le-antisymm, zero-add, add-assoc, mul-assoc, mul-comm}

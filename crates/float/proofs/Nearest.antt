@@ -1,5 +1,7 @@
--- The root that `specs/Root.antt` defines is the nearest float, strictly, and the only one: by whole-number comparison, for both roots at once.
--- Assumes nothing.
+-- The root that `specs/Root.antt` defines is the nearest float, strictly, and the only one: for both degrees at once (`nearest`), then at every f32
+-- (`sqrt-is`, `cbrt-is`, `sqrt-only`, `cbrt-only`). t is the root's whole part to 25 digits, and the middles between neighbours of 24 digits are
+-- whole numbers of 25. The root is below t + 1, and is not t itself where t is odd, since a power of an odd number is odd and the radicand is even:
+-- so no middle is the root, and the whole-number comparison of powers tells on which side it lies. Assumes nothing.
 use mathlib.Core.Path.{_≡_, refl, sym, ap, _∙_, subst}
 use mathlib.Core.Logic.{_⊎_, inl, inr, _≢_}
 use Prim.Native.Nat.{ℕ, zero, suc, _+_, _-_, _*_, _/_, _%_, _^_, _≤_, _<_}

@@ -1,6 +1,5 @@
 -- The roots keep the order, and the square root of what is not negative is a number that is not negative. A root is a zero, +∞ or the nearest float
--- of its number (`Plain`),
--- and of two numbers the larger one's nearest root is no smaller (`root-mono`). Assumes nothing.
+-- of its number (`Plain`), and of two numbers the larger one's nearest root is no smaller (`root-mono`). Assumes nothing.
 use mathlib.Core.Path.{_≡_, refl, sym, _∙_, subst}
 use mathlib.Core.Logic.{_⊎_, inl, inr}
 use Prim.Native.Nat.{ℕ, zero, suc, _+_, _-_, _*_, _/_, _^_, _≤_, _<_}

@@ -1,4 +1,6 @@
--- Each root of an f32 above zero is the pattern that the program makes, and the special values. Assumes nothing.
+-- The pattern that the program makes is the root's. An f32 above zero is m * 2 ^ (s - 24) units, and its root has the exponent s divided by the
+-- degree; what is left of s goes to m, whose root to 25 digits, halved and rounded up, is the nearest number of 24. The special values follow from
+-- their patterns. Assumes nothing.
 use mathlib.Core.Path.{_≡_, refl, sym, ap, _∙_, subst}
 use Prim.Native.Nat.{ℕ, suc, _+_, _-_, _*_, _/_, _%_, _^_, _≤_, _<_}
 use native.Mathlib.Nat.{le-trans, le-of-eq, le-of-suc-le-suc, lt-of-lt-of-le, lt-of-le-of-lt, zero-lt-suc, le-add-right, zero-add, one-mul, mul-assoc}

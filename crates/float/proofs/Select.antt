@@ -1,7 +1,6 @@
--- The laws of `abs`, `max`, `min` and `clamp`, for either format. A test of two numbers says which is the larger, so each answer comes with an order
--- (`max-rule`, `min-rule`, `clamp-rule`),
--- and a law of the answer is that law of each operand where it is the answer. A NaN is below nothing, so it is taken only where both operands are.
--- Assumes nothing.
+-- The laws of `abs`, `max`, `min` and `clamp`, for either format. A test of two numbers says which is the larger, so each answer comes with an
+-- order (`max-rule`, `min-rule`, `clamp-rule`), and a law of the answer is that law of each operand where it is the answer. A NaN is below nothing,
+-- so it is taken only where both operands are. Assumes nothing.
 use mathlib.Core.Path.{_≡_, refl, sym, ap, _∙_, subst}
 use mathlib.Core.Logic.{_⊎_, inl, inr}
 use Prim.Native.Nat.{ℕ, suc, _<_, zero-le}

@@ -1,4 +1,4 @@
--- What a program's tests `x < 0`, `x == 0` and `x != x` say of |x| and of a NaN: a float that equals 0 is a zero, and as a value of its format has
+-- What a program's tests `x < 0` and `x == 0` say of |x|: below 0 it is -x, and a float that equals 0 is a zero, which as a value of its format has
 -- the exponent 0. Assumes nothing.
 use mathlib.Core.Path.{_≡_, refl, sym, ap, _∙_}
 use mathlib.Core.Bool.{Bool, true, false, _&&_, _||_}

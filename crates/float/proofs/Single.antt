@@ -1,5 +1,7 @@
--- What `toSingle` does to a double's bit pattern. For callers: `single-fits`, its result is a value of binary32, and `single-same`, it keeps a value
--- of binary32. Assumes nothing.
+-- f64 to f32. A double's digits are rounded once, at a place that its exponent tells, and the pattern is the count of units with the exponent's
+-- field above it, so a carry is right by itself. For callers: `toSingle` gives a value of binary32 (`single-fits`), keeps one (`single-same`),
+-- keeps the order (`single-mono`), and no value of binary32 is nearer (`single-nearest`); `single-rounds` opens every law of `floatlaws` to it.
+-- Assumes nothing.
 use mathlib.Core.Path.{_≡_, refl, sym, ap, _∙_, subst}
 use mathlib.Core.Logic.{_⊎_, inl, inr}
 use mathlib.Core.Bool.{Bool, true, false, not, cond}

@@ -7,9 +7,8 @@ use lib.Ieee.{Float, nan, inf, fin, binary32}
 use Rattle.floatlaws.specs.Value.{mag, negative}
 use Rattle.floatlaws.specs.Finite.{Fin}
 
--- With ε for 2 ^ -149: the n-th root of u * ε is nearer to a * ε than to b * ε, where b is not a: it lies on a's side of the middle of the two, (a +
--- b) * ε / 2.
--- Said of the n-th powers, with both sides multiplied by (2 / ε) ^ n.
+-- With ε for 2 ^ -149: the n-th root of u * ε is nearer to a * ε than to b * ε, where b is not a: it lies on a's side of the middle of the two, (a
+-- + b) * ε / 2. Said of the n-th powers, with both sides multiplied by (2 / ε) ^ n.
 abbrev pub Nearer : ℕ → ℕ → ℕ → ℕ → Type 0
 Nearer n u a b = (a < b → u * 2 ^ n * 2 ^ (149 * (n - 1)) < (a + b) ^ n) × (b < a → (a + b) ^ n < u * 2 ^ n * 2 ^ (149 * (n - 1)))
 

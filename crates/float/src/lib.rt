@@ -122,7 +122,7 @@ pub fn narrow(x: f64) -> f32
 }
 
 // An f32 above zero: m * 2 ^ (s - 24) units of 2 ^ -149, where m has exactly 24 binary digits.
-pub struct Parts {
+struct Parts {
     pub m: u32,
     pub s: u32,
 }

@@ -1,8 +1,7 @@
 -- Bit patterns, for either format. A pattern is the sign's weight and the number g below it; up to g = `hid` the value is g units, and from there
--- each field of the exponent doubles the unit (`valueOf`).
--- So a value is told by its pattern (`by-zero`, `by-inf`, `by-value`), and q * 2 ^ k units have the pattern k * `hid` + q, also where q is one past
--- its digits and carries (`val-bits`, `units-bits`).
--- A value of a format is its sign and its size (`same-value`, `same-float`). Assumes nothing.
+-- each field of the exponent doubles the unit (`valueOf`). So a value is told by its pattern (`by-zero`, `by-inf`, `by-value`), and q * 2 ^ k units
+-- have the pattern k * `hid` + q, also where q is one past its digits and carries (`val-bits`, `units-bits`). A value of a format is its sign and
+-- its size (`same-value`, `same-float`). Assumes nothing.
 use mathlib.Core.Path.{_≡_, refl, sym, ap, ap₂, _∙_, subst}
 use mathlib.Core.Logic.{_⊎_, inl, inr}
 use Prim.Native.Nat.{ℕ, zero, suc, _+_, _-_, _*_, _/_, _%_, _^_, _≤_, _<_}

@@ -1,6 +1,5 @@
 -- A constant of a program, and what it is worth: (n - m) / d, with the denominator multiplied out. Where the float and the numbers are closed antt
--- computes the test:
--- `const binary32 (fin false 3 (negsuc 1)) 3 0 4 (unfold isConst in tt)` is 0.75. Assumes nothing.
+-- computes the test: `const binary32 (fin false 3 (negsuc 1)) 3 0 4 (unfold isConst in tt)` is 0.75. Assumes nothing.
 use mathlib.Core.Path.{_≡_}
 use Prim.Native.Nat.{ℕ, _*_}
 use mathlib.Core.Bool.{Bool, _&&_}

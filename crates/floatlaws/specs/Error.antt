@@ -1,7 +1,6 @@
 -- How far a rounded number is from the number. With v = a / c units, of 2 ^ (prec - 1) units at least and not rounded to an infinity, the rounded
--- number is within v / 2 ^ prec of v (`relative`);
--- and below 2 ^ prec units it is within half a unit (`absolute`). Both are said with the denominators multiplied out, and once more for a float that
--- is rounded from v (`Rounds`). Assumes nothing.
+-- number is within v / 2 ^ prec of v (`relative`); and below 2 ^ prec units it is within half a unit (`absolute`). Both are said with the
+-- denominators multiplied out, and once more for a float that is rounded from v (`Rounds`). Assumes nothing.
 use mathlib.Core.Path.{_≡_, sym, ap, _∙_}
 use Prim.Native.Nat.{ℕ, suc, _+_, _-_, _*_, _/_, _%_, _^_, _≤_, _<_, compare, zero-le}
 use native.Mathlib.Nat.{le-trans, le-of-eq, lt-of-lt-of-le, not-le-of-lt, lt-of-not-le, lt-of-le-of-lt, le-of-lt, le-of-suc-le-suc, one-mul, sub-zero}

@@ -1,6 +1,6 @@
 -- Where an operation loses nothing: a result that is a value of the format is that value (`exactly`), a product with a power of two in range
--- (`scale`, `halve`), a whole number as a float (`int-exact`);
--- and the difference of two values that are not the same is not 0 and has the right sign (gradual underflow). Assumes nothing.
+-- (`scale`, `halve`), a whole number as a float (`int-exact`); and the difference of two values that are not the same is not 0 and has the right
+-- sign (gradual underflow). Assumes nothing.
 use mathlib.Core.Path.{_≡_, refl, sym, ap, _∙_}
 use mathlib.Core.Logic.{_⊎_, inl, inr}
 use Prim.Native.Nat.{ℕ, suc, _+_, _-_, _*_, _^_, _≤_, _<_}

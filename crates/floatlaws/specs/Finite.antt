@@ -1,6 +1,5 @@
--- Finite values (`Fin f x`), and where an operation's result is no NaN: a sum or a difference with a finite side, a product of finite factors or with
--- a factor that is finite and not 0,
--- a quotient by a finite number above zero. Assumes nothing.
+-- Finite values (`Fin f x`), and where an operation's result is no NaN: a sum or a difference with a finite side, a product of finite factors or
+-- with a factor that is finite and not 0, a quotient by a finite number above zero. Assumes nothing.
 use mathlib.Core.Path.{_≡_}
 use Prim.Native.Nat.{ℕ, zero, suc, _+_, _-_, _*_, _<_}
 use native.Mathlib.Nat.{lt-irrefl, lt-of-lt-of-le, not-le-of-lt, zero-mul, zero-div}

@@ -1,8 +1,7 @@
 -- Intervals: `In f a b x` says that the finite x is from a to b, two finite values of the format. Each operation takes intervals to the interval of
--- its own results at the ends, since it keeps the order.
--- With closed ends antt runs the operation there, so that a bound on a formula is the formula at the ends and one test: `finite` of each end on the
--- way (`unfold add in tt`), `le` at the last.
--- A product's and a quotient's operands are not negative. Assumes nothing.
+-- its own results at the ends, since it keeps the order. With closed ends antt runs the operation there, so that a bound on a formula is the
+-- formula at the ends and one test: `finite` of each end on the way (`unfold add in tt`), `le` at the last. A product's and a quotient's operands
+-- are not negative. Assumes nothing.
 use mathlib.Core.Path.{_≡_, refl}
 use Prim.Native.Nat.{_-_, _^_, _<_}
 use native.Mathlib.Omega.{arith}

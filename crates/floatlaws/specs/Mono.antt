@@ -1,4 +1,5 @@
--- The operations keep the order. Operands and results are values of the format that are no NaN (`Num`); infinities are included. Assumes nothing.
+-- The operations keep the order: their exact results do, and so does rounding (`rounds-mono`). Operands and results are values of the format that
+-- are no NaN (`Num`); infinities are included. Assumes nothing.
 use mathlib.Core.Path.{_≡_, sym}
 use Prim.Native.Nat.{ℕ, _+_, _*_, _≤_, _<_}
 use native.Mathlib.Nat.{le-trans, le-of-eq, add-mul, mul-le-mul, mul-le-mul-right}

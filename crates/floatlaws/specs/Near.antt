@@ -1,8 +1,6 @@
--- Rounding, as a function on numbers: `near f a c` is the fraction a / c of units, rounded to a value of the format, in units; `big` where that is an
--- infinity.
--- It keeps the order, and a value of the format is its own. `Rounds f z P N C` says that the float z is the rounded (P - N) / C units: each
--- operation's result is such a z (`Ops`),
--- and each law here is stated once, over `Rounds`. Assumes nothing.
+-- Rounding, as a function on numbers: `near f a c` is the fraction a / c of units, rounded to a value of the format, in units; `big` where that is
+-- an infinity. It keeps the order, and a value of the format is its own. `Rounds f z P N C` says that the float z is the rounded (P - N) / C units:
+-- each operation's result is such a z (`Ops`), and each law here is stated once, over `Rounds`. Assumes nothing.
 use mathlib.Core.Path.{_≡_, refl, sym, ap, ap₂, _∙_}
 use mathlib.Core.Logic.{_⊎_, inl, inr}
 use Prim.Native.Nat.{ℕ, zero, suc, _+_, _-_, _*_, _^_, _≤_, _<_, zero-le}

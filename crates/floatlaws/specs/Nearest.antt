@@ -1,7 +1,6 @@
 -- No value of the format is nearer to the exact number than the rounded one (`nearest`): what `round` means, said without its steps, of every
--- operation's result.
--- The rounded number is q * 2 ^ k units and at most half of 2 ^ k away (`near-err`), and from q * 2 ^ k the next value of the format is a whole 2 ^ k
--- away (`spaced-up`, `spaced-down`). Assumes nothing.
+-- operation's result. The rounded number is q * 2 ^ k units and at most half of 2 ^ k away (`near-err`), and from q * 2 ^ k the next value of the
+-- format is a whole 2 ^ k away (`spaced-up`, `spaced-down`). Assumes nothing.
 use mathlib.Core.Path.{_≡_, refl, sym, ap, _∙_, subst}
 use mathlib.Core.Logic.{_⊎_, inl, inr}
 use Prim.Native.Nat.{ℕ, zero, suc, _+_, _-_, _*_, _^_, _≤_, _<_, zero-le}

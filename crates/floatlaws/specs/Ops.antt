@@ -1,6 +1,6 @@
--- Each operation's result is its exact result rounded (`Rounds`), where it is no NaN: infinities need no case of their own. The exact result is (P -
--- N) / C units:
--- P and N from the operands' `hi` and `lo`, and C is 1 for a sum, `unit` for a product and the divisor for a quotient. Assumes nothing.
+-- Each operation's result is its exact result rounded (`Rounds`), where it is no NaN: infinities need no case of their own. The exact result is (P
+-- - N) / C units: P and N from the operands' `hi` and `lo`, and C is 1 for a sum, `unit` for a product and the divisor for a quotient. Assumes
+-- nothing.
 use mathlib.Core.Path.{_≡_, refl, sym, ap, ap₂, _∙_, subst, subst₂}
 use Prim.Native.Nat.{ℕ, zero, suc, _+_, _-_, _*_, _/_, _^_, _≤_, _<_, zero-le}
 use native.Mathlib.Nat.{le-trans, le-of-eq, le-of-lt, lt-irrefl, zero-add, add-zero, add-mul, zero-mul, mul-comm, mul-assoc, mul-left-comm}

@@ -1,7 +1,6 @@
--- The order of the values of a format that are no NaN, infinities included: `Le f x y` and `Lt f x y`, as the order of what they are worth. They are
--- records, so that x and y are inferred from
--- a hypothesis, and `omega arith` proves them and reads them. `of-le` and `to-le` go between `Le` and the test `le` of a program, and so for `lt` and
--- `eq`. Assumes nothing.
+-- The order of the values of a format that are no NaN, infinities included: `Le f x y` and `Lt f x y`, as the order of what they are worth. They
+-- are records, so that x and y are inferred from a hypothesis, and `omega arith` proves them and reads them. `of-le` and `to-le` go between `Le`
+-- and the test `le` of a program, and so for `lt` and `eq`. Assumes nothing.
 use mathlib.Core.Path.{_≡_, refl, sym, ap, _∙_}
 use mathlib.Core.Logic.{_⊎_, inl, inr}
 use Prim.Native.Nat.{ℕ, _+_, _*_, _^_, _≤_, _<_}

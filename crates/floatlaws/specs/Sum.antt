@@ -1,6 +1,5 @@
 -- Sums that a loop makes, from the left: `sumTo f g n` is ((0 + g 0) + g 1) + .. + g (n - 1), each addition rounded. It keeps the order, term by
--- term, and terms from a to b sum to what n times a and n times b sum to.
--- Assumes nothing.
+-- term, and terms from a to b sum to what n times a and n times b sum to. Assumes nothing.
 use mathlib.Core.Path.{_≡_, refl, ap, _∙_, subst}
 use Prim.Native.Nat.{ℕ, zero, suc, _<_}
 use native.Mathlib.Nat.{le-refl, le-step, le-of-suc-le-suc, not-suc-le-zero}

@@ -1,7 +1,6 @@
--- Whole numbers, for the laws of the floats: powers of two, how many binary digits a number has (`size`), and a fraction to the nearest whole number
--- (`closest`).
--- A number from 2 ^ j on has more than j digits, and one below 2 ^ j has at most j: both sides pin `size`. Nothing here is about floats. Assumes
--- nothing.
+-- Whole numbers, for the laws of the floats: powers of two, how many binary digits a number has (`size`), and a fraction to the nearest whole
+-- number (`closest`). A number from 2 ^ j on has more than j digits, and one below 2 ^ j has at most j: both sides pin `size`. Nothing here is
+-- about floats. Assumes nothing.
 use mathlib.Core.Path.{_≡_, refl, sym, ap, _∙_, subst}
 use mathlib.Core.Logic.{_⊎_, inl, inr}
 use mathlib.Core.Bool.{not}

@@ -1,4 +1,4 @@
--- `float::abs` meets its contract. Assumes nothing.
+-- `float::abs` meets its contract: below zero |x| is -x, either zero gives +0, and any other value is its own. Assumes nothing.
 use lib.Ieee.{ofBits, binary32}
 use Rattle.float.proofs.Signs.{negative, nothing, positive}
 use Rattle.float.proofs.abs.Statement.{statement}

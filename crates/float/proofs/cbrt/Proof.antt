@@ -1,4 +1,5 @@
--- `float::cbrt` meets its contract: the laws are those of `proofs/Rounding.antt`. Assumes nothing.
+-- `float::cbrt` meets its contract. The tests on the pattern part the special values, and for the rest `icbrt_long` gives the 25 digits that
+-- `proofs/Rounding.antt` asks for; the sign is the pattern's first bit. Assumes nothing.
 use mathlib.Core.Path.{_≡_, sym, ap, _∙_, subst}
 use mathlib.Core.Bool.{cond, not}
 use Prim.Native.Nat.{ℕ, _+_, _-_, _*_, _/_, _%_, _^_, _≤_, _<_}

@@ -1,4 +1,5 @@
--- `float::sqrt` meets its contract: the laws are those of `proofs/Rounding.antt`. Assumes nothing.
+-- `float::sqrt` meets its contract. The tests on the pattern part the special values, and for the rest `isqrt` gives the 25 digits that
+-- `proofs/Rounding.antt` asks for. Assumes nothing.
 use mathlib.Core.Path.{_≡_, sym, ap, _∙_, subst}
 use mathlib.Core.Bool.{Bool}
 use Prim.Native.Nat.{ℕ, _+_, _*_, _%_, _^_, _≤_, _<_}

@@ -1,6 +1,5 @@
--- `float::whole::icbrt_slow` meets its contract. The invariant is `Digits` of `proofs/Cubes.antt`: q is the whole part of the cube root of a * 8 ^ i,
--- and r is what is left.
--- Assumes nothing.
+-- `float::whole::icbrt_slow` meets its contract. The invariant is `Digits` of `proofs/Cubes.antt`: q is the whole part of the cube root of a * 8 ^
+-- i, and r is what is left. Assumes nothing.
 use mathlib.Core.Path.{_≡_, sym, subst₂}
 use mathlib.Core.Logic.{⊎-elim}
 use Prim.Native.Nat.{ℕ, _-_, _<_}

@@ -1,5 +1,4 @@
--- `float::whole::isqrt_slow` meets its contract. The interval from lo to hi always holds the root, and the measure is its length.
--- Assumes nothing.
+-- `float::whole::isqrt_slow` meets its contract. The interval from lo to hi always holds the root, and the measure is its length. Assumes nothing.
 use Prim.Native.Nat.{ℕ, _-_, _*_, _≤_, _<_}
 use mathlib.Core.Path.{_≡_, subst}
 use Prim.Native.Nat.{_+_}
