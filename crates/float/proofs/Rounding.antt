@@ -10,13 +10,13 @@ use native.Mathlib.Omega.{arith}
 use mathlib.Core.Bool.{Bool, true, false, not, cond}
 use lib.Dec.{T, lit<, leb, ltb, ltb→lt, nltb→le}
 use lib.Pow.{pow-add, pow-pos, pow-mono, shl-lt, shl-exact}
-use lib.Ieee.{Float, nan, inf, fin, binary32, odd, ofBits, toBits, isNan, nanBits, fits, ne}
+use lib.Ieee.{Float, nan, inf, fin, binary32, odd, ofBits, toBits, isNan, fits, ne}
 use borrow.Author.Tests.{lt-leb, le-leb}
 use Rattle.float.specs.Root.{rootOfUnits, sqrtOf, cbrtOf}
 use Rattle.float.specs.Parts.{Split}
 use Rattle.floatlaws.specs.Whole.{pow-pow, root-lt}
 use Rattle.floatlaws.specs.Nan.{a-nan}
-use Rattle.floatlaws.specs.Bits.{valueOf, by-value, by-zero, by-inf, made, real-pattern, unsigned}
+use Rattle.floatlaws.specs.Bits.{valueOf, by-value, by-zero, by-inf, made}
 use Rattle.float.proofs.Iroot.{rounded}
 
 -- ---- squares and cubes as powers
@@ -78,14 +78,6 @@ module _ (n c : ℕ) (g : 24 * suc n + 1 ≡ 24 + c) (u m s t : ℕ) (P : Split 
   root-made b k e h =
       root-is b ∙ ap (λ (x : ℕ). odd 25 b ((t + 1) / 2) x 149) e ∙ sym (made binary32 b ((t + 1) / 2) k (half .0) (half .1) (room k (half .1) h))
 
-  pub root-no-nan : (b : Bool) (k : ℕ) → k ≤ 252 → T (not (nanBits binary32 (cond b 0x8000_0000 0 + (k * 0x80_0000 + (t + 1) / 2))))
-  root-no-nan b k h =
-      real-pattern binary32 (cond b 0x8000_0000 0 + (k * 0x80_0000 + (t + 1) / 2))
-      (le-trans (le-of-eq (unsigned binary32 b (k * 0x80_0000 + (t + 1) / 2) (small k (half .1) h .1))) (small k (half .1) h .0))
-    where
-      small : (k : ℕ) {q : ℕ} → q ≤ 0x100_0000 → k ≤ 252 → (k * 0x80_0000 + q ≤ 0x7f80_0000) × (k * 0x80_0000 + q < 0x8000_0000)
-      small k a b = omega arith
-
 -- ---- the square root
 module _ (u m s t : ℕ) (P : Split u m s) (lo : t * t ≤ m * 2 ^ (25 + s % 2)) (hi : m * 2 ^ (25 + s % 2) < (t + 1) * (t + 1)) where
   lo2 : t ^ 2 ≤ m * 2 ^ (25 + s % 2)
@@ -107,11 +99,6 @@ module _ (u m s t : ℕ) (P : Split u m s) (lo : t * t ≤ m * 2 ^ (25 + s % 2))
     where
       exponent : (d : ℕ) → d + 126 - 75 ≡ d + 51
       exponent d = omega arith
-
-  pub sqrt-no-nan : T (not (nanBits binary32 ((s / 2 + 51) * 0x80_0000 + (t + 1) / 2)))
-  sqrt-no-nan =
-      subst (λ (b : ℕ). T (not (nanBits binary32 b))) (zero-add ((s / 2 + 51) * 0x80_0000 + (t + 1) / 2))
-      (root-no-nan 1 25 refl u m s t P lo2 hi2 false (s / 2 + 51) small2)
 
 -- ---- the cube root: the program has the root of a * 2 ^ 48, with a for m * 2 ^ (1 + s % 3)
 module _ (u m s t : ℕ) (P : Split u m s) (lo : t * t * t ≤ m * 2 ^ (1 + s % 3) * 2 ^ 48)
@@ -139,9 +126,6 @@ module _ (u m s t : ℕ) (P : Split u m s) (lo : t * t * t ≤ m * 2 ^ (1 + s % 
     where
       exponent : (d : ℕ) → d + 126 - 50 ≡ d + 76
       exponent d = omega arith
-
-  pub cbrt-no-nan : (b : Bool) → T (not (nanBits binary32 (cond b 0x8000_0000 0 + ((s / 3 + 76) * 0x80_0000 + (t + 1) / 2))))
-  cbrt-no-nan b = root-no-nan 2 49 refl u m s t P lo3 hi3 b (s / 3 + 76) small3
 
 -- ---- the special values
 pub cbrt-nan : (x : Float) → ne x x ≡ true → x ≡ cbrtOf x

@@ -3,15 +3,16 @@
 use mathlib.Core.Path.{_≡_, sym, ap, _∙_, subst}
 use mathlib.Core.Bool.{cond, not}
 use Prim.Native.Nat.{ℕ, _+_, _-_, _*_, _/_, _%_, _^_, _≤_, _<_}
+use native.Mathlib.Nat.{le-trans, le-of-eq}
 use native.Mathlib.Omega.{arith}
 use borrow.Author.Needs.{needs}
 use lib.Dec.{T, leb}
 use lib.Ieee.{binary32, fits, nanBits, toBits, ofBits}
 use lib.Ieee.Bits.{toBits-lt}
 use Rattle.floatlaws.specs.Nan.{no-nan}
-use Rattle.floatlaws.specs.Bits.{valueOf, sign-bit}
+use Rattle.floatlaws.specs.Bits.{valueOf, real-pattern, sign-bit, unsigned}
 use Rattle.float.specs.Parts.{Split}
-use Rattle.float.proofs.Rounding.{moved-lt, moved-below, cbrt-nan, cbrt-zero, cbrt-inf, cbrt-finite, cbrt-digits, cbrt-made, cbrt-no-nan}
+use Rattle.float.proofs.Rounding.{moved-lt, moved-below, cbrt-nan, cbrt-zero, cbrt-inf, cbrt-finite, cbrt-digits, cbrt-made}
 use Rattle.float.proofs.cbrt.Statement.{statement}
 use Rattle.float.proofs.cbrt.Tie as tie
 
@@ -117,14 +118,6 @@ sign c = let b = toBits binary32 (c .args .x) in whole b ∙ sign-bit binary32 b
     whole : (b : ℕ) → b - b % 0x8000_0000 ≡ b / 0x8000_0000 * 0x8000_0000
     whole b = omega arith
 
-float-from-bits-result : tie.Need-float-from-bits-result
-float-from-bits-result c =
-    let at = c .before .before .before .before .before .before .before .before in
-    let r = (c .before .before .before .before .split .result .s / 3 + 76) * 0x80_0000 + (c .before .icbrt-long .result + 1) / 2 in
-    subst (λ (b : ℕ). T (not (nanBits binary32 (b + r)))) (sym (sign at))
-    (cbrt-no-nan _ _ _ (c .before .icbrt-long .result) (parts (c .before .before .before .before)) (at-least (c .before)) (below (c .before))
-    (leb 0x8000_0000 (toBits binary32 (at .args .x))))
-
 returns-4 : tie.Need-returns-4
 returns-4 c =
     let at = c .before .before .before .before .before .before .before .before in
@@ -134,6 +127,16 @@ returns-4 c =
     ∙ sym (cbrt-finite x (held at) (omega (arith, c .before .before .before .before .before .before .if2 .left)) (omega arith)
     ∙ cbrt-made _ _ _ (c .before .icbrt-long .result) (parts (c .before .before .before .before)) (at-least (c .before)) (below (c .before))
     (leb 0x8000_0000 (toBits binary32 x)))
+
+-- a pattern up to the infinity's, with either sign
+float-from-bits-result : tie.Need-float-from-bits-result
+float-from-bits-result c =
+    let at = c .before .before .before .before .before .before .before .before in
+    let s = leb 0x8000_0000 (toBits binary32 (at .args .x)) in
+    let r = (c .before .before .before .before .split .result .s / 3 + 76) * 0x80_0000 + (c .before .icbrt-long .result + 1) / 2 in
+    let small : r ≤ 0x7f80_0000 = omega (arith, digits (c .before), far (c .before)) in
+    subst (λ (b : ℕ). T (not (nanBits binary32 (b + r)))) (sym (sign at))
+    (real-pattern binary32 (cond s 0x8000_0000 0 + r) (le-trans (le-of-eq (unsigned binary32 s r (omega arith))) small))
 
 pub cbrt-spec : {M : Type 1} → statement M
 cbrt-spec =

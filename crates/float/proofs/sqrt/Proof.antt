@@ -8,10 +8,10 @@ use borrow.Author.Needs.{needs}
 use lib.Dec.{T}
 use lib.Ieee.{binary32, fits, toBits}
 use Rattle.floatlaws.specs.Nan.{no-nan, zero-by-zero}
-use Rattle.floatlaws.specs.Bits.{valueOf}
+use Rattle.floatlaws.specs.Bits.{valueOf, real-pattern}
 use Rattle.float.specs.Parts.{Split}
 use Rattle.float.proofs.Rounding.{moved-lt, moved-below, sqrt-nan, sqrt-zero, sqrt-inf, sqrt-negative, sqrt-finite, sqrt-digits, sqrt-made}
-use Rattle.float.proofs.Rounding.{sqrt-no-nan, clear}
+use Rattle.float.proofs.Rounding.{clear}
 use Rattle.float.proofs.sqrt.Statement.{statement}
 use Rattle.float.proofs.sqrt.Tie as tie
 
@@ -36,7 +36,9 @@ returns-3 c =
 
 -- the pattern is that of a value above zero
 pattern : (c : tie.Else3)
-    → (toBits binary32 (c .before .before .before .args .x) % 0x8000_0000 ≡ toBits binary32 (c .before .before .before .args .x)) × (toBits binary32 (c .before .before .before .args .x) < 0x8000_0000) × (0 < toBits binary32 (c .before .before .before .args .x))
+    → (toBits binary32 (c .before .before .before .args .x) % 0x8000_0000 ≡ toBits binary32 (c .before .before .before .args .x))
+    × (toBits binary32 (c .before .before .before .args .x) < 0x8000_0000)
+    × (0 < toBits binary32 (c .before .before .before .args .x))
 pattern c = clear (toBits binary32 (c .before .before .before .args .x)) (c .before .if2 .left) (c .if3 .left)
 
 returns-4 : tie.Need-returns-4
@@ -102,8 +104,7 @@ add-result-2 : tie.Need-add-result-2
 add-result-2 c = omega (arith, digits (c .before), parts (c .before .before .before .before) .far)
 
 float-from-bits-result : tie.Need-float-from-bits-result
-float-from-bits-result c =
-    sqrt-no-nan _ _ _ (c .before .isqrt .result) (parts (c .before .before .before .before)) (at-least (c .before)) (below (c .before))
+float-from-bits-result c = real-pattern binary32 _ (omega (arith, digits (c .before), parts (c .before .before .before .before) .far))
 
 returns-5 : tie.Need-returns-5
 returns-5 c =
