@@ -10,14 +10,14 @@ use native.Mathlib.Omega.{arith}
 use lib.IntN.{pos}
 use lib.Dec.{T, lit<, le→leb}
 use lib.Pow.{pow-add, pow-pos, pow-mono, shl-lt}
-use lib.Ieee.{Float, nan, inf, fin, Format, binary32, binary64, prec, emax, low, sub, mul, div, ofInt, inFloat}
+use lib.Ieee.{Float, nan, inf, fin, Format, binary32, binary64, prec, emax, low, neg, add, sub, mul, div, ofInt, inFloat}
 use lib.Ieee.Fits.{two, two-le-pos, reach}
 use lib.Ieee.Scale.{overflow, finite}
 use Rattle.floatlaws.specs.Whole.{exp-lt}
 use Rattle.floatlaws.specs.Value.{unit, unit-pos, limit, mag, hi, lo, Num, one-side, each-side, both-sides, shape, mag-shape}
-use Rattle.floatlaws.specs.Order.{Lt, Same}
+use Rattle.floatlaws.specs.Order.{Lt, Same, hi-neg, lo-neg}
 use Rattle.floatlaws.specs.Near.{near, near-exact, near-le, near-same, near-zero, Rounds, rounds-same, rounds-self}
-use Rattle.floatlaws.specs.Ops.{sub-rounds, mul-rounds, div-rounds, int-rounds, mul-swap}
+use Rattle.floatlaws.specs.Ops.{add-rounds, sub-rounds, mul-rounds, div-rounds, int-rounds, mul-swap}
 use Rattle.floatlaws.specs.Finite.{Fin, num}
 
 -- ---- a result that is a value of the format
@@ -36,16 +36,27 @@ one-unit f = near-exact f 1 1 1 0 (pow-pos 0) (one-lt f) (one-under f) refl
     one-under binary32 = lit< tt
     one-under binary64 = lit< tt
 
-module _ {f : Format} {x y : Float} (p : Num f x) (q : Num f y) (r : Num f (sub f x y)) where
-  pub sub-above : Lt f y x → 0 < hi f (sub f x y)
-  sub-above h =
-      rw (sub-rounds p q r .hi)
-      (le-trans (le-of-eq (sym (one-unit f))) (near-le f 1 (hi f x + lo f y - (lo f x + hi f y)) 1 (pow-pos 0) (omega arith)))
+-- what is above zero by one unit at least rounds above zero, and so below
+pub rounds-above : {f : Format} {z : Float} {P N : ℕ} → Rounds f z P N 1 → N < P → 0 < hi f z
+rounds-above {f} {z} {P} {N} r h = rw (r .hi) (le-trans (le-of-eq (sym (one-unit f))) (near-le f 1 (P - N) 1 (pow-pos 0) (omega arith)))
 
-  pub sub-below : Lt f x y → 0 < lo f (sub f x y)
-  sub-below h =
-      rw (sub-rounds p q r .lo)
-      (le-trans (le-of-eq (sym (one-unit f))) (near-le f 1 (lo f x + hi f y - (hi f x + lo f y)) 1 (pow-pos 0) (omega arith)))
+pub rounds-below : {f : Format} {z : Float} {P N : ℕ} → Rounds f z P N 1 → P < N → 0 < lo f z
+rounds-below {f} {z} {P} {N} r h = rw (r .lo) (le-trans (le-of-eq (sym (one-unit f))) (near-le f 1 (N - P) 1 (pow-pos 0) (omega arith)))
+
+module _ {f : Format} {x y : Float} (p : Num f x) (q : Num f y) where
+  module _ (r : Num f (sub f x y)) where
+    pub sub-above : Lt f y x → 0 < hi f (sub f x y)
+    sub-above h = rounds-above (sub-rounds p q r) (omega arith)
+
+    pub sub-below : Lt f x y → 0 < lo f (sub f x y)
+    sub-below h = rounds-below (sub-rounds p q r) (omega arith)
+
+  module _ (r : Num f (add f x y)) where
+    pub add-above : Lt f (neg y) x → 0 < hi f (add f x y)
+    add-above h = rounds-above (add-rounds p q r) (omega (arith, hi-neg f y, lo-neg f y))
+
+    pub add-below : Lt f x (neg y) → 0 < lo f (add f x y)
+    add-below h = rounds-below (add-rounds p q r) (omega (arith, hi-neg f y, lo-neg f y))
 
 -- ---- a power of two
 near-scale : (f : Format) (x : Float) (k : ℕ) → Fin f x → mag f x * 2 ^ k < overflow f → near f (mag f x * 2 ^ k) 1 ≡ mag f x * 2 ^ k
