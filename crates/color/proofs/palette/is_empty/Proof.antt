@@ -1,0 +1,17 @@
+-- `color::palette::is_empty` meets its contract: sentence 3, then no.
+-- Assumes nothing.
+use mathlib.Core.Path.{_≡_, refl, sym, ap, _∙_}
+use borrow.Author.Needs.{needs}
+use Rattle.color.specs.declared.palette.Flag.the-variants.{Refused}
+use Rattle.color.proofs.Hues.{turned-away, let-in}
+use Rattle.color.proofs.palette.is_empty.Statement.{statement}
+use Rattle.color.proofs.palette.is_empty.Tie as tie
+
+returns : tie.Need-returns
+returns c = turned-away Refused _ _ (c .before .bad-hues .ensures) _ (c .if1 .taken)
+
+returns-2 : tie.Need-returns-2
+returns-2 c = let-in Refused _ _ (c .before .bad-hues .ensures) _ (c .if1 .left)
+
+pub is-empty-spec : {M : Type 1} → statement M
+is-empty-spec = tie.close (tie.spec (λ c κs. search needs) returns returns-2)
