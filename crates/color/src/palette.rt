@@ -5,7 +5,8 @@ ghost use mathlib.Core.Path.{_≡_};
 ghost use Prim.Native.Nat.{_+_, _*_, _<_, _≤_};
 ghost use lib.ListN.{length};
 ghost use Rattle.color.specs.Palette as spec;
-use super::{Lab, Linear};
+use super::Lab;
+use super::Linear;
 
 // A hue's point in the plane of a and b.
 #[repr(C)]

@@ -1,25 +1,20 @@
+-- `color::srgb_to_linear` meets its contract: the entry is the definition's pattern at every byte, by the table's one test.
+-- Assumes nothing.
+use mathlib.Core.Path.{sym, ap}
+use lib.Ieee.{binary32, ofBits}
 use borrow.Author.Needs.{needs}
+use Rattle.color.specs.Srgb.{srgbToLinear}
+use Rattle.color.proofs.Linears.{linears, at-byte}
 use Rattle.color.proofs.srgb.srgb_to_linear.Statement.{statement}
 use Rattle.color.proofs.srgb.srgb_to_linear.Tie as tie
-use Rattle.color.proofs.srgb.srgb_to_linear.Reads as reads
-use Rattle.color.proofs.srgb.srgb_to_linear.Lts as lts
 
--- src/srgb.rt:45:20
-mul-result : tie.Need-mul-result
-mul-result c = search needs
-
--- src/srgb.rt:45:20
-array-read-result : tie.Need-array-read-result
-array-read-result c = search needs
-
--- src/srgb.rt:45:5
 float-from-bits-result : tie.Need-float-from-bits-result
-float-from-bits-result c = ?
+unfolding linears
+float-from-bits-result c = at-byte (c .args .v) (search needs) .number
 
--- src/srgb.rt:42:1
 returns : tie.Need-returns
-returns c = ?
+unfolding linears srgbToLinear
+returns c = ap (ofBits binary32) (at-byte (c .args .v) (search needs) .is)
 
 pub srgb-to-linear-spec : {M : Type 1} → statement M
-srgb-to-linear-spec =
-    tie.close (tie.spec mul-result array-read-result float-from-bits-result returns)
+srgb-to-linear-spec = tie.close (tie.spec (λ c. search needs) (λ c. search needs) float-from-bits-result returns)
