@@ -1,5 +1,7 @@
 -- What more than one function's proof uses, and the theorems on the definitions.
+pub mod BothWays
+pub mod Hex
 pub mod Hues
 pub mod Linears
-pub mod Literals
+mod Literals
 mod Table
