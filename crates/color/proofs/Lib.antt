@@ -1,7 +1,7 @@
 -- What more than one function's proof uses, and the theorems on the definitions.
+pub mod Answers
 pub mod BothWays
 pub mod Hex
-pub mod Hues
 pub mod Linears
 mod Literals
 mod Table

@@ -1,11 +1,11 @@
--- The palette: one list of 2 + 8k numbers for k hues, in the card file's order. Also the sentences 3 and 8 of document 01 for a hue count and for numbers. Definitions only.
+-- The palette: one list of 2 + 8k numbers for k hues, in the card file's order. Also sentence 8 of document 01 for numbers. Definitions only.
 use Prim.Native.Nat.{ℕ, _+_, _*_, _%_}
 use mathlib.Core.Bool.{Bool, false, not, cond, _&&_, _||_}
 use mathlib.Core.List.{List, [], _∷_}
-use lib.Dec.{eqb}
 use lib.ListN.{getD}
 use lib.Ieee.{Float, nan, neg, le}
 use Rattle.loops.specs.Loops.{anyUp}
+use Rattle.limits.specs.Limits.{badHues}
 use Rattle.sentences.specs.Sentences.{_when_, refusal, decided}
 use Rattle.color.specs.declared.Linear.{Linear}
 use Rattle.color.specs.declared.Lab.{Lab}
@@ -40,10 +40,7 @@ paletteLab palette hues i =
 unfoldable pub linearAt : List Float → ℕ → Linear
 linearAt colours i = linear (getD colours (3 * i) nan) (getD colours (3 * i + 1) nan) (getD colours (3 * i + 2) nan)
 
--- ---- sentence 3
-
-unfoldable pub badHues : ℕ → Bool
-badHues k = not (eqb k 1 || (eqb k 2 || (eqb k 4 || (eqb k 8 || eqb k 16))))
+-- ---- answers
 
 -- document 01's number of a call that takes nothing but a hue count to refuse
 unfoldable pub hueRefusal : ℕ → ℕ

@@ -1,6 +1,6 @@
 // The palette of a card with k hues, one flat slice of 2 + 8k f32: the lightness of the two levels, a and b of each hue,
 // then the Lab of each colour, dark by hue and then light by hue. Here is where each number stands, and what
-// document 01's sentences 3 and 8 say of a hue count, of numbers and of a palette.
+// document 01's sentence 8 says of numbers and of a palette.
 ghost use mathlib.Core.Path.{_≡_};
 ghost use Prim.Native.Nat.{_+_, _*_, _<_, _≤_};
 ghost use lib.ListN.{length};
@@ -27,30 +27,11 @@ pub enum Flag {
     Is(bool),
 }
 
-// Sentence 3: the hue count is not 1, 2, 4, 8 or 16.
-pub fn bad_hues(hues: usize) -> bool
-    ensures { λ r. ⌜ r ≡ spec.badHues hues ⌝ }
-{
-    if hues == 1 {
-        return false;
-    }
-    if hues == 2 {
-        return false;
-    }
-    if hues == 4 {
-        return false;
-    }
-    if hues == 8 {
-        return false;
-    }
-    hues != 16
-}
-
 // How many colours a palette has: two levels of each hue. Refused: 3.
 pub fn len(hues: usize) -> Number
     ensures { λ r. ⌜ r ≡ spec.len hues ⌝ }
 {
-    if bad_hues(hues) {
+    if limits::bad_hues(hues) {
         return Number::Refused(3);
     }
     Number::Is(2 * hues)
@@ -60,7 +41,7 @@ pub fn len(hues: usize) -> Number
 pub fn is_empty(hues: usize) -> Flag
     ensures { λ r. ⌜ r ≡ spec.isEmpty hues ⌝ }
 {
-    if bad_hues(hues) {
+    if limits::bad_hues(hues) {
         return Flag::Refused(3);
     }
     Flag::Is(false)
@@ -70,7 +51,7 @@ pub fn is_empty(hues: usize) -> Flag
 pub fn index(l: bool, h: usize, hues: usize) -> Number
     ensures { λ r. ⌜ r ≡ spec.index l h hues ⌝ }
 {
-    if bad_hues(hues) {
+    if limits::bad_hues(hues) {
         return Number::Refused(3);
     }
     Number::Is(index_of(l, h, hues))

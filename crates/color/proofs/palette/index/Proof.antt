@@ -3,7 +3,8 @@
 use mathlib.Core.Path.{_≡_, refl, sym, ap, _∙_}
 use borrow.Author.Needs.{needs}
 use Rattle.color.specs.declared.palette.Number.the-variants.{Refused, Is}
-use Rattle.color.proofs.Hues.{hues-range, turned-away, let-in}
+use Rattle.limits.proofs.Laws.{hues-in}
+use Rattle.color.proofs.Answers.{turned-away, let-in}
 use Rattle.color.proofs.palette.index.Statement.{statement}
 use Rattle.color.proofs.palette.index.Tie as tie
 
@@ -11,7 +12,7 @@ returns : tie.Need-returns
 returns c = turned-away Refused _ _ (c .before .bad-hues .ensures) _ (c .if1 .taken)
 
 index-of-requires : tie.Need-index-of-requires
-index-of-requires c = λ κs. hues-range _ (sym (c .before .bad-hues .ensures) ∙ c .if1 .left)
+index-of-requires c = λ κs. let h = hues-in _ (sym (c .before .bad-hues .ensures) ∙ c .if1 .left) in (h .least, h .most)
 
 returns-2 : tie.Need-returns-2
 returns-2 c = ap Is (c .index-of .ensures) ∙ let-in Refused _ _ (c .before .before .bad-hues .ensures) _ (c .before .if1 .left)

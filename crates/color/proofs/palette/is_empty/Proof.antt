@@ -3,7 +3,7 @@
 use mathlib.Core.Path.{_≡_, refl, sym, ap, _∙_}
 use borrow.Author.Needs.{needs}
 use Rattle.color.specs.declared.palette.Flag.the-variants.{Refused}
-use Rattle.color.proofs.Hues.{turned-away, let-in}
+use Rattle.color.proofs.Answers.{turned-away, let-in}
 use Rattle.color.proofs.palette.is_empty.Statement.{statement}
 use Rattle.color.proofs.palette.is_empty.Tie as tie
 

@@ -3,7 +3,8 @@
 use mathlib.Core.Path.{_≡_, refl, sym, ap, _∙_}
 use borrow.Author.Needs.{needs}
 use Rattle.color.specs.declared.palette.Number.the-variants.{Refused}
-use Rattle.color.proofs.Hues.{hues-range, turned-away, let-in}
+use Rattle.limits.proofs.Laws.{hues-in}
+use Rattle.color.proofs.Answers.{turned-away, let-in}
 use Rattle.color.proofs.palette.len.Statement.{statement}
 use Rattle.color.proofs.palette.len.Tie as tie
 
@@ -11,7 +12,7 @@ returns : tie.Need-returns
 returns c = turned-away Refused _ _ (c .before .bad-hues .ensures) _ (c .if1 .taken)
 
 mul-t3 : tie.Need-mul-t3
-mul-t3 c = let h = hues-range (c .before .before .args .hues) (sym (c .before .bad-hues .ensures) ∙ c .if1 .left) in search needs
+mul-t3 c = let h = hues-in (c .before .before .args .hues) (sym (c .before .bad-hues .ensures) ∙ c .if1 .left) in search needs
 
 returns-2 : tie.Need-returns-2
 returns-2 c = let-in Refused _ _ (c .before .bad-hues .ensures) _ (c .if1 .left)
