@@ -3,5 +3,6 @@ pub mod Answers
 pub mod BothWays
 pub mod Hex
 pub mod Linears
+pub mod Rises
 mod Literals
 mod Table
