@@ -64,17 +64,17 @@ cbrt-mono x y p q h l =
 
 -- ---- the constants
 
-fin-of-fraction : (n d : ℕ) → T (finite (fraction n d)) → Fin binary32 (fraction n d)
+pub fin-of-fraction : (n d : ℕ) → T (finite (fraction n d)) → Fin binary32 (fraction n d)
 unfolding fraction
 fin-of-fraction n d t = record { fit = round-fits binary32 false n d; finite = t }
 
 -- finite, not negative, and above zero
-record Plus (x : Float) : Type 0 where
-  is : Fin binary32 x
-  none : lo binary32 x ≡ 0
-  some : 0 < hi binary32 x
+pub record Plus (x : Float) : Type 0 where
+  pub is : Fin binary32 x
+  pub none : lo binary32 x ≡ 0
+  pub some : 0 < hi binary32 x
 
-plus : (n d : ℕ) → T (finite (fraction n d)) → T (positive (fraction n d)) → Plus (fraction n d)
+pub plus : (n d : ℕ) → T (finite (fraction n d)) → T (positive (fraction n d)) → Plus (fraction n d)
 plus n d t u =
     let p = fin-of-fraction n d t in
     let h = hi-positive binary32 (fraction n d) (num p) u in

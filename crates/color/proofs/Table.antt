@@ -1,10 +1,11 @@
--- A rule of a table, proved at all of its entries by one test that antt computes, one entry after the other.
+-- A rule of a table, proved at all of its entries by one test that antt computes, one entry after the other; and so a rule of every number below one.
 -- Assumes nothing.
 use mathlib.Core.Path.{_≡_, _∙_, subst, sym}
+use mathlib.Core.Logic.{_⊎_, inl, inr}
 use mathlib.Core.Bool.{Bool, true, false}
 use mathlib.Core.List.{List, [], _∷_}
 use Prim.Native.Nat.{ℕ, zero, suc, _+_, _<_}
-use native.Mathlib.Nat.{add-zero, zero-add, add-suc, suc-add, le-of-suc-le-suc, not-suc-le-zero}
+use native.Mathlib.Nat.{add-zero, zero-add, add-suc, suc-add, le-of-suc-le-suc, not-suc-le-zero, eq-or-lt-of-le}
 use lib.Dec.{T}
 use lib.ListN.{length, getD}
 
@@ -34,3 +35,16 @@ from f (x ∷ xs) i t (suc k) h =
 
 pub at : (f : ℕ → ℕ → Bool) (xs : List ℕ) → T (every f 0 xs) → (k : ℕ) → k < length xs → T (f k (getD xs k 0))
 at f xs t k h = subst (λ (m : ℕ). T (f m (getD xs k 0))) (zero-add k) (from f xs 0 t k h)
+
+-- the test f passes at each number below n
+abbrev pub each : (ℕ → Bool) → ℕ → Bool
+each f zero = true
+each f (suc n) = both (f n) (each f n)
+
+pub each-at : (f : ℕ → Bool) (n : ℕ) → T (each f n) → (k : ℕ) → k < n → T (f k)
+each-at f zero t k h = absurd (not-suc-le-zero h)
+each-at f (suc n) t k h = go (each-at f n (both-right (f n) (each f n) t) k) (eq-or-lt-of-le (le-of-suc-le-suc h))
+  where
+    go : (k < n → T (f k)) → (k ≡ n) ⊎ (k < n) → T (f k)
+    go r (inl e) = subst (λ (m : ℕ). T (f m)) (sym e) (both-left (f n) (each f n) t)
+    go r (inr l) = r l
