@@ -4,6 +4,7 @@ pub mod BothWays
 pub mod Bounded
 pub mod Hex
 pub mod Linears
+pub mod Passed
 pub mod Rises
 mod Literals
 mod Table

@@ -46,7 +46,7 @@ linearAt colours i = linear (getD colours (3 * i) nan) (getD colours (3 * i + 1)
 unfoldable pub hueRefusal : ℕ → ℕ
 hueRefusal hues = refusal ((3 when badHues hues) ∷ [])
 
--- the answer of a call by its number: the refusal, or at 0 the value
+-- An answer by document 01's number n and the value: `Refused n`, or `Is` of the value where n is 0, the call being accepted.
 abbrev pub answered : ℕ → ℕ → Number
 answered n v = decided n number.Refused (number.Is v)
 
