@@ -1,4 +1,5 @@
--- Forward and back: black and white are exact both ways, and at the border of f the two branches meet within a unit in the last place, those of its inverse within two. Each is a closed computation. Assumes nothing.
+-- Forward and back: black and white are exact both ways, and at the border of f the two branches meet within a unit in the last place, those of
+-- its inverse within two. Each is a closed computation. Assumes nothing.
 use mathlib.Core.Path.{_≡_, refl, sym, ap, _∙_}
 use Prim.Native.Nat.{_+_}
 use mathlib.Core.Bool.{false}

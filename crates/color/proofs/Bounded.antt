@@ -1,4 +1,5 @@
--- A colour that sentence 8 lets pass has a finite luminance, at most 2 ^ 22 in magnitude, and a finite Lab, each number at most 2 ^ 36: every step keeps the order, so it takes the ends of an interval to the ends of one. Assumes nothing.
+-- A colour that sentence 8 lets pass has a finite luminance, at most 2 ^ 22 in magnitude, and a finite Lab, each number at most 2 ^ 36: every
+-- step keeps the order, so it takes the ends of an interval to the ends of one. Assumes nothing.
 use mathlib.Core.Path.{_≡_, refl, sym, ap, subst}
 use mathlib.Core.Bool.{Bool, true, false, not, _&&_, _||_}
 use Prim.Native.Nat.{ℕ, _^_, _<_}
@@ -75,7 +76,8 @@ row-in {p} {q} {s} {r} {g} {b} P Q S R G B = wider 22 tt (add-in (add-in (mul-in
 
 -- ---- over the white point, and through f
 
-over : {x : Float} (w : Float) → Plus w → T (finite (div binary32 (neg (whole (2 ^ 22))) w)) → T (finite (div binary32 (whole (2 ^ 22)) w)) → Within 22 x → In binary32 (div binary32 (neg (whole (2 ^ 22))) w) (div binary32 (whole (2 ^ 22)) w) (div binary32 x w)
+over : {x : Float} (w : Float) → Plus w → T (finite (div binary32 (neg (whole (2 ^ 22))) w)) → T (finite (div binary32 (whole (2 ^ 22)) w)) → Within 22 x
+    → In binary32 (div binary32 (neg (whole (2 ^ 22))) w) (div binary32 (whole (2 ^ 22)) w) (div binary32 x w)
 over {x} w p s t i =
     let a = neg (whole (2 ^ 22)) in
     let b = whole (2 ^ 22) in
@@ -98,18 +100,18 @@ over-z i = wider 23 tt (over whiteZ (plus 108883 (10 ^ 5) tt tt) tt tt i) tt tt
 
 low-f : Le binary32 (neg (whole (2 ^ 26))) (labF (neg (whole (2 ^ 23))))
 unfolding labF line fraction round add mul neg le lt
-low-f = of-le (num (neg-fin (bound 26 tt))) (lab-f-num (neg (whole (2 ^ 23))) (neg-fin (bound 23 tt))) tt
+low-f = of-le (num (neg-fin (bound 26 tt))) (lab-f-num (neg (whole (2 ^ 23))) (num (neg-fin (bound 23 tt)))) tt
 
 high-f : Le binary32 (labF (whole (2 ^ 23))) (whole (2 ^ 26))
 unfolding labF line fraction round add mul neg le lt cbrtOf
-high-f = of-le (lab-f-num (whole (2 ^ 23)) (bound 23 tt)) (num (bound 26 tt)) tt
+high-f = of-le (lab-f-num (whole (2 ^ 23)) (num (bound 23 tt))) (num (bound 26 tt)) tt
 
 f-in : {t : Float} → Within 23 t → Within 26 (labF t)
 unfolding fraction round
 f-in {t} i =
     let q = bound 26 tt in
-    within (neg-fin q) q (lab-f-num t (i .is))
-    (le-trans low-f (lab-f-mono (neg (whole (2 ^ 23))) t (i .from) (i .is) (i .low))) (le-trans (lab-f-mono t (whole (2 ^ 23)) (i .is) (i .to) (i .high)) high-f)
+    within (neg-fin q) q (lab-f-num t (num (i .is)))
+    (le-trans low-f (lab-f-mono (neg (whole (2 ^ 23))) t (num (i .from)) (num (i .is)) (i .low))) (le-trans (lab-f-mono t (whole (2 ^ 23)) (num (i .is)) (num (i .to)) (i .high)) high-f)
 
 -- ---- the three numbers
 

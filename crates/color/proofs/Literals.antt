@@ -1,4 +1,5 @@
--- Each literal of the code is the decimal or whole number of the definitions, rounded once: antt computes both. The fractions of the code are one rounded quotient of two whole numbers, which is
+-- Each literal of the code is the decimal or whole number of the definitions, rounded once: antt computes both. The fractions of the code are
+-- one rounded quotient of two whole numbers, which is
 -- the fraction rounded once. Assumes nothing.
 use mathlib.Core.Path.{_≡_, refl}
 use Prim.Native.Nat.{_^_}

@@ -1,4 +1,5 @@
--- What sentence 8 says of a palette that it lets pass: each number that an accessor reads is one of the first 2 + 8 × hues, so it is finite and in range. And a colour's place is one of the palette's. Assumes nothing.
+-- What sentence 8 says of a palette that it lets pass: each number that an accessor reads is one of the first 2 + 8 × hues, so it is finite and
+-- in range. And a colour's place is one of the palette's. Assumes nothing.
 use mathlib.Core.Path.{_≡_, refl}
 use mathlib.Core.Bool.{Bool, true, false, cond}
 use mathlib.Core.List.{List}

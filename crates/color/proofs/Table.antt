@@ -1,4 +1,5 @@
--- A rule of a table, proved at all of its entries by one test that antt computes, one entry after the other; and so a rule of every number below one.
+-- A rule of a table, proved at all of its entries by one test that antt computes, one entry after the other; and so a rule of every number below
+-- one.
 -- Assumes nothing.
 use mathlib.Core.Path.{_≡_, _∙_, subst, sym}
 use mathlib.Core.Logic.{_⊎_, inl, inr}

@@ -1,4 +1,5 @@
--- Colour spaces: linear sRGB to CIE XYZ (D65) and CIELAB, and back, by the formulas of the CIE and the constants and the order of the Rust's color.rs. Definitions only.
+-- Colour spaces: linear sRGB to CIE XYZ (D65) and CIELAB, and back, by the formulas of the CIE and the constants and the order of the Rust's
+-- color.rs. Definitions only.
 -- Each constant is a decimal or a fraction rounded once to f32, and each operation rounds once.
 use Prim.Native.Nat.{ℕ, _+_, _*_, _/_, _%_, _^_}
 use mathlib.Core.Bool.{Bool, false, cond, _&&_}

@@ -16,4 +16,7 @@ abbrev μ : tie.MeasureT-loop
 μ values n i₀ i = n - i
 
 pub wild-in-spec : {M : Type 1} → statement M
-wild-in-spec = tie.close (tie.spec Inv μ (λ c. search (loops, needs)) (λ c. search needs) (λ c. search needs) (λ c κs. search needs) (λ c. search (loops, needs)) (λ c. search needs) (λ c. search needs) (λ c. search (loops, needs)) (λ c. search (loops, needs)))
+wild-in-spec =
+    tie.close
+    (tie.spec Inv μ (λ c. search (loops, needs)) (λ c. search needs) (λ c. search needs) (λ c κs. search needs) (λ c. search (loops, needs))
+    (λ c. search needs) (λ c. search needs) (λ c. search (loops, needs)) (λ c. search (loops, needs)))
