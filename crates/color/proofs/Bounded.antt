@@ -1,17 +1,17 @@
 -- A colour that sentence 8 lets pass has a finite luminance, at most 2 ^ 22 in magnitude, and a finite Lab, each number at most 2 ^ 36: every
 -- step keeps the order, so it takes the ends of an interval to the ends of one. Assumes nothing.
-use mathlib.Core.Path.{_≡_, refl, sym, ap, subst}
+use mathlib.Core.Path.{_≡_}
 use mathlib.Core.Bool.{Bool, true, false, not, _&&_, _||_}
-use Prim.Native.Nat.{ℕ, _^_, _<_}
+use Prim.Native.Nat.{ℕ, _^_}
 use native.Mathlib.Omega.{arith}
 use lib.Dec.{T}
 use lib.Ieee.{Float, nan, inf, fin, binary32, add, sub, mul, div, neg, lt, eq, le, round, fits, isNan}
 use lib.Ieee.Fits.{div-fits}
 use lib.Ieee.Scale.{finite}
 use Rattle.float.specs.Root.{cbrtOf}
-use Rattle.floatlaws.specs.Value.{hi, lo, negative, Num}
+use Rattle.floatlaws.specs.Value.{Num}
 use Rattle.floatlaws.specs.Order.{Le, of-le, le-trans}
-use Rattle.floatlaws.specs.Finite.{Fin, num, neg-fin, sub-num', mul-num-pos, div-num}
+use Rattle.floatlaws.specs.Finite.{Fin, num, neg-fin, div-num}
 use Rattle.floatlaws.specs.Mono.{div-mono}
 use Rattle.floatlaws.specs.Interval.{In, within, point, add-in, sub-in, mul-in-signed}
 use Rattle.sentences.proofs.Laws.{neither}

@@ -1,5 +1,5 @@
 -- 0xRRGGBB and the three bytes undo each other. Assumes nothing.
-use mathlib.Core.Path.{_≡_, refl}
+use mathlib.Core.Path.{_≡_}
 use Prim.Native.Nat.{ℕ, _+_, _*_, _/_, _%_, _<_}
 use native.Mathlib.Omega.{arith}
 use Rattle.color.specs.Color.{srgb8, fromHex, toHex}

@@ -1,7 +1,7 @@
 -- The 256 linear values of the sRGB bytes are the nearest floats. A test that antt computes at every byte compares fifth with twelfth powers of
 -- whole numbers, of some 270 digits: the curve lies between the middles to either side of the value. Any other float lies beyond its neighbours,
 -- and so beyond the middles. Assumes nothing.
-use mathlib.Core.Path.{_≡_, refl, sym, ap, _∙_, subst}
+use mathlib.Core.Path.{_≡_, refl, sym, _∙_, subst}
 use mathlib.Core.Bool.{Bool, true, false, not, _&&_}
 use mathlib.Core.List.{List}
 use Prim.Native.Nat.{ℕ, zero, suc, _+_, _-_, _*_, _/_, _%_, _^_, _≤_, _<_}

@@ -1,9 +1,9 @@
 -- What sentence 8 says of a palette that it lets pass: each number that an accessor reads is one of the first 2 + 8 × hues, so it is finite and
 -- in range. And a colour's place is one of the palette's. Assumes nothing.
-use mathlib.Core.Path.{_≡_, refl}
-use mathlib.Core.Bool.{Bool, true, false, cond}
+use mathlib.Core.Path.{_≡_}
+use mathlib.Core.Bool.{Bool, true, false}
 use mathlib.Core.List.{List}
-use Prim.Native.Nat.{ℕ, _+_, _*_, _%_, _<_}
+use Prim.Native.Nat.{ℕ, _+_, _*_, _<_}
 use native.Mathlib.Nat.{mod-lt}
 use native.Mathlib.Omega.{arith}
 use lib.Ieee.{Float}

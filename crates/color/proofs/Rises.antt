@@ -3,9 +3,8 @@
 use mathlib.Core.Path.{_≡_, refl}
 use mathlib.Core.Bool.{Bool, true, false, cond}
 use Prim.Native.Nat.{ℕ, _<_}
-use native.Mathlib.Omega.{arith}
 use lib.Dec.{T}
-use lib.Ieee.{Float, binary32, add, sub, mul, div, lt, le, round}
+use lib.Ieee.{Float, binary32, add, mul, div, lt, le, round}
 use lib.Ieee.Fits.{round-fits}
 use lib.Ieee.Positive.{positive}
 use lib.Ieee.Scale.{finite}

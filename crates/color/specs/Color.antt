@@ -2,7 +2,7 @@
 -- color.rs. Definitions only.
 -- Each constant is a decimal or a fraction rounded once to f32, and each operation rounds once.
 use Prim.Native.Nat.{ℕ, _+_, _*_, _/_, _%_, _^_}
-use mathlib.Core.Bool.{Bool, false, cond, _&&_}
+use mathlib.Core.Bool.{Bool, false, cond}
 use lib.IntN.{pos}
 use lib.Ieee.{Float, binary32, add, sub, mul, div, neg, lt, le, round, ofInt}
 use Rattle.float.specs.Select.{clamp}

@@ -1,6 +1,6 @@
 -- `color::lab_f` meets its contract: it goes by the same test.
 -- Assumes nothing.
-use mathlib.Core.Path.{_≡_, refl, sym, ap, _∙_}
+use mathlib.Core.Path.{_≡_}
 use mathlib.Core.Bool.{true, false}
 use lib.Ieee.{Float, binary32, add, mul, lt}
 use borrow.Author.Needs.{needs}

@@ -1,6 +1,6 @@
 -- `color::Linear::in_gamut` meets its contract: component by component.
 -- Assumes nothing.
-use mathlib.Core.Path.{_≡_, refl, sym, ap, _∙_}
+use mathlib.Core.Path.{_≡_}
 use mathlib.Core.Bool.{Bool, true, false}
 use borrow.Author.Needs.{needs}
 use Rattle.color.specs.declared.Linear.{Linear}

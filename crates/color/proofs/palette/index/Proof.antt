@@ -1,6 +1,6 @@
 -- `color::palette::index` meets its contract: sentence 3, then the place.
 -- Assumes nothing.
-use mathlib.Core.Path.{_≡_, refl, sym, ap, _∙_}
+use mathlib.Core.Path.{sym, ap, _∙_}
 use borrow.Author.Needs.{needs}
 use Rattle.color.specs.declared.palette.Number.the-variants.{Refused, Is}
 use Rattle.limits.proofs.Laws.{hues-in}

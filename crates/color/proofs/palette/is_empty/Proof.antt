@@ -1,6 +1,5 @@
 -- `color::palette::is_empty` meets its contract: sentence 3, then no.
 -- Assumes nothing.
-use mathlib.Core.Path.{_≡_, refl, sym, ap, _∙_}
 use borrow.Author.Needs.{needs}
 use Rattle.color.specs.declared.palette.Flag.the-variants.{Refused}
 use Rattle.color.proofs.Answers.{turned-away, let-in}

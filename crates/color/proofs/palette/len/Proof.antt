@@ -1,6 +1,6 @@
 -- `color::palette::len` meets its contract: sentence 3, then the count.
 -- Assumes nothing.
-use mathlib.Core.Path.{_≡_, refl, sym, ap, _∙_}
+use mathlib.Core.Path.{sym, _∙_}
 use borrow.Author.Needs.{needs}
 use Rattle.color.specs.declared.palette.Number.the-variants.{Refused}
 use Rattle.limits.proofs.Laws.{hues-in}

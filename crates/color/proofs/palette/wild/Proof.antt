@@ -1,6 +1,6 @@
 -- `color::palette::wild` meets its contract: a NaN is at most nothing.
 -- Assumes nothing.
-use mathlib.Core.Path.{_≡_, refl, sym, ap, _∙_}
+use mathlib.Core.Path.{_≡_}
 use mathlib.Core.Bool.{true, false, not}
 use lib.Ieee.{Float, le, neg}
 use Rattle.color.specs.Color.{whole}

@@ -1,8 +1,6 @@
 -- `color::palette::wild_in` meets its contract: what is left of the list says the same.
 -- Assumes nothing.
-use mathlib.Core.Path.{_≡_, refl, sym, ap, _∙_}
-use Prim.Native.Nat.{_≤_, _-_}
-use lib.ListN.{length}
+use Prim.Native.Nat.{_-_}
 use borrow.Author.Needs.{needs}
 use Rattle.loops.proofs.Laws.{LeftAny, loops}
 use Rattle.color.specs.Palette.{wildAt, wildIn}

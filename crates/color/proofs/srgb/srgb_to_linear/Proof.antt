@@ -1,7 +1,7 @@
 -- `color::srgb::srgb_to_linear` meets its contract: the table's one test, which antt computes, says that each entry is the definition's pattern.
 -- Assumes nothing.
-use mathlib.Core.Path.{_≡_, refl, ap, sym, subst}
-use mathlib.Core.Bool.{Bool, true, not}
+use mathlib.Core.Path.{_≡_, ap, sym, subst}
+use mathlib.Core.Bool.{true, not}
 use mathlib.Core.List.{List}
 use Prim.Native.Nat.{ℕ, _<_}
 use lib.Dec.{T}
