@@ -106,3 +106,17 @@ hues-in k h =
     (λ r. ⊎-elim (λ (e : k ≡ 8). of-power k 3 (omega arith) e (omega arith))
     (λ r. of-power k 4 (omega arith) (eqb-true k 16 r) (omega arith))
     (one-or k 8 _ r)) (one-or k 4 _ r)) (one-or k 2 _ r)) (one-or k 1 _ (not-false _ h))
+
+-- a symbol's bits, too, are at most 4
+few-where : (b : Bool) (n : ℕ) → n ≤ 4 → cond b n 0 ≤ 4
+few-where true n h = h
+few-where false n h = omega arith
+
+pub symbol-bits-few : (k : ℕ) → badHues k ≡ false → symbolBits k ≤ 4
+unfolding symbolBits
+symbol-bits-few k h = few-where (chromaOn k) (log2 k) (hues-in k h .bits)
+
+-- with chroma on, a symbol has the logarithm's bits
+pub symbol-bits-on : (k : ℕ) → chromaOn k ≡ true → symbolBits k ≡ log2 k
+unfolding symbolBits
+symbol-bits-on k h = rw h

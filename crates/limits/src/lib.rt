@@ -1,11 +1,11 @@
 // What several calls test of the numbers that they take, each test one sentence of document 01; and the counts that
 // follow from a card's numbers: the bits of a symbol and the length of the chroma score list.
 ghost use mathlib.Core.Path.{_≡_};
-ghost use Prim.Native.Nat.{_+_, _<_};
+ghost use Prim.Native.Nat.{_+_, _^_, _<_};
 ghost use lib.Dec.{ltb};
 ghost use lib.ListN.{length};
 ghost use Rattle.limits.specs.Limits.{badSide, badHues, badCellSize, badModules, badCounts, badCell, badCells};
-ghost use Rattle.limits.specs.Chroma.{log2, chromaOn, weighted, symbolBits, chromaEntries, chromaLength};
+ghost use Rattle.limits.specs.Chroma.{log2, chromaOn, weighted, symbolBits, ringModules, chromaEntries, chromaLength};
 
 // ---- the sentences
 
@@ -131,6 +131,27 @@ pub fn symbol_bits(hues: usize) -> usize
         return log2(hues);
     }
     0
+}
+
+// The modules that are listed after the grid modules; none where there are fewer modules than that.
+pub fn ring_modules(modules: usize, grid: usize) -> usize
+    ensures { λ r. ⌜ r ≡ ringModules modules grid ⌝ }
+{
+    if modules < grid {
+        return 0;
+    }
+    modules - grid
+}
+
+// Core: the number of places in the chroma list: one for each cell and, at cell size 1, each ring module.
+pub fn chroma_entries(cells: usize, ring: usize, size: usize) -> usize
+    requires { ⌜ cells + ring < 2 ^ 64 ⌝ }
+    ensures { λ r. ⌜ r ≡ chromaEntries cells ring size ⌝ }
+{
+    if size == 1 {
+        return cells + ring;
+    }
+    cells
 }
 
 // Whether n is below the number of places in the chroma list: one for each cell and, at cell size 1, each ring module.

@@ -1,0 +1,42 @@
+-- `modulate::masked_at` meets its contract: a grid module is inside the grid, and its coordinates are read as they stand. Assumes nothing.
+use mathlib.Core.Path.{_≡_, refl, sym, ap, _∙_}
+use borrow.Author.Needs.{needs}
+use mathlib.Core.Bool.{Bool, false}
+use mathlib.Core.List.{List}
+use Prim.Native.Nat.{ℕ, _<_}
+use lib.IntN.{ℤ, pos, natAbs}
+use lib.ListN.{length, getD}
+use Rattle.places.specs.Places.{outside, misplacedAt}
+use Rattle.places.proofs.Placed.{in-grid}
+use Rattle.modulate.specs.Mask.{lumaMask}
+use Rattle.modulate.specs.Score.{coordinate, maskedAt}
+use Rattle.modulate.proofs.masked_at.Statement.{statement}
+use Rattle.modulate.proofs.masked_at.Tie as tie
+
+module _ (side g i : ℕ) (xs ys : List ℤ) (h : misplacedAt side g xs ys i ≡ false) (l : i < g) where
+  column : outside side 0 (getD xs i (pos 0)) ≡ false
+  column = in-grid side g i (getD xs i (pos 0)) (getD ys i (pos 0)) h l .0
+
+  row : outside side 0 (getD ys i (pos 0)) ≡ false
+  row = in-grid side g i (getD xs i (pos 0)) (getD ys i (pos 0)) h l .1
+
+steps : (id : ℕ) (xs ys : List ℤ) (i x y : ℕ) (r : Bool) → pos x ≡ getD xs i (pos 0) → pos y ≡ getD ys i (pos 0) → r ≡ lumaMask id x y → r ≡ maskedAt id xs ys i
+unfolding maskedAt
+steps id xs ys i x y r ex ey e =
+    let p : x ≡ coordinate xs i = ap natAbs ex in
+    let q : y ≡ coordinate ys i = ap natAbs ey in
+    cc
+
+coordinate-at-requires : tie.Need-coordinate-at-requires
+coordinate-at-requires c κs = (search needs, search needs, search (column))
+
+coordinate-at-requires-2 : tie.Need-coordinate-at-requires-2
+coordinate-at-requires-2 c κs = (search needs, search needs, search (row))
+
+returns : tie.Need-returns
+returns c = search (steps)
+
+pub masked-at-spec : {M : Type 1} → statement M
+masked-at-spec =
+    tie.close
+    (tie.spec coordinate-at-requires coordinate-at-requires-2 (λ c κs. search needs) returns)

@@ -1,0 +1,64 @@
+-- `modulate::unmask_luma` meets its contract: refused by the first sentence that holds, or written. Assumes nothing.
+use mathlib.Core.Path.{_≡_, refl, sym, ap, _∙_}
+use borrow.Author.Needs.{needs}
+use mathlib.Core.Bool.{Bool, true, false}
+use mathlib.Core.List.{List}
+use Prim.Native.Nat.{ℕ, _≤_}
+use lib.IntN.{ℤ}
+use lib.ListN.{length}
+use lib.Ieee.{Float}
+use Rattle.sentences.specs.Sentences.{refusal, at, sound, fresh}
+use Rattle.places.specs.Places.{badPlaces}
+use Rattle.limits.proofs.Laws.{side-in, modules-in}
+use Rattle.modulate.specs.declared.Outcome.the-variants.{Refused, Done}
+use Rattle.modulate.specs.Score.{ended, unmasked, unmaskSentences, unmaskLumaOf}
+use Rattle.modulate.proofs.Answers.{none-of, list-kept, list-written}
+use Rattle.modulate.proofs.Lengths.{luma-lengths}
+use Rattle.modulate.proofs.unmask_luma.Statement.{statement}
+use Rattle.modulate.proofs.unmask_luma.Tie as tie
+
+module _ (luma : List Float) (side : ℕ) (xs ys : List ℤ) (g mask n : ℕ) (e : n ≡ refusal (unmaskSentences luma side xs ys g)) where
+  away : (l : List Float) → (n ≡ 0 → ⊥) → l ≡ luma → ended (Refused n) l ≡ unmaskLumaOf luma side xs ys g mask
+  unfolding unmaskLumaOf
+  away l z h = list-kept (unmaskSentences luma side xs ys g) luma (unmasked mask xs ys g luma) n e l z h
+
+  wrote : (l : List Float) → n ≡ 0 → l ≡ unmasked mask xs ys g luma → ended Done l ≡ unmaskLumaOf luma side xs ys g mask
+  unfolding unmaskLumaOf
+  wrote l z h = list-written (unmaskSentences luma side xs ys g) luma (unmasked mask xs ys g luma) n e l z h
+
+module _ (luma : List Float) (side : ℕ) (xs ys : List ℤ) (g n : ℕ) (e : n ≡ refusal (unmaskSentences luma side xs ys g)) (z : n ≡ 0) where
+  small : side ≤ 1024
+  unfolding unmaskSentences at sound fresh
+  small = side-in side (none-of (unmaskSentences luma side xs ys g) refl n e z 2) .1
+
+  long : (length xs ≡ length ys) × (length xs ≤ length luma)
+  unfolding unmaskSentences at sound fresh
+  long = luma-lengths (length xs) (length ys) (length luma) (none-of (unmaskSentences luma side xs ys g) refl n e z 5)
+
+  grid : g ≤ length xs
+  unfolding unmaskSentences at sound fresh
+  grid = modules-in (length xs) g (none-of (unmaskSentences luma side xs ys g) refl n e z 6) .1
+
+  placed : badPlaces side g xs ys ≡ false
+  unfolding unmaskSentences at sound fresh
+  placed = none-of (unmaskSentences luma side xs ys g) refl n e z 7
+
+  pairs : length xs ≡ length ys
+  pairs = long .0
+
+  scores : length xs ≤ length luma
+  scores = long .1
+
+returns : tie.Need-returns
+returns c = search (away)
+
+unmask-grid-requires : tie.Need-unmask-grid-requires
+unmask-grid-requires c κs = (search (small), search (grid, needs), search (pairs), search (placed), search (scores))
+
+returns-2 : tie.Need-returns-2
+returns-2 c = search (wrote)
+
+pub unmask-luma-spec : {M : Type 1} → statement M
+unmask-luma-spec =
+    tie.close
+    (tie.spec (λ c κs. search needs) (λ c. search needs) returns unmask-grid-requires (λ c. search needs) returns-2)

@@ -1,0 +1,154 @@
+-- Drawing (document 01, "Drawing, reading, margin"): the level of each module and the hue of each cell, from a card's bits. Definitions only.
+use mathlib.Core.Bool.{Bool, true, false, not, cond, xor, _||_}
+use mathlib.Core.List.{List, [], _∷_}
+use Prim.Native.Nat.{ℕ, _+_, _*_}
+use lib.Dec.{ltb, eqb}
+use lib.IntN.{ℤ}
+use lib.ListN.{length, getD}
+use Rattle.loops.specs.Loops.{forUp}
+use Rattle.sentences.specs.Sentences.{Sentence, _when_, refusal, decided}
+use Rattle.places.specs.Places.{badPlaces}
+use Rattle.limits.specs.Limits.{badSide, badHues, badCellSize, badCounts, badCells}
+use Rattle.limits.specs.Chroma.{log2, chromaOn, symbolBits, ringModules, chromaEntries, chromaLength}
+use Rattle.modulate.specs.declared.Outcome.{Outcome}
+use Rattle.modulate.specs.declared.Outcome.the-variants.{Refused, Done}
+use Rattle.modulate.specs.Answer.{outcomeNumber}
+use Rattle.modulate.specs.Gray.{chromaSymbolToHue}
+use Rattle.modulate.specs.Mask.{lumaMask, chromaMaskApply}
+use Rattle.modulate.specs.Score.{replaced, coordinate}
+
+-- ---- one element
+
+-- a byte stands for the bit 1 where it is not 0
+unfoldable pub isOne : ℕ → Bool
+isOne b = not (eqb b 0)
+
+-- 1 for true
+unfoldable pub bitOf : Bool → ℕ
+bitOf t = cond t 1 0
+
+-- "A drawn grid module is light when its luma bit differs from `luma_mask`": 1 is light
+unfoldable pub gridLevel : ℕ → ℕ → ℕ → ℕ → ℕ
+gridLevel bit mask x y = bitOf (xor (isOne bit) (lumaMask mask x y))
+
+-- "a ring module is light when its bit is 1"
+unfoldable pub ringLevel : ℕ → ℕ
+ringLevel bit = bitOf (isOne bit)
+
+-- one bit more, at the low end
+unfoldable pub pushBit : List ℕ → ℕ → ℕ → ℕ → ℕ
+pushBit bits from b s = s * 2 + bitOf (isOne (getD bits (from + b) 0))
+
+-- the symbol of the q bits at `from`, high bit first
+abbrev pub symbolAt : List ℕ → ℕ → ℕ → ℕ
+symbolAt bits from q = forUp 0 q (pushBit bits from) 0
+
+-- "goes through `chroma_symbol_to_hue`, then `chroma_mask_apply` at (cx, cy)"
+unfoldable pub cellHue : ℕ → ℕ → ℕ → ℕ → ℕ
+cellHue s cx cy k = chromaMaskApply (chromaSymbolToHue s k) cx cy k
+
+-- "ring hues are unmasked"
+unfoldable pub ringHue : ℕ → ℕ → ℕ
+ringHue s k = chromaSymbolToHue s k
+
+-- 5, of the bits of one symbol
+abbrev pub symbolSentences : List ℕ → ℕ → List Sentence
+symbolSentences bits k = (3 when badHues k) ∷ (5 when ltb (length bits) (log2 k)) ∷ []
+
+-- ---- the whole list
+
+-- module i: the first g are grid modules
+unfoldable pub levelAt : List ℕ → List ℤ → List ℤ → ℕ → ℕ → ℕ → ℕ
+levelAt bits xs ys g mask i = cond (ltb i g) (gridLevel (getD bits i 0) mask (coordinate xs i) (coordinate ys i)) (ringLevel (getD bits i 0))
+
+abbrev pub levelAtOf : List ℕ → List ℤ → List ℤ → ℕ → ℕ → ℕ → ℕ → ℕ
+levelAtOf bits xs ys g mask i l = levelAt bits xs ys g mask i
+
+abbrev pub drawnLevels : List ℕ → List ℤ → List ℤ → ℕ → ℕ → List ℕ → List ℕ
+drawnLevels bits xs ys g mask levels = replaced 0 (length xs) (levelAtOf bits xs ys g mask) levels
+
+-- place j of the chroma list: the cells first, then ring modules. Its bits come after the m luma bits
+unfoldable pub hueAt : List ℕ → ℕ → ℕ → List ℕ → List ℕ → ℕ → ℕ
+hueAt bits k m cxs cys j =
+    let s = symbolAt bits (m + symbolBits k * j) (symbolBits k) in
+    cond (ltb j (length cxs)) (cellHue s (getD cxs j 0) (getD cys j 0) k) (ringHue s k)
+
+abbrev pub hueAtOf : List ℕ → ℕ → ℕ → List ℕ → List ℕ → ℕ → ℕ → ℕ
+hueAtOf bits k m cxs cys j h = hueAt bits k m cxs cys j
+
+-- the places of a card's chroma list
+abbrev pub entriesOf : ℕ → ℕ → ℕ → ℕ → ℕ
+entriesOf m g c size = chromaEntries c (ringModules m g) size
+
+-- with chroma off nothing
+unfoldable pub drawnHues : List ℕ → ℕ → ℕ → ℕ → ℕ → List ℕ → List ℕ → List ℕ → List ℕ
+drawnHues bits k size m g cxs cys hues =
+    cond (chromaOn k) (replaced 0 (entriesOf m g (length cxs) size) (hueAtOf bits k m cxs cys) hues) hues
+
+-- ---- the call
+
+pub record Card : Type 0 where
+  pub bits : List ℕ
+  pub side : ℕ
+  pub hues : ℕ
+  pub size : ℕ
+  pub xs : List ℤ
+  pub ys : List ℤ
+  pub grid : ℕ
+  pub cxs : List ℕ
+  pub cys : List ℕ
+  pub mask : ℕ
+  pub levels : List ℕ
+  pub drawn : List ℕ
+
+abbrev pub card : List ℕ → ℕ → ℕ → ℕ → List ℤ → List ℤ → ℕ → List ℕ → List ℕ → ℕ → List ℕ → List ℕ → Card
+card bits side hues size xs ys grid cxs cys mask levels drawn =
+    record { bits = bits; side = side; hues = hues; size = size; xs = xs; ys = ys; grid = grid; cxs = cxs; cys = cys; mask = mask; levels = levels; drawn = drawn }
+
+-- 5, of lengths: x and y, cx and cy run in pairs; a bit a module and those of the chroma list; a level a module; with chroma on, a hue a place of the chroma list
+unfoldable pub shortBits : ℕ → ℕ → ℕ → ℕ → ℕ → ℕ → Bool
+shortBits bits k size m g c = ltb bits (m + chromaLength k c (ringModules m g) size)
+
+unfoldable pub shortHues : ℕ → ℕ → ℕ → ℕ → ℕ → ℕ → Bool
+shortHues hues k size m g c = cond (chromaOn k) (ltb hues (entriesOf m g c size)) false
+
+unfoldable pub badDrawLengths : ℕ → ℕ → ℕ → ℕ → ℕ → ℕ → ℕ → ℕ → ℕ → ℕ → Bool
+badDrawLengths bits k size xs ys g cxs cys levels hues =
+    not (eqb xs ys) || (not (eqb cxs cys) || (shortBits bits k size xs g cxs || (ltb levels xs || shortHues hues k size xs g cxs)))
+
+-- 7, of modules and cells
+unfoldable pub badPositions : ℕ → ℕ → List ℤ → List ℤ → List ℕ → List ℕ → Bool
+badPositions side g xs ys cxs cys = badPlaces side g xs ys || badCells cxs cys
+
+unfoldable pub drawSentences : Card → List Sentence
+drawSentences q =
+    (2 when badSide (q .side)) ∷
+    (3 when badHues (q .hues)) ∷
+    (4 when badCellSize (q .size)) ∷
+    (5 when badDrawLengths (length (q .bits)) (q .hues) (q .size) (length (q .xs)) (length (q .ys)) (q .grid) (length (q .cxs)) (length (q .cys)) (length (q .levels)) (length (q .drawn))) ∷
+    (6 when badCounts (length (q .xs)) (q .grid) (length (q .cxs))) ∷
+    (7 when badPositions (q .side) (q .grid) (q .xs) (q .ys) (q .cxs) (q .cys)) ∷
+    []
+
+-- what it gives back: document 01's number, its answer, the levels and the hues
+pub record Drawn : Type 0 where
+  pub number : ℕ
+  pub answer : Outcome
+  pub levels : List ℕ
+  pub hues : List ℕ
+
+abbrev pub drawn : Outcome → List ℕ → List ℕ → Drawn
+drawn r levels hues = record { number = outcomeNumber r; answer = r; levels = levels; hues = hues }
+
+-- refused by sentence n: nothing changes
+abbrev pub notDrawn : Card → ℕ → Drawn
+notDrawn q n = drawn (Refused n) (q .levels) (q .drawn)
+
+abbrev pub levelsOf : Card → List ℕ
+levelsOf q = drawnLevels (q .bits) (q .xs) (q .ys) (q .grid) (q .mask) (q .levels)
+
+abbrev pub huesOf : Card → List ℕ
+huesOf q = drawnHues (q .bits) (q .hues) (q .size) (length (q .xs)) (q .grid) (q .cxs) (q .cys) (q .drawn)
+
+unfoldable pub drawOf : Card → Drawn
+drawOf q = decided (refusal (drawSentences q)) (notDrawn q) (drawn Done (levelsOf q) (huesOf q))
