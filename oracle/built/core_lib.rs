@@ -1,0 +1,20 @@
+//! lib.rs of the built copy of lcr-core: the colour stage's files, stubs for what is not there, the hooks.
+extern crate alloc;
+pub mod bch;
+pub mod border;
+pub mod border_seq;
+pub mod color;
+pub mod error;
+pub mod exact;
+pub mod format;
+pub mod grid;
+pub mod hook;
+pub mod layout;
+pub mod mask;
+pub mod modulate;
+pub mod palette;
+pub mod symbol;
+pub mod version;
+pub use format::FormatInfo;
+pub use grid::ModuleGrid;
+pub use version::Version;
