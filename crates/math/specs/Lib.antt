@@ -1,0 +1,3 @@
+pub mod Gauss
+pub mod Normal
+pub mod Examples
