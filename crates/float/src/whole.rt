@@ -129,7 +129,7 @@ fn cube_le(t: u64, a: u64) -> bool
     high + (low + 16777215) / 16777216 <= a * 16777216
 }
 
-// The whole part of the square root of w: the guess, or one less, if a test shows it to be that.
+// Core: the whole part of the square root of w: the guess, or one less, if a test shows it to be that.
 pub fn isqrt(w: u64) -> u64
     requires { ⌜ w < 2 ^ 50 ⌝ }
     ensures { λ r. ⌜ (r * r ≤ w) × (w < (r + 1) * (r + 1)) ⌝ }
@@ -150,7 +150,7 @@ pub fn isqrt(w: u64) -> u64
     isqrt_slow(w)
 }
 
-// The whole part of the cube root of a * 2 ^ 48, in the same way.
+// Core: the whole part of the cube root of a * 2 ^ 48, in the same way.
 pub fn icbrt_long(a: u64) -> u64
     requires { ⌜ a < 2 ^ 27 ⌝ }
     ensures { λ r. ⌜ (r * r * r ≤ a * 2 ^ 48) × (a * 2 ^ 48 < (r + 1) * (r + 1) * (r + 1)) ⌝ }
