@@ -1,0 +1,169 @@
+-- What `score` knows past its sentences: none of them holds, so the slices are long enough, the positions are f32 values, and colours, palette and record are in their ranges. Assumes nothing.
+use mathlib.Core.Path.{_≡_, refl, sym, ap, _∙_}
+use mathlib.Core.Bool.{Bool, true, false, not, cond, _||_}
+use mathlib.Core.List.{List}
+use Prim.Native.Nat.{ℕ, zero, suc, _+_, _*_, _≤_, _<_}
+use native.Mathlib.Omega.{arith}
+use borrow.Author.Tests.{ltb-false, not-false, eqb-true}
+use lib.Dec.{ltb, eqb}
+use lib.IntN.{ℤ}
+use lib.ListN.{length}
+use lib.Ieee.{Float}
+use Rattle.loops.proofs.Laws.{anyUp-false}
+use Rattle.sentences.specs.Sentences.{refusal, decided, at, before, fresh, sound}
+use Rattle.sentences.proofs.Laws.{none-holds, that-holds, earlier-fail, neither, refuses, accepts}
+use Rattle.places.specs.Places.{badPlaces}
+use Rattle.limits.specs.Limits.{badSide, badHues, badCellSize, badCounts, badCells}
+use Rattle.limits.specs.Chroma.{chromaOn, ringModules, chromaLength}
+use Rattle.limits.proofs.Laws.{side-in, cell-size-in, counts-in}
+use Rattle.color.specs.declared.Linear.{Linear}
+use Rattle.color.specs.Palette.{paletteLen, wildAt, wildIn, wildPalette, wildLinear}
+use Rattle.illum.specs.Refusals.{badModel}
+use Rattle.stats.specs.declared.ChannelStats.{ChannelStats}
+use Rattle.stats.specs.Calls.{shortPalette, badNoiseNumbers, badNumbers, badSigmas}
+use Rattle.stats.proofs.Passed.{palette-long}
+use Rattle.demod.specs.Score.{Exact}
+use Rattle.demod.specs.Call.{badModuleLengths, badCellLengths, shortChroma, badLengths, badPositions, badInputs, wildColourAt, wildColours, badCorrected, Request, moduleColours, cellColours, sentencesOf, turnedAway, done, scoredOf, numberOf}
+use Rattle.demod.proofs.Places.{exact-xs, exact-ys}
+
+equal : (a b : ℕ) → not (eqb a b) ≡ false → a ≡ b
+equal a b h = eqb-true a b (not-false (eqb a b) h)
+
+-- 5, slice by slice
+pub record Lengths (hues size : ℕ) (xs ys : List ℤ) (grid : ℕ) (raw : List Float) (cxs cys : List ℕ) (craw palette luma colours chroma : List Float) : Type 0 where
+  pub modules : length xs ≡ length ys
+  pub raw-three : 3 * length xs ≤ length raw
+  pub scores : length xs ≤ length luma
+  pub places : 3 * length xs ≤ length colours
+  pub cells : length cxs ≡ length cys
+  pub craw-three : 3 * length cxs ≤ length craw
+  pub palette-long : paletteLen hues ≤ length palette
+  pub chroma-long : chromaLength hues (length cxs) (ringModules (length xs) grid) size ≤ length chroma
+
+pub lengths-in : (hues size : ℕ) (xs ys : List ℤ) (grid : ℕ) (raw : List Float) (cxs cys : List ℕ) (craw palette luma colours chroma : List Float) →
+    badLengths hues size xs ys grid raw cxs cys craw palette luma colours chroma ≡ false → Lengths hues size xs ys grid raw cxs cys craw palette luma colours chroma
+unfolding badLengths badModuleLengths badCellLengths shortChroma
+lengths-in hues size xs ys grid raw cxs cys craw palette luma colours chroma h =
+    let m = length xs in
+    let a = neither (badModuleLengths m (length ys) (length raw) (length luma) (length colours)) _ h in
+    let b = neither (badCellLengths (length cxs) (length cys) (length craw)) _ (a .1) in
+    let c = neither (shortPalette palette hues) (shortChroma (length chroma) hues size m grid (length cxs)) (b .1) in
+    let p = neither (not (eqb m (length ys))) _ (a .0) in
+    let q = neither (ltb (length raw) (3 * m)) _ (p .1) in
+    let r = neither (ltb (length luma) m) (ltb (length colours) (3 * m)) (q .1) in
+    let s = neither (not (eqb (length cxs) (length cys))) (ltb (length craw) (3 * length cxs)) (b .0) in
+    record {
+      modules = equal m (length ys) (p .0);
+      raw-three = ltb-false (length raw) (3 * m) (q .0);
+      scores = ltb-false (length luma) m (r .0);
+      places = ltb-false (length colours) (3 * m) (r .1);
+      cells = equal (length cxs) (length cys) (s .0);
+      craw-three = ltb-false (length craw) (3 * length cxs) (s .1);
+      palette-long = palette-long palette hues (c .0);
+      chroma-long = ltb-false (length chroma) (chromaLength hues (length cxs) (ringModules m grid) size) (c .1);
+    }
+
+-- 7, of the modules' positions
+pub placed-in : (side grid : ℕ) (xs ys : List ℤ) (cxs cys : List ℕ) → badPositions side grid xs ys cxs cys ≡ false → (badPlaces side grid xs ys ≡ false) × (badCells cxs cys ≡ false)
+unfolding badPositions
+placed-in side grid xs ys cxs cys h = neither (badPlaces side grid xs ys) (badCells cxs cys) h
+
+-- 8
+pub record Inputs (raw : List Float) (m : ℕ) (craw : List Float) (c : ℕ) (n : ChannelStats) (palette : List Float) (hues : ℕ) : Type 0 where
+  pub raw-tame : wildIn raw (3 * m) ≡ false
+  pub craw-tame : wildIn craw (3 * c) ≡ false
+  pub palette-tame : wildPalette palette hues ≡ false
+  pub noise-tame : badNoiseNumbers n ≡ false
+
+inputs-in : (raw : List Float) (m : ℕ) (craw : List Float) (c : ℕ) (n : ChannelStats) (palette : List Float) (hues : ℕ) → badInputs raw m craw c n palette hues ≡ false → Inputs raw m craw c n palette hues
+unfolding badInputs badNumbers
+inputs-in raw m craw c n palette hues h =
+    let a = neither (wildIn raw (3 * m)) _ h in
+    let b = neither (wildIn craw (3 * c)) (badNumbers n palette hues) (a .1) in
+    let d = neither (wildPalette palette hues) (badNoiseNumbers n) (b .1) in
+    record { raw-tame = a .0; craw-tame = b .0; palette-tame = d .0; noise-tame = d .1 }
+
+-- 12
+module _ (hues : ℕ) (modules : ℕ → Linear) (m : ℕ) (cells : ℕ → Linear) (c : ℕ) (h : badCorrected hues modules m cells c ≡ false) where
+  both : (wildColours modules m ≡ false) × (cond (chromaOn hues) (wildColours cells c) false ≡ false)
+  unfolding badCorrected
+  both = neither (wildColours modules m) (cond (chromaOn hues) (wildColours cells c) false) h
+
+  modules-tame : (i : ℕ) → i < m → wildLinear (modules i) ≡ false
+  modules-tame = anyUp-false (wildColourAt modules) m (both .0)
+
+  cells-tame : chromaOn hues ≡ true → (i : ℕ) → i < c → wildLinear (cells i) ≡ false
+  cells-tame o = anyUp-false (wildColourAt cells) c (rw o at (both .1))
+
+-- at Done no sentence holds
+pub record Accepted (q : Request) : Type 0 where
+  pub side-most : q .side ≤ 1024
+  pub hues-good : badHues (q .hues) ≡ false
+  pub size-most : q .size ≤ 16
+  pub lengths : Lengths (q .hues) (q .size) (q .xs) (q .ys) (q .grid) (q .raw) (q .cxs) (q .cys) (q .craw) (q .palette) (q .luma) (q .colours) (q .chroma)
+  pub counts : (length (q .xs) ≤ 1048576) × (q .grid ≤ length (q .xs)) × (length (q .cxs) ≤ 1048576)
+  pub placed : badPlaces (q .side) (q .grid) (q .xs) (q .ys) ≡ false
+  pub xs-exact : Exact (q .xs) (length (q .xs))
+  pub ys-exact : Exact (q .ys) (length (q .xs))
+  pub cells-in : badCells (q .cxs) (q .cys) ≡ false
+  pub inputs : Inputs (q .raw) (length (q .xs)) (q .craw) (length (q .cxs)) (q .noise) (q .palette) (q .hues)
+  pub sigmas : badSigmas (q .noise) ≡ false
+  pub model : badModel (q .model) ≡ false
+  pub modules-tame : (i : ℕ) → i < length (q .xs) → wildLinear (moduleColours q i) ≡ false
+  pub cells-tame : chromaOn (q .hues) ≡ true → (i : ℕ) → i < length (q .cxs) → wildLinear (cellColours q i) ≡ false
+
+module _ (q : Request) where
+  numbered : sound (sentencesOf q) ≡ true
+  unfolding sentencesOf sound fresh
+  numbered = refl
+
+  module _ (n : ℕ) (e : n ≡ refusal (sentencesOf q)) where
+    -- the sentence of the number that is given holds, and none that is tried before it does
+    pub given : (n ≡ 0 → ⊥) → at n (sentencesOf q) ≡ true
+    given z = that-holds n (sentencesOf q) numbered z e
+
+    pub first : (m : ℕ) → at m (before n (sentencesOf q)) ≡ false
+    first m = earlier-fail n (sentencesOf q) m e
+
+    pub turned-away : (n ≡ 0 → ⊥) → turnedAway q n ≡ scoredOf q
+    unfolding scoredOf
+    turned-away z = refuses (turnedAway q) (done q) n (refusal (sentencesOf q)) z e
+
+    module _ (z : n ≡ 0) where
+      pub taken : done q ≡ scoredOf q
+      unfolding scoredOf
+      taken = accepts (turnedAway q) (done q) n (refusal (sentencesOf q)) z e
+
+      none : (m : ℕ) → at m (sentencesOf q) ≡ false
+      none m = none-holds (sentencesOf q) numbered m (sym z ∙ e)
+
+      pub accepted : Accepted q
+      unfolding sentencesOf at
+      accepted =
+          let p = placed-in (q .side) (q .grid) (q .xs) (q .ys) (q .cxs) (q .cys) (none 7) in
+          record {
+            side-most = side-in (q .side) (none 2) .1;
+            hues-good = none 3;
+            size-most = cell-size-in (q .size) (none 4) .1;
+            lengths = lengths-in (q .hues) (q .size) (q .xs) (q .ys) (q .grid) (q .raw) (q .cxs) (q .cys) (q .craw) (q .palette) (q .luma) (q .colours) (q .chroma) (none 5);
+            counts = counts-in (length (q .xs)) (q .grid) (length (q .cxs)) (none 6);
+            placed = p .0;
+            xs-exact = exact-xs (q .side) (q .grid) (q .xs) (q .ys) (side-in (q .side) (none 2) .1) (p .0);
+            ys-exact = exact-ys (q .side) (q .grid) (q .xs) (q .ys) (side-in (q .side) (none 2) .1) (p .0);
+            cells-in = p .1;
+            inputs = inputs-in (q .raw) (length (q .xs)) (q .craw) (length (q .cxs)) (q .noise) (q .palette) (q .hues) (none 8);
+            sigmas = none 9;
+            model = none 10;
+            modules-tame = modules-tame (q .hues) (moduleColours q) (length (q .xs)) (cellColours q) (length (q .cxs)) (none 12);
+            cells-tame = cells-tame (q .hues) (moduleColours q) (length (q .xs)) (cellColours q) (length (q .cxs)) (none 12);
+          }
+
+-- the answer's number is that of the first sentence that holds
+number-of : (q : Request) (n : ℕ) → numberOf (decided n (turnedAway q) (done q) .answer) ≡ n
+unfolding decided numberOf
+number-of q zero = refl
+number-of q (suc n) = refl
+
+pub number : (q : Request) → numberOf (scoredOf q .answer) ≡ refusal (sentencesOf q)
+unfolding scoredOf
+number q = number-of q (refusal (sentencesOf q))

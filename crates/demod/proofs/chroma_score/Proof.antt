@@ -1,0 +1,16 @@
+-- `chroma_score` meets its contract: weighed, and held. Assumes nothing.
+use mathlib.Core.Path.{_≡_, refl, sym, ap, _∙_}
+use borrow.Author.Needs.{needs}
+use Rattle.demod.specs.Score.{chromaScore}
+use Rattle.demod.proofs.Literals.{n20}
+use Rattle.demod.proofs.chroma_score.Statement.{statement}
+use Rattle.demod.proofs.chroma_score.Tie as tie
+
+returns : tie.Need-returns
+unfolding chromaScore
+returns c = cc (n20)
+
+pub chroma-score-spec : {M : Type 1} → statement M
+chroma-score-spec =
+    tie.close
+    (tie.spec (λ c κs. search needs) (λ c κs. search needs) returns)

@@ -1,0 +1,43 @@
+-- `score` meets its contract: a refused call gives its number and writes nothing; an accepted one writes the modules and then the chroma list. Assumes nothing.
+use mathlib.Core.Path.{_≡_, refl, sym, ap, _∙_}
+use borrow.Author.Needs.{needs}
+use mathlib.Core.List.{List}
+use Prim.Native.Nat.{ℕ}
+use lib.Ieee.{Float}
+use Rattle.sentences.specs.Sentences.{refusal}
+use Rattle.modulate.specs.declared.Outcome.the-variants.{Refused, Done}
+use Rattle.demod.specs.Score.{Sheet, sheet}
+use Rattle.demod.specs.Call.{Request, sentencesOf, scoredOf, final, writtenModules, writtenChroma}
+use Rattle.demod.proofs.Accepted.{turned-away, taken, accepted}
+use Rattle.demod.proofs.score.Statement.{statement}
+use Rattle.demod.proofs.score.Tie as tie
+
+module _ (q : Request) (n : ℕ) (luma colours chroma : List Float) (e : n ≡ refusal (sentencesOf q)) where
+  away : (n ≡ 0 → ⊥) → luma ≡ q .luma → colours ≡ q .colours → chroma ≡ q .chroma → final (Refused n) luma colours chroma ≡ scoredOf q
+  away z el ec eh = rw (el, ec, eh) (turned-away q n e z)
+
+  wrote : n ≡ 0 → sheet luma colours ≡ writtenModules q → chroma ≡ writtenChroma q → final Done luma colours chroma ≡ scoredOf q
+  wrote z h k = ap (λ (s : Sheet). final Done (s .luma) (s .colours) chroma) h ∙ ap (final Done (writtenModules q .luma) (writtenModules q .colours)) k ∙ taken q n e z
+
+returns : tie.Need-returns
+returns c = search (away)
+
+returns-2 : tie.Need-returns-2
+returns-2 c = search (wrote)
+
+write-modules-requires : tie.Need-write-modules-requires
+write-modules-requires c κs =
+    let a = accepted _ _ (c .before .before .before .refused .ensures) (c .before .before .if1 .left) in
+    (a .lengths .palette-long, a .lengths .modules, a .xs-exact, a .ys-exact, a .lengths .raw-three, a .lengths .scores, a .lengths .places)
+
+write-chroma-requires : tie.Need-write-chroma-requires
+write-chroma-requires c κs =
+    let a = accepted _ _ (c .before .before .before .before .before .before .before .before .before .refused .ensures) (c .before .before .before .before .before .before .before .before .if1 .left) in
+    let l = a .lengths in
+    (a .hues-good, l .palette-long, a .size-most, a .counts .1, l .modules, a .xs-exact, a .ys-exact, l .raw-three, l .cells, a .counts .2, l .craw-three, l .chroma-long)
+
+pub score-spec : {M : Type 1} → statement M
+score-spec =
+    tie.close
+    (tie.spec (λ c κs. search needs) (λ c. search needs) (λ c. search needs) (λ c. search needs) returns write-modules-requires write-chroma-requires
+    (λ c. search needs) (λ c. search needs) (λ c. search needs) returns-2)

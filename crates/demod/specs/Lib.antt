@@ -1,0 +1,3 @@
+-- `Score` is what scoring computes, `Call` the public call with its refusals.
+pub mod Score
+pub mod Call

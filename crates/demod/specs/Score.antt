@@ -1,0 +1,129 @@
+-- Scoring, the Rust's `demodulate` without its last call: each colour corrected, a luma score a module, log2(hues) chroma scores a cell and, at cell size 1, a ring module. Definitions only.
+use mathlib.Core.Bool.{Bool, cond}
+use mathlib.Core.List.{List}
+use Prim.Native.Nat.{ℕ, _+_, _-_, _*_, _<_}
+use lib.Dec.{T, eqb}
+use lib.IntN.{ℤ, pos}
+use lib.ListN.{length, getD, set, replicate}
+use lib.Ieee.{Float, nan, binary32, neg, ofInt, inFloat}
+use Rattle.loops.specs.Loops.{forUp}
+use Rattle.limits.specs.Chroma.{chromaOn, weighted, symbolBits}
+use Rattle.float.specs.Select.{clamp}
+use Rattle.color.specs.declared.Linear.{Linear}
+use Rattle.color.specs.declared.Lab.{Lab}
+use Rattle.color.specs.Color.{whole, fraction, linearToLab}
+use Rattle.color.specs.Palette.{linearAt}
+use Rattle.modulate.specs.declared.Cell.{Cell}
+use Rattle.modulate.specs.declared.Cell.the-variants.{Unmasked, At}
+use Rattle.modulate.specs.Score.{chromaBitLlrs}
+use Rattle.illum.specs.declared.IlluminationModel.{IlluminationModel}
+use Rattle.illum.specs.Correct.{corrected}
+use Rattle.stats.specs.declared.ChannelStats.{ChannelStats}
+use Rattle.stats.specs.Arithmetic.{_⊕_, _⊗_, _⊘_}
+use Rattle.stats.specs.Noise.{lumaLlr, reliability, hueLogLikelihoods}
+
+-- ---- where a colour stands, and the colour corrected
+
+-- the coordinates of the first m modules are f32 values
+pub record Exact (xs : List ℤ) (m : ℕ) : Type 0 where
+  pub at : (i : ℕ) → i < m → T (inFloat binary32 (getD xs i (pos 0)))
+
+-- the centre of a module, `x as f32 + 0.5`
+unfoldable pub centre : ℤ → Float
+centre v = ofInt binary32 v ⊕ fraction 1 2
+
+-- the centre of a cell of size by size modules, `cx as f32 * size as f32 + size as f32 / 2.0`
+unfoldable pub cellCentre : ℕ → ℕ → Float
+cellCentre size cx = ofInt binary32 (pos cx) ⊗ ofInt binary32 (pos size) ⊕ ofInt binary32 (pos size) ⊘ whole 2
+
+-- the corrected colour of module i
+unfoldable pub moduleColour : IlluminationModel → List ℤ → List ℤ → List Float → ℕ → Linear
+moduleColour model xs ys raw i =
+    corrected model (centre (getD xs i (pos 0))) (centre (getD ys i (pos 0))) (linearAt raw i) .colour
+
+-- of cell i
+unfoldable pub cellColour : IlluminationModel → ℕ → List ℕ → List ℕ → List Float → ℕ → Linear
+cellColour model size cxs cys raw i =
+    corrected model (cellCentre size (getD cxs i 0)) (cellCentre size (getD cys i 0)) (linearAt raw i) .colour
+
+-- ---- luma
+
+-- a score, weighed by the reliability of its sample
+unfoldable pub weighed : Float → Float → Float
+weighed llr weight = llr ⊗ weight
+
+-- the luma score of a corrected colour. (Where luma is not weighted the Rust multiplies by 1.0, which changes nothing.)
+unfoldable pub lumaScore : ChannelStats → List Float → ℕ → Linear → Float
+lumaScore n palette hues c =
+    let lab = linearToLab c in
+    cond (weighted hues) (weighed (lumaLlr n (lab .l)) (reliability n lab palette hues)) (lumaLlr n (lab .l))
+
+-- what is written for the modules
+pub record Sheet : Type 0 where
+  pub luma : List Float
+  pub colours : List Float
+
+abbrev pub sheet : List Float → List Float → Sheet
+sheet luma colours = record { luma = luma; colours = colours }
+
+-- c at the three places of entry i
+abbrev pub putColour : List Float → ℕ → Linear → List Float
+putColour l i c = set (set (set l (3 * i) (c .r)) (3 * i + 1) (c .g)) (3 * i + 2) (c .b)
+
+-- module i: its score, and its corrected colour, which `colour` gives
+unfoldable pub writeModule : ChannelStats → List Float → ℕ → (ℕ → Linear) → ℕ → Sheet → Sheet
+writeModule n palette hues colour i s =
+    sheet (set (s .luma) i (lumaScore n palette hues (colour i))) (putColour (s .colours) i (colour i))
+
+abbrev pub writeModules : ChannelStats → List Float → ℕ → (ℕ → Linear) → ℕ → Sheet → Sheet
+writeModules n palette hues colour m s = forUp 0 m (writeModule n palette hues colour) s
+
+-- ---- chroma
+
+-- the likelihoods of the hues, in room for 16, and the scores of the symbol's bits, in room for 4
+abbrev pub likelihoods : ChannelStats → List Float → ℕ → Lab → List Float
+likelihoods n palette hues lab = hueLogLikelihoods n lab palette hues (replicate 16 (whole 0))
+
+abbrev pub bitScores : ChannelStats → List Float → ℕ → Cell → Lab → List Float
+bitScores n palette hues cell lab = chromaBitLlrs (likelihoods n palette hues lab) cell hues (replicate 4 (whole 0))
+
+-- one of them weighed, and held to ±20
+unfoldable pub chromaScore : Float → Float → Float
+chromaScore v weight = clamp (neg (whole 20)) (whole 20) (weighed v weight)
+
+unfoldable pub putScore : List Float → Float → ℕ → ℕ → List Float → List Float
+putScore bits weight at b chroma = set chroma (at + b) (chromaScore (getD bits b nan) weight)
+
+abbrev pub putScores : List Float → Float → ℕ → ℕ → List Float → List Float
+putScores bits weight n at chroma = forUp 0 n (putScore bits weight at) chroma
+
+-- the scores of entry e of the chroma list, for a corrected colour
+unfoldable pub writeEntry : ChannelStats → List Float → ℕ → Cell → Linear → ℕ → List Float → List Float
+writeEntry n palette hues cell c e chroma =
+    let lab = linearToLab c in
+    putScores (bitScores n palette hues cell lab) (reliability n lab palette hues) (symbolBits hues) (e * symbolBits hues) chroma
+
+-- cell i is entry i
+unfoldable pub writeCell : ChannelStats → List Float → ℕ → List ℕ → List ℕ → (ℕ → Linear) → ℕ → List Float → List Float
+writeCell n palette hues cxs cys colour i chroma = writeEntry n palette hues (At (getD cxs i 0) (getD cys i 0)) (colour i) i chroma
+
+abbrev pub writeCells : ChannelStats → List Float → ℕ → List ℕ → List ℕ → (ℕ → Linear) → ℕ → List Float → List Float
+writeCells n palette hues cxs cys colour c chroma = forUp 0 c (writeCell n palette hues cxs cys colour) chroma
+
+-- ring module i, one of those listed after the grid modules, stands after the cells, and no mask lies on it
+unfoldable pub writeRing : ChannelStats → List Float → ℕ → ℕ → ℕ → (ℕ → Linear) → ℕ → List Float → List Float
+writeRing n palette hues cells grid colour i chroma = writeEntry n palette hues Unmasked (colour i) (cells + (i - grid)) chroma
+
+abbrev pub writeRings : ChannelStats → List Float → ℕ → ℕ → ℕ → (ℕ → Linear) → ℕ → List Float → List Float
+writeRings n palette hues cells grid colour m chroma = forUp grid m (writeRing n palette hues cells grid colour) chroma
+
+-- "ring modules carry chroma only at cell size 1"
+unfoldable pub ringChroma : ChannelStats → List Float → ℕ → ℕ → ℕ → ℕ → (ℕ → Linear) → ℕ → List Float → List Float
+ringChroma n palette hues size cells grid colour m chroma = cond (eqb size 1) (writeRings n palette hues cells grid colour m chroma) chroma
+
+-- "chroma is on when hues exceed 1": the cells, then the ring modules
+unfoldable pub chromaWritten : ChannelStats → List Float → ℕ → ℕ → ℕ → (ℕ → Linear) → ℕ → List ℕ → List ℕ → (ℕ → Linear) → List Float → List Float
+chromaWritten n palette hues size grid modules m cxs cys cells chroma =
+    cond (chromaOn hues)
+    (ringChroma n palette hues size (length cxs) grid modules m (writeCells n palette hues cxs cys cells (length cxs) chroma))
+    chroma

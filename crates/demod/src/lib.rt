@@ -1,0 +1,666 @@
+// Scoring: the Rust's `demodulate` from raw colours on, without its last call.
+//
+// A first use: after `fit` gave the model and `measure` the noise record, `score` corrects the raw colours of a card's
+// modules and cells and writes a luma score a module, its corrected colour, and the chroma scores of the cells and, at
+// cell size 1, of the ring modules. Scores are positive for a 0.
+ghost use mathlib.Core.Path.{_≡_};
+ghost use mathlib.Core.Bool.{false};
+ghost use Prim.Native.Nat.{_+_, _-_, _*_, _<_, _≤_};
+ghost use lib.Dec.{T};
+ghost use lib.IntN.{pos};
+ghost use lib.Ieee.{binary32, inFloat};
+ghost use lib.ListN.{length, getD};
+ghost use Rattle.sentences.specs.Sentences.{refusal};
+ghost use Rattle.limits.specs.Limits.{badHues};
+ghost use Rattle.limits.specs.Chroma.{symbolBits, chromaLength, ringModules};
+ghost use Rattle.color.specs.Palette.{paletteLen};
+ghost use Rattle.demod.specs.Score as spec;
+ghost use Rattle.demod.specs.Score.{Exact, sheet};
+ghost use Rattle.demod.specs.Call as call;
+use color::Linear;
+use color::linear_to_lab;
+use color::palette::linear_at;
+use color::palette::wild_in;
+use color::palette::wild_linear;
+use illum::IlluminationModel;
+use modulate::Cell;
+use modulate::Outcome;
+use stats::ChannelStats;
+
+// ---- the corrected colours
+
+// The centre of a module.
+fn centre(v: i32) -> f32
+    requires { ⌜ T (inFloat binary32 v) ⌝ }
+    ensures { λ r. ⌜ r ≡ spec.centre v ⌝ }
+{
+    v as f32 + 0.5
+}
+
+fn centre_at(vs: &[i32], i: usize) -> f32
+    requires { ⌜ (i < length (now vs)) × T (inFloat binary32 (getD (now vs) i (pos 0))) ⌝ }
+    ensures { λ r. ⌜ r ≡ spec.centre (getD (now (vs .entry)) i (pos 0)) ⌝ }
+{
+    centre(vs[i])
+}
+
+// The centre of a cell of size by size modules.
+fn cell_centre(size: usize, cx: u16) -> f32
+    requires { ⌜ size ≤ 16 ⌝ }
+    ensures { λ r. ⌜ r ≡ spec.cellCentre size cx ⌝ }
+{
+    cx as f32 * size as f32 + size as f32 / 2.0
+}
+
+// Core: the corrected colour of module i.
+pub fn module_colour(
+    model: IlluminationModel,
+    xs: &[i32],
+    ys: &[i32],
+    raw: &[f32],
+    i: usize,
+) -> Linear
+    requires { ⌜ (i < length (now xs)) × (i < length (now ys)) × T (inFloat binary32 (getD (now xs) i (pos 0))) × T (inFloat binary32 (getD (now ys) i (pos 0))) × (3 * i + 2 < length (now raw)) ⌝ }
+    ensures { λ r. ⌜ r ≡ spec.moduleColour model (now (xs .entry)) (now (ys .entry)) (now (raw .entry)) i ⌝ }
+{
+    let x = centre_at(xs, i);
+    let y = centre_at(ys, i);
+    let marked = illum::corrected(model, x, y, linear_at(raw, i));
+    let c = marked.colour;
+    c
+}
+
+// Core: the corrected colour of cell i.
+pub fn cell_colour(
+    model: IlluminationModel,
+    size: usize,
+    cxs: &[u16],
+    cys: &[u16],
+    raw: &[f32],
+    i: usize,
+) -> Linear
+    requires { ⌜ (size ≤ 16) × (i < length (now cxs)) × (i < length (now cys)) × (3 * i + 2 < length (now raw)) ⌝ }
+    ensures { λ r. ⌜ r ≡ spec.cellColour model size (now (cxs .entry)) (now (cys .entry)) (now (raw .entry)) i ⌝ }
+{
+    let x = cell_centre(size, cxs[i]);
+    let y = cell_centre(size, cys[i]);
+    let marked = illum::corrected(model, x, y, linear_at(raw, i));
+    let c = marked.colour;
+    c
+}
+
+// ---- luma
+
+// Core: a score, weighed by the reliability of its sample.
+pub fn weigh(llr: f32, weight: f32) -> f32
+    ensures { λ r. ⌜ r ≡ spec.weighed llr weight ⌝ }
+{
+    llr * weight
+}
+
+// Core: the luma score of a corrected colour, of a palette that is long enough.
+pub fn luma_score(noise: ChannelStats, palette: &[f32], hues: usize, c: Linear) -> f32
+    requires { ⌜ paletteLen hues ≤ length (now palette) ⌝ }
+    ensures { λ r. ⌜ r ≡ spec.lumaScore noise (now (palette .entry)) hues c ⌝ }
+{
+    let lab = linear_to_lab(c);
+    let llr = noise.luma_llr_of(lab.l);
+    if limits::weighted(hues) {
+        return weigh(llr, noise.reliability_of(lab, palette, hues));
+    }
+    llr
+}
+
+fn put_colour(l: &mut [f32], i: usize, c: Linear)
+    requires { ⌜ 3 * i + 2 < length (now l) ⌝ }
+    ensures { λ _. ⌜ now (l .exit) ≡ spec.putColour (now (l .entry)) i c ⌝ }
+{
+    l[3 * i] = c.r;
+    l[3 * i + 1] = c.g;
+    l[3 * i + 2] = c.b;
+}
+
+fn write_module(
+    noise: ChannelStats,
+    palette: &[f32],
+    hues: usize,
+    model: IlluminationModel,
+    xs: &[i32],
+    ys: &[i32],
+    raw: &[f32],
+    i: usize,
+    luma: &mut [f32],
+    colours: &mut [f32],
+)
+    requires { ⌜ (paletteLen hues ≤ length (now palette)) × (i < length (now xs)) × (i < length (now ys)) × T (inFloat binary32 (getD (now xs) i (pos 0))) × T (inFloat binary32 (getD (now ys) i (pos 0))) × (3 * i + 2 < length (now raw)) × (i < length (now luma)) × (3 * i + 2 < length (now colours)) ⌝ }
+    ensures { λ _. ⌜ sheet (now (luma .exit)) (now (colours .exit)) ≡ spec.writeModule noise (now (palette .entry)) hues (spec.moduleColour model (now (xs .entry)) (now (ys .entry)) (now (raw .entry))) i (sheet (now (luma .entry)) (now (colours .entry))) ⌝ }
+{
+    let c = module_colour(model, xs, ys, raw, i);
+    luma[i] = luma_score(noise, palette, hues, c);
+    put_colour(colours, i, c);
+}
+
+fn write_modules(
+    noise: ChannelStats,
+    palette: &[f32],
+    hues: usize,
+    model: IlluminationModel,
+    xs: &[i32],
+    ys: &[i32],
+    raw: &[f32],
+    luma: &mut [f32],
+    colours: &mut [f32],
+)
+    requires { ⌜ (paletteLen hues ≤ length (now palette)) × (length (now xs) ≡ length (now ys)) × Exact (now xs) (length (now xs)) × Exact (now ys) (length (now xs)) × (3 * length (now xs) ≤ length (now raw)) × (length (now xs) ≤ length (now luma)) × (3 * length (now xs) ≤ length (now colours)) ⌝ }
+    ensures { λ _. ⌜ sheet (now (luma .exit)) (now (colours .exit)) ≡ spec.writeModules noise (now (palette .entry)) hues (spec.moduleColour model (now (xs .entry)) (now (ys .entry)) (now (raw .entry))) (length (now (xs .entry))) (sheet (now (luma .entry)) (now (colours .entry))) ⌝ }
+{
+    for i in 0..xs.len() {
+        write_module(noise, palette, hues, model, xs, ys, raw, i, luma, colours);
+    }
+}
+
+// ---- chroma
+
+// A bit's score, weighed and held to ±20.
+fn chroma_score(v: f32, weight: f32) -> f32
+    ensures { λ r. ⌜ r ≡ spec.chromaScore v weight ⌝ }
+{
+    float::clamp(weigh(v, weight), -20.0, 20.0)
+}
+
+fn put_score(bits: &[f32], weight: f32, at: usize, b: usize, chroma: &mut [f32])
+    requires { ⌜ (b < length (now bits)) × (at + b < length (now chroma)) ⌝ }
+    ensures { λ _. ⌜ now (chroma .exit) ≡ spec.putScore (now (bits .entry)) weight at b (now (chroma .entry)) ⌝ }
+{
+    chroma[at + b] = chroma_score(bits[b], weight);
+}
+
+fn put_scores(bits: &[f32], weight: f32, n: usize, at: usize, chroma: &mut [f32])
+    requires { ⌜ (n ≤ length (now bits)) × (at + n ≤ length (now chroma)) ⌝ }
+    ensures { λ _. ⌜ now (chroma .exit) ≡ spec.putScores (now (bits .entry)) weight n at (now (chroma .entry)) ⌝ }
+{
+    for b in 0..n {
+        put_score(bits, weight, at, b, chroma);
+    }
+}
+
+// Core: the scores of entry e of the chroma list, for a corrected colour.
+pub fn write_entry(
+    noise: ChannelStats,
+    palette: &[f32],
+    hues: usize,
+    cell: Cell,
+    c: Linear,
+    e: usize,
+    chroma: &mut [f32],
+)
+    requires { ⌜ (badHues hues ≡ false) × (paletteLen hues ≤ length (now palette)) × (e * symbolBits hues + symbolBits hues ≤ length (now chroma)) ⌝ }
+    ensures { λ _. ⌜ now (chroma .exit) ≡ spec.writeEntry noise (now (palette .entry)) hues cell c e (now (chroma .entry)) ⌝ }
+{
+    let lab = linear_to_lab(c);
+    let mut ll = [0.0f32; 16];
+    noise.hue_log_likelihoods_of(lab, palette, hues, &mut ll);
+    let mut bits = [0.0f32; 4];
+    modulate::bit_llrs(&ll, cell, hues, &mut bits);
+    let weight = noise.reliability_of(lab, palette, hues);
+    let n = limits::symbol_bits(hues);
+    put_scores(&bits, weight, n, e * n, chroma);
+}
+
+fn write_cell(
+    noise: ChannelStats,
+    palette: &[f32],
+    hues: usize,
+    model: IlluminationModel,
+    size: usize,
+    cxs: &[u16],
+    cys: &[u16],
+    raw: &[f32],
+    i: usize,
+    chroma: &mut [f32],
+)
+    requires { ⌜ (badHues hues ≡ false) × (paletteLen hues ≤ length (now palette)) × (size ≤ 16) × (i < length (now cxs)) × (i < length (now cys)) × (3 * i + 2 < length (now raw)) × (i * symbolBits hues + symbolBits hues ≤ length (now chroma)) ⌝ }
+    ensures { λ _. ⌜ now (chroma .exit) ≡ spec.writeCell noise (now (palette .entry)) hues (now (cxs .entry)) (now (cys .entry)) (spec.cellColour model size (now (cxs .entry)) (now (cys .entry)) (now (raw .entry))) i (now (chroma .entry)) ⌝ }
+{
+    let c = cell_colour(model, size, cxs, cys, raw, i);
+    let cell = Cell::At(cxs[i], cys[i]);
+    write_entry(noise, palette, hues, cell, c, i, chroma);
+}
+
+fn write_cells(
+    noise: ChannelStats,
+    palette: &[f32],
+    hues: usize,
+    model: IlluminationModel,
+    size: usize,
+    cxs: &[u16],
+    cys: &[u16],
+    raw: &[f32],
+    chroma: &mut [f32],
+)
+    requires { ⌜ (badHues hues ≡ false) × (paletteLen hues ≤ length (now palette)) × (size ≤ 16) × (length (now cxs) ≡ length (now cys)) × (3 * length (now cxs) ≤ length (now raw)) × (length (now cxs) * symbolBits hues ≤ length (now chroma)) ⌝ }
+    ensures { λ _. ⌜ now (chroma .exit) ≡ spec.writeCells noise (now (palette .entry)) hues (now (cxs .entry)) (now (cys .entry)) (spec.cellColour model size (now (cxs .entry)) (now (cys .entry)) (now (raw .entry))) (length (now (cxs .entry))) (now (chroma .entry)) ⌝ }
+{
+    for i in 0..cxs.len() {
+        write_cell(noise, palette, hues, model, size, cxs, cys, raw, i, chroma);
+    }
+}
+
+fn write_ring(
+    noise: ChannelStats,
+    palette: &[f32],
+    hues: usize,
+    model: IlluminationModel,
+    xs: &[i32],
+    ys: &[i32],
+    raw: &[f32],
+    cells: usize,
+    grid: usize,
+    i: usize,
+    chroma: &mut [f32],
+)
+    requires { ⌜ (badHues hues ≡ false) × (paletteLen hues ≤ length (now palette)) × (grid ≤ i) × (cells ≤ 1048576) × (i < length (now xs)) × (i < length (now ys)) × T (inFloat binary32 (getD (now xs) i (pos 0))) × T (inFloat binary32 (getD (now ys) i (pos 0))) × (3 * i + 2 < length (now raw)) × ((cells + (i - grid)) * symbolBits hues + symbolBits hues ≤ length (now chroma)) ⌝ }
+    ensures { λ _. ⌜ now (chroma .exit) ≡ spec.writeRing noise (now (palette .entry)) hues cells grid (spec.moduleColour model (now (xs .entry)) (now (ys .entry)) (now (raw .entry))) i (now (chroma .entry)) ⌝ }
+{
+    let c = module_colour(model, xs, ys, raw, i);
+    let e = cells + (i - grid);
+    write_entry(noise, palette, hues, Cell::Unmasked, c, e, chroma);
+}
+
+fn write_rings(
+    noise: ChannelStats,
+    palette: &[f32],
+    hues: usize,
+    model: IlluminationModel,
+    xs: &[i32],
+    ys: &[i32],
+    raw: &[f32],
+    cells: usize,
+    grid: usize,
+    chroma: &mut [f32],
+)
+    requires { ⌜ (badHues hues ≡ false) × (paletteLen hues ≤ length (now palette)) × (cells ≤ 1048576) × (grid ≤ length (now xs)) × (length (now xs) ≡ length (now ys)) × Exact (now xs) (length (now xs)) × Exact (now ys) (length (now xs)) × (3 * length (now xs) ≤ length (now raw)) × ((cells + (length (now xs) - grid)) * symbolBits hues ≤ length (now chroma)) ⌝ }
+    ensures { λ _. ⌜ now (chroma .exit) ≡ spec.writeRings noise (now (palette .entry)) hues cells grid (spec.moduleColour model (now (xs .entry)) (now (ys .entry)) (now (raw .entry))) (length (now (xs .entry))) (now (chroma .entry)) ⌝ }
+{
+    for i in grid..xs.len() {
+        write_ring(
+            noise,
+            palette,
+            hues,
+            model,
+            xs,
+            ys,
+            raw,
+            cells,
+            grid,
+            i,
+            chroma,
+        );
+    }
+}
+
+// The chroma scores of ring modules, which carry chroma only at cell size 1.
+fn ring_chroma(
+    noise: ChannelStats,
+    palette: &[f32],
+    hues: usize,
+    model: IlluminationModel,
+    size: usize,
+    xs: &[i32],
+    ys: &[i32],
+    raw: &[f32],
+    cells: usize,
+    grid: usize,
+    chroma: &mut [f32],
+)
+    requires { ⌜ (badHues hues ≡ false) × (paletteLen hues ≤ length (now palette)) × (cells ≤ 1048576) × (grid ≤ length (now xs)) × (length (now xs) ≡ length (now ys)) × Exact (now xs) (length (now xs)) × Exact (now ys) (length (now xs)) × (3 * length (now xs) ≤ length (now raw)) × (chromaLength hues cells (ringModules (length (now xs)) grid) size ≤ length (now chroma)) ⌝ }
+    ensures { λ _. ⌜ now (chroma .exit) ≡ spec.ringChroma noise (now (palette .entry)) hues size cells grid (spec.moduleColour model (now (xs .entry)) (now (ys .entry)) (now (raw .entry))) (length (now (xs .entry))) (now (chroma .entry)) ⌝ }
+{
+    if size == 1 {
+        write_rings(
+            noise,
+            palette,
+            hues,
+            model,
+            xs,
+            ys,
+            raw,
+            cells,
+            grid,
+            chroma,
+        );
+    }
+}
+
+// The chroma scores: with chroma on those of the cells, then those of the ring modules.
+fn write_chroma(
+    noise: ChannelStats,
+    palette: &[f32],
+    hues: usize,
+    model: IlluminationModel,
+    size: usize,
+    xs: &[i32],
+    ys: &[i32],
+    grid: usize,
+    raw: &[f32],
+    cxs: &[u16],
+    cys: &[u16],
+    craw: &[f32],
+    chroma: &mut [f32],
+)
+    requires { ⌜ (badHues hues ≡ false) × (paletteLen hues ≤ length (now palette)) × (size ≤ 16) × (grid ≤ length (now xs)) × (length (now xs) ≡ length (now ys)) × Exact (now xs) (length (now xs)) × Exact (now ys) (length (now xs)) × (3 * length (now xs) ≤ length (now raw)) × (length (now cxs) ≡ length (now cys)) × (length (now cxs) ≤ 1048576) × (3 * length (now cxs) ≤ length (now craw)) × (chromaLength hues (length (now cxs)) (ringModules (length (now xs)) grid) size ≤ length (now chroma)) ⌝ }
+    ensures { λ _. ⌜ now (chroma .exit) ≡ spec.chromaWritten noise (now (palette .entry)) hues size grid (spec.moduleColour model (now (xs .entry)) (now (ys .entry)) (now (raw .entry))) (length (now (xs .entry))) (now (cxs .entry)) (now (cys .entry)) (spec.cellColour model size (now (cxs .entry)) (now (cys .entry)) (now (craw .entry))) (now (chroma .entry)) ⌝ }
+{
+    if limits::chroma_on(hues) {
+        write_cells(noise, palette, hues, model, size, cxs, cys, craw, chroma);
+        ring_chroma(
+            noise,
+            palette,
+            hues,
+            model,
+            size,
+            xs,
+            ys,
+            raw,
+            cxs.len(),
+            grid,
+            chroma,
+        );
+    }
+}
+
+// ---- the sentences
+
+// Sentence 5, of modules.
+fn bad_module_lengths(xs: &[i32], ys: &[i32], raw: &[f32], luma: &[f32], colours: &[f32]) -> bool
+    ensures { λ r. ⌜ r ≡ call.badModuleLengths (length (now (xs .entry))) (length (now (ys .entry))) (length (now (raw .entry))) (length (now (luma .entry))) (length (now (colours .entry))) ⌝ }
+{
+    if xs.len() != ys.len() {
+        return true;
+    }
+    if raw.len() < 3 * xs.len() {
+        return true;
+    }
+    if luma.len() < xs.len() {
+        return true;
+    }
+    colours.len() < 3 * xs.len()
+}
+
+// Sentence 5, of cells.
+fn bad_cell_lengths(cxs: &[u16], cys: &[u16], raw: &[f32]) -> bool
+    ensures { λ r. ⌜ r ≡ call.badCellLengths (length (now (cxs .entry))) (length (now (cys .entry))) (length (now (raw .entry))) ⌝ }
+{
+    if cxs.len() != cys.len() {
+        return true;
+    }
+    raw.len() < 3 * cxs.len()
+}
+
+// Sentence 5, of the chroma scores.
+fn short_chroma(
+    chroma: &[f32],
+    hues: usize,
+    size: usize,
+    modules: usize,
+    grid: usize,
+    cells: usize,
+) -> bool
+    ensures { λ r. ⌜ r ≡ call.shortChroma (length (now (chroma .entry))) hues size modules grid cells ⌝ }
+{
+    let ring = limits::ring_modules(modules, grid);
+    limits::below_chroma(chroma.len(), hues, cells, ring, size)
+}
+
+// Sentence 7, of modules and cells.
+fn bad_positions(side: usize, grid: usize, xs: &[i32], ys: &[i32], cxs: &[u16], cys: &[u16]) -> bool
+    requires { ⌜ (side ≤ 1024) × (length (now xs) ≡ length (now ys)) × (length (now cxs) ≡ length (now cys)) ⌝ }
+    ensures { λ r. ⌜ r ≡ call.badPositions side grid (now (xs .entry)) (now (ys .entry)) (now (cxs .entry)) (now (cys .entry)) ⌝ }
+{
+    if places::bad_places(side, grid, xs, ys) {
+        return true;
+    }
+    limits::bad_cells(cxs, cys)
+}
+
+// Sentence 8, of the raw colours of m modules and c cells, of the palette and of the noise record.
+fn bad_inputs(
+    raw: &[f32],
+    m: usize,
+    craw: &[f32],
+    c: usize,
+    noise: ChannelStats,
+    palette: &[f32],
+    hues: usize,
+) -> bool
+    requires { ⌜ (3 * m ≤ length (now raw)) × (3 * c ≤ length (now craw)) × (paletteLen hues ≤ length (now palette)) ⌝ }
+    ensures { λ r. ⌜ r ≡ call.badInputs (now (raw .entry)) m (now (craw .entry)) c noise (now (palette .entry)) hues ⌝ }
+{
+    if wild_in(raw, 3 * m) {
+        return true;
+    }
+    if wild_in(craw, 3 * c) {
+        return true;
+    }
+    stats::bad_numbers(noise, palette, hues)
+}
+
+// Sentence 12, of modules.
+fn bad_module_colours(model: IlluminationModel, xs: &[i32], ys: &[i32], raw: &[f32]) -> bool
+    requires { ⌜ (length (now xs) ≡ length (now ys)) × Exact (now xs) (length (now xs)) × Exact (now ys) (length (now xs)) × (3 * length (now xs) ≤ length (now raw)) ⌝ }
+    ensures { λ r. ⌜ r ≡ call.wildColours (spec.moduleColour model (now (xs .entry)) (now (ys .entry)) (now (raw .entry))) (length (now (xs .entry))) ⌝ }
+{
+    for i in 0..xs.len() {
+        if wild_linear(module_colour(model, xs, ys, raw, i)) {
+            return true;
+        }
+    }
+    false
+}
+
+// Sentence 12, of cells.
+fn bad_cell_colours(
+    model: IlluminationModel,
+    size: usize,
+    cxs: &[u16],
+    cys: &[u16],
+    raw: &[f32],
+) -> bool
+    requires { ⌜ (size ≤ 16) × (length (now cxs) ≡ length (now cys)) × (3 * length (now cxs) ≤ length (now raw)) ⌝ }
+    ensures { λ r. ⌜ r ≡ call.wildColours (spec.cellColour model size (now (cxs .entry)) (now (cys .entry)) (now (raw .entry))) (length (now (cxs .entry))) ⌝ }
+{
+    for i in 0..cxs.len() {
+        if wild_linear(cell_colour(model, size, cxs, cys, raw, i)) {
+            return true;
+        }
+    }
+    false
+}
+
+// Sentence 12: of modules, and with chroma on of cells.
+fn bad_corrected(
+    hues: usize,
+    model: IlluminationModel,
+    xs: &[i32],
+    ys: &[i32],
+    raw: &[f32],
+    size: usize,
+    cxs: &[u16],
+    cys: &[u16],
+    craw: &[f32],
+) -> bool
+    requires { ⌜ (length (now xs) ≡ length (now ys)) × Exact (now xs) (length (now xs)) × Exact (now ys) (length (now xs)) × (3 * length (now xs) ≤ length (now raw)) × (size ≤ 16) × (length (now cxs) ≡ length (now cys)) × (3 * length (now cxs) ≤ length (now craw)) ⌝ }
+    ensures { λ r. ⌜ r ≡ call.badCorrected hues (spec.moduleColour model (now (xs .entry)) (now (ys .entry)) (now (raw .entry))) (length (now (xs .entry))) (spec.cellColour model size (now (cxs .entry)) (now (cys .entry)) (now (craw .entry))) (length (now (cxs .entry))) ⌝ }
+{
+    if bad_module_colours(model, xs, ys, raw) {
+        return true;
+    }
+    if limits::chroma_on(hues) {
+        return bad_cell_colours(model, size, cxs, cys, craw);
+    }
+    false
+}
+
+// Sentence 5.
+fn bad_lengths(
+    hues: usize,
+    size: usize,
+    xs: &[i32],
+    ys: &[i32],
+    grid: usize,
+    raw: &[f32],
+    cxs: &[u16],
+    cys: &[u16],
+    craw: &[f32],
+    palette: &[f32],
+    luma: &[f32],
+    colours: &[f32],
+    chroma: &[f32],
+) -> bool
+    ensures { λ r. ⌜ r ≡ call.badLengths hues size (now (xs .entry)) (now (ys .entry)) grid (now (raw .entry)) (now (cxs .entry)) (now (cys .entry)) (now (craw .entry)) (now (palette .entry)) (now (luma .entry)) (now (colours .entry)) (now (chroma .entry)) ⌝ }
+{
+    if bad_module_lengths(xs, ys, raw, luma, colours) {
+        return true;
+    }
+    if bad_cell_lengths(cxs, cys, craw) {
+        return true;
+    }
+    if stats::short_palette(palette, hues) {
+        return true;
+    }
+    short_chroma(chroma, hues, size, xs.len(), grid, cxs.len())
+}
+
+// The number of the first sentence that holds, or 0.
+fn refused(
+    side: usize,
+    hues: usize,
+    size: usize,
+    xs: &[i32],
+    ys: &[i32],
+    grid: usize,
+    raw: &[f32],
+    cxs: &[u16],
+    cys: &[u16],
+    craw: &[f32],
+    palette: &[f32],
+    model: IlluminationModel,
+    noise: ChannelStats,
+    luma: &[f32],
+    colours: &[f32],
+    chroma: &[f32],
+) -> u32
+    ensures { λ r. ⌜ r ≡ refusal (call.sentencesOf (call.request side hues size (now (xs .entry)) (now (ys .entry)) grid (now (raw .entry)) (now (cxs .entry)) (now (cys .entry)) (now (craw .entry)) (now (palette .entry)) model noise (now (luma .entry)) (now (colours .entry)) (now (chroma .entry)))) ⌝ }
+{
+    if limits::bad_side(side) {
+        return 2;
+    }
+    if limits::bad_hues(hues) {
+        return 3;
+    }
+    if limits::bad_cell_size(size) {
+        return 4;
+    }
+    if bad_lengths(
+        hues,
+        size,
+        xs,
+        ys,
+        grid,
+        raw,
+        cxs,
+        cys,
+        craw,
+        palette,
+        luma,
+        colours,
+        chroma,
+    ) {
+        return 5;
+    }
+    if limits::bad_counts(xs.len(), grid, cxs.len()) {
+        return 6;
+    }
+    if bad_positions(side, grid, xs, ys, cxs, cys) {
+        return 7;
+    }
+    if bad_inputs(raw, xs.len(), craw, cxs.len(), noise, palette, hues) {
+        return 8;
+    }
+    if stats::bad_sigmas(noise) {
+        return 9;
+    }
+    if illum::bad_model(model) {
+        return 10;
+    }
+    if bad_corrected(hues, model, xs, ys, raw, size, cxs, cys, craw) {
+        return 12;
+    }
+    0
+}
+
+// ---- the call
+
+// Scores a card. `xs` and `ys` are its modules' positions, the first `grid` of them grid modules and the others ring
+// modules; `cxs` and `cys` its cells' coordinates; `raw` and `craw` hold three linear components a module and a cell.
+// Writes a luma score a module, three components of its corrected colour, and, with chroma on, log2(hues) scores a cell
+// and then, at cell size 1, a ring module. Refused: 2, 3, 4, 5, 6, 7, 8, 9, 10, 12.
+pub fn score(
+    side: usize,
+    hues: usize,
+    size: usize,
+    xs: &[i32],
+    ys: &[i32],
+    grid: usize,
+    raw: &[f32],
+    cxs: &[u16],
+    cys: &[u16],
+    craw: &[f32],
+    palette: &[f32],
+    model: IlluminationModel,
+    noise: ChannelStats,
+    luma: &mut [f32],
+    colours: &mut [f32],
+    chroma: &mut [f32],
+) -> Outcome
+    ensures { λ r. ⌜ call.final r (now (luma .exit)) (now (colours .exit)) (now (chroma .exit)) ≡ call.scoredOf (call.request side hues size (now (xs .entry)) (now (ys .entry)) grid (now (raw .entry)) (now (cxs .entry)) (now (cys .entry)) (now (craw .entry)) (now (palette .entry)) model noise (now (luma .entry)) (now (colours .entry)) (now (chroma .entry))) ⌝ }
+{
+    let n = refused(
+        side,
+        hues,
+        size,
+        xs,
+        ys,
+        grid,
+        raw,
+        cxs,
+        cys,
+        craw,
+        palette,
+        model,
+        noise,
+        luma,
+        colours,
+        chroma,
+    );
+    if n != 0 {
+        return Outcome::Refused(n);
+    }
+    write_modules(noise, palette, hues, model, xs, ys, raw, luma, colours);
+    write_chroma(
+        noise,
+        palette,
+        hues,
+        model,
+        size,
+        xs,
+        ys,
+        grid,
+        raw,
+        cxs,
+        cys,
+        craw,
+        chroma,
+    );
+    Outcome::Done
+}

@@ -1,0 +1,8 @@
+pub mod Accepted
+pub mod Counts
+pub mod Halves
+pub mod Law
+pub mod Listed
+pub mod Parts
+pub mod Shape
+pub mod Widths

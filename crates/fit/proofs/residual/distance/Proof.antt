@@ -1,0 +1,15 @@
+-- `fit::residual::distance` meets its contract: the operations of the definition, in its order.
+-- Assumes nothing.
+use Rattle.fit.specs.Residual.{distance}
+use borrow.Author.Needs.{needs}
+use Rattle.fit.proofs.residual.distance.Statement.{statement}
+use Rattle.fit.proofs.residual.distance.Tie as tie
+
+returns : tie.Need-returns
+unfolding distance
+returns c = cc
+
+pub distance-spec : {M : Type 1} → statement M
+distance-spec =
+    tie.close
+    (tie.spec (λ c κs. search needs) (λ c κs. search needs) (λ c κs. search needs) (λ c κs. search needs) returns)

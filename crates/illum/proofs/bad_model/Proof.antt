@@ -1,0 +1,14 @@
+-- `illum::bad_model` meets its contract: the terms, the side and the numbers, one after the other.
+-- Assumes nothing.
+use borrow.Author.Needs.{needs}
+use Rattle.sentences.proofs.Laws.{ors}
+use Rattle.illum.specs.Refusals.{badModel}
+use Rattle.illum.proofs.bad_model.Statement.{statement}
+use Rattle.illum.proofs.bad_model.Tie as tie
+
+pub bad-model-spec : {M : Type 1} → statement M
+unfolding badModel
+bad-model-spec =
+    tie.close
+    (tie.spec (λ c κs. search needs) (λ c. search (ors) depth 15 fits 50000) (λ c κs. search needs) (λ c. search (ors) depth 15 fits 50000)
+    (λ c κs. search needs) (λ c. search (ors) depth 15 fits 50000))

@@ -1,0 +1,459 @@
+// The illumination model: what the channel did to each colour as a function of position, and its inverse. Ported from illum.rs,
+// in the Rust's order of operations.
+//
+//     fit:      observed  ≈  gain(x, y) * nominal + flare(x, y)                 for each channel
+//     correct:  nominal   =  affine * [(observed - flare(x, y)) / gain(x, y)]
+ghost use mathlib.Core.Path.{_≡_};
+ghost use mathlib.Core.Bool.{not};
+ghost use Prim.Native.Nat.{_≤_};
+ghost use lib.ListN.{length};
+ghost use lib.Ieee.Scale.{finite};
+ghost use Rattle.sentences.specs.Sentences.{refusal};
+ghost use Rattle.illum.specs.Surface.{termsUsed, basisAt, surfaceAt, isHeld, holdGain, deshade, normalised};
+ghost use Rattle.illum.specs.Correct as spec;
+ghost use Rattle.illum.specs.Refusals.{badTerms, badModelSide, notFiniteUpTo, notFiniteAffine, notFiniteGains, notFiniteFlares, notFiniteModel, badModel, identityOf, sentencesOf, correctOf};
+use color::Linear;
+
+// A fitted correction from observed to nominal linear light. The affine part is three rows of four; a gain and a flare surface
+// a channel has `terms` coefficients, 4 or 9. Coefficients past `terms` are no numbers of the model: `identity` and the fit
+// write 0 there, and nothing reads them.
+#[repr(C)]
+pub struct IlluminationModel {
+    // nominal r = affine_r[0] * r + affine_r[1] * g + affine_r[2] * b + affine_r[3], and so for g and b
+    pub affine_r: [f64; 4],
+    pub affine_g: [f64; 4],
+    pub affine_b: [f64; 4],
+    pub gain_r: [f64; 9],
+    pub gain_g: [f64; 9],
+    pub gain_b: [f64; 9],
+    pub flare_r: [f64; 9],
+    pub flare_g: [f64; 9],
+    pub flare_b: [f64; 9],
+    pub terms: usize,
+    // the side of the card, by which positions are normalised
+    pub side: f32,
+    // the root of the mean square residual after fitting, in linear light
+    pub residual_rms: f32,
+    // references that the fit discarded, and that it kept
+    pub rejected: u32,
+    pub kept: u32,
+}
+
+// A model beside document 01's number: 0 where the call was accepted. Where it was refused the model is all zeros, which
+// sentence 10 refuses in turn.
+#[repr(C)]
+pub struct Modelled {
+    pub number: u32,
+    pub model: IlluminationModel,
+}
+
+// One channel's inverse, and whether the gain was held at 0.05.
+pub struct Inverse {
+    pub value: f64,
+    pub held: bool,
+}
+
+// The three channels' inverses.
+pub struct Unshaded {
+    pub r: Inverse,
+    pub g: Inverse,
+    pub b: Inverse,
+}
+
+// A corrected colour, and the channels whose gain was held.
+pub struct Marked {
+    pub colour: Linear,
+    pub held_r: bool,
+    pub held_g: bool,
+    pub held_b: bool,
+}
+
+// What `correct` answers: a refusal by its number, or the corrected colour.
+pub enum Correction {
+    Refused(u32),
+    Corrected(Linear),
+}
+
+// ---- the surfaces
+
+// Core: how many terms a surface has: 4, or else 9.
+pub fn terms_used(terms: usize) -> usize
+    ensures { λ r. ⌜ r ≡ termsUsed terms ⌝ }
+{
+    if terms == 4 {
+        return 4;
+    }
+    9
+}
+
+// A coordinate on the scale from -1 to 1 of a card of this side.
+fn normalise(side: f32, x: f32) -> f64
+    ensures { λ r. ⌜ r ≡ normalised side x ⌝ }
+{
+    2.0 * float::widen(x) / float::widen(side) - 1.0
+}
+
+// Core: the polynomial basis at a position, of 4 or 9 terms; past them stands 0.
+pub fn basis(terms: usize, side: f32, x: f32, y: f32) -> [f64; 9]
+    ensures { λ r. ⌜ r ≡ basisAt terms side x y ⌝ }
+{
+    let u = normalise(side, x);
+    let v = normalise(side, y);
+    if terms == 4 {
+        return [1.0, u, v, u * v, 0.0, 0.0, 0.0, 0.0, 0.0];
+    }
+    [
+        1.0,
+        u,
+        v,
+        u * v,
+        u * u,
+        v * v,
+        u * u * v,
+        u * v * v,
+        u * u * v * v,
+    ]
+}
+
+// The value of a surface: its coefficients times the basis, summed from +0 on over the terms in use.
+fn surface(terms: usize, c: [f64; 9], b: [f64; 9]) -> f64
+    ensures { λ r. ⌜ r ≡ surfaceAt terms c b ⌝ }
+{
+    let n = terms_used(terms);
+    let mut s = 0.0;
+    for k in 0..n {
+        s = s + c[k] * b[k];
+    }
+    s
+}
+
+// ---- one channel's inverse
+
+// Whether a gain is under 0.05 in magnitude.
+fn is_held(g: f64) -> bool
+    ensures { λ r. ⌜ r ≡ isHeld g ⌝ }
+{
+    float::abs_f64(g) < 0.05
+}
+
+// A gain under 0.05 in magnitude becomes 0.05 of its sign; either zero gives +0.05, and a NaN is left.
+fn hold_gain(g: f64) -> f64
+    ensures { λ r. ⌜ r ≡ holdGain g ⌝ }
+{
+    if is_held(g) {
+        if g < 0.0 {
+            return -0.05;
+        }
+        return 0.05;
+    }
+    g
+}
+
+// Core: one channel's inverse at a basis, (observed - flare) / gain.
+pub fn invert(terms: usize, gain: [f64; 9], flare: [f64; 9], b: [f64; 9], observed: f32) -> Inverse
+    ensures { λ r. ⌜ r ≡ deshade terms gain flare b observed ⌝ }
+{
+    let g = surface(terms, gain, b);
+    let f = surface(terms, flare, b);
+    Inverse {
+        value: (float::widen(observed) - f) / hold_gain(g),
+        held: is_held(g),
+    }
+}
+
+// ---- correct
+
+// One row of the affine part, rounded to an f32.
+fn affine_row(a: [f64; 4], r: f64, g: f64, b: f64) -> f32
+    ensures { λ v. ⌜ v ≡ spec.affineRow a r g b ⌝ }
+{
+    float::narrow(a[0] * r + a[1] * g + a[2] * b + a[3])
+}
+
+// Core: the three channels' inverses at a position, without the affine part.
+pub fn unshade(model: IlluminationModel, x: f32, y: f32, colour: Linear) -> Unshaded
+    ensures { λ v. ⌜ v ≡ spec.unshaded model x y colour ⌝ }
+{
+    let t = model.terms;
+    let at = basis(t, model.side, x, y);
+    let gain_r = model.gain_r;
+    let flare_r = model.flare_r;
+    let r = invert(t, gain_r, flare_r, at, colour.r);
+    let gain_g = model.gain_g;
+    let flare_g = model.flare_g;
+    let g = invert(t, gain_g, flare_g, at, colour.g);
+    let gain_b = model.gain_b;
+    let flare_b = model.flare_b;
+    let b = invert(t, gain_b, flare_b, at, colour.b);
+    Unshaded { r, g, b }
+}
+
+// The affine part over the three channels' inverses, with the mark of each.
+fn mix(model: IlluminationModel, d: Unshaded) -> Marked
+    ensures { λ v. ⌜ v ≡ spec.mixed model d ⌝ }
+{
+    let r = d.r;
+    let g = d.g;
+    let b = d.b;
+    let affine_r = model.affine_r;
+    let affine_g = model.affine_g;
+    let affine_b = model.affine_b;
+    let colour = Linear {
+        r: affine_row(affine_r, r.value, g.value, b.value),
+        g: affine_row(affine_g, r.value, g.value, b.value),
+        b: affine_row(affine_b, r.value, g.value, b.value),
+    };
+    Marked {
+        colour,
+        held_r: r.held,
+        held_g: g.held,
+        held_b: b.held,
+    }
+}
+
+// Core: an observed colour at a position, corrected, with the marks of the channels whose gain was held. Takes every float.
+pub fn corrected(model: IlluminationModel, x: f32, y: f32, colour: Linear) -> Marked
+    ensures { λ r. ⌜ r ≡ spec.corrected model x y colour ⌝ }
+{
+    mix(model, unshade(model, x, y, colour))
+}
+
+// ---- sentence 10
+
+// Core: whether an f64 is not finite.
+pub fn not_finite_f64(v: f64) -> bool
+    ensures { λ r. ⌜ r ≡ not (finite v) ⌝ }
+{
+    if v < 1.0 / 0.0 {
+        return !(-1.0 / 0.0 < v);
+    }
+    true
+}
+
+// Core: whether an f32 is not finite.
+pub fn not_finite(v: f32) -> bool
+    ensures { λ r. ⌜ r ≡ not (finite v) ⌝ }
+{
+    not_finite_f64(float::widen(v))
+}
+
+// The terms are neither 4 nor 9.
+fn bad_terms(terms: usize) -> bool
+    ensures { λ r. ⌜ r ≡ badTerms terms ⌝ }
+{
+    if terms == 4 {
+        return false;
+    }
+    terms != 9
+}
+
+// The side is not a whole number from 1 to 1,024.
+fn bad_model_side(side: f32) -> bool
+    ensures { λ r. ⌜ r ≡ badModelSide side ⌝ }
+{
+    if 1.0 <= side {
+        if side <= 1024.0 {
+            return std::num::truncating_f32_to_u64(side) as f32 != side;
+        }
+    }
+    true
+}
+
+// One of the first n numbers is not finite.
+fn not_finite_up_to(l: &[f64], n: usize) -> bool
+    requires { ⌜ n ≤ length (now l) ⌝ }
+    ensures { λ r. ⌜ r ≡ notFiniteUpTo n (now (l .entry)) ⌝ }
+{
+    for k in 0..n {
+        if not_finite_f64(l[k]) {
+            return true;
+        }
+    }
+    false
+}
+
+// A row of the affine part has a number that is not finite.
+fn bad_row(a: [f64; 4]) -> bool
+    ensures { λ r. ⌜ r ≡ notFiniteUpTo 4 a ⌝ }
+{
+    not_finite_up_to(&a, 4)
+}
+
+// A surface has one among its terms.
+fn bad_surface(terms: usize, c: [f64; 9]) -> bool
+    ensures { λ r. ⌜ r ≡ notFiniteUpTo (termsUsed terms) c ⌝ }
+{
+    not_finite_up_to(&c, terms_used(terms))
+}
+
+// The affine part has a number that is not finite.
+fn bad_affine(m: IlluminationModel) -> bool
+    ensures { λ r. ⌜ r ≡ notFiniteAffine m ⌝ }
+{
+    let affine_r = m.affine_r;
+    if bad_row(affine_r) {
+        return true;
+    }
+    let affine_g = m.affine_g;
+    if bad_row(affine_g) {
+        return true;
+    }
+    let affine_b = m.affine_b;
+    bad_row(affine_b)
+}
+
+// A gain surface has one.
+fn bad_gains(m: IlluminationModel) -> bool
+    ensures { λ r. ⌜ r ≡ notFiniteGains m ⌝ }
+{
+    let gain_r = m.gain_r;
+    if bad_surface(m.terms, gain_r) {
+        return true;
+    }
+    let gain_g = m.gain_g;
+    if bad_surface(m.terms, gain_g) {
+        return true;
+    }
+    let gain_b = m.gain_b;
+    bad_surface(m.terms, gain_b)
+}
+
+// A flare surface has one.
+fn bad_flares(m: IlluminationModel) -> bool
+    ensures { λ r. ⌜ r ≡ notFiniteFlares m ⌝ }
+{
+    let flare_r = m.flare_r;
+    if bad_surface(m.terms, flare_r) {
+        return true;
+    }
+    let flare_g = m.flare_g;
+    if bad_surface(m.terms, flare_g) {
+        return true;
+    }
+    let flare_b = m.flare_b;
+    bad_surface(m.terms, flare_b)
+}
+
+// Core: a number of the model is not finite.
+pub fn not_finite_model(m: IlluminationModel) -> bool
+    ensures { λ r. ⌜ r ≡ notFiniteModel m ⌝ }
+{
+    if bad_affine(m) {
+        return true;
+    }
+    if bad_gains(m) {
+        return true;
+    }
+    if bad_flares(m) {
+        return true;
+    }
+    not_finite(m.residual_rms)
+}
+
+// Sentence 10: the model's terms are neither 4 nor 9, its side is not a whole number from 1 to 1,024, or one of its numbers is
+// not finite.
+pub fn bad_model(m: IlluminationModel) -> bool
+    ensures { λ r. ⌜ r ≡ badModel m ⌝ }
+{
+    if bad_terms(m.terms) {
+        return true;
+    }
+    if bad_model_side(m.side) {
+        return true;
+    }
+    not_finite_model(m)
+}
+
+// ---- the calls
+
+// Core: unit gains, no flare and the identity as affine part, with 4 or 9 terms: what the fit starts from.
+pub fn unit_model(side: usize, terms: usize) -> IlluminationModel
+    requires { ⌜ side ≤ 1024 ⌝ }
+    ensures { λ r. ⌜ r ≡ spec.unitModel side terms ⌝ }
+{
+    let gain = [1.0, 0.0, 0.0, 0.0, 0.0, 0.0, 0.0, 0.0, 0.0];
+    let flare = [0.0, 0.0, 0.0, 0.0, 0.0, 0.0, 0.0, 0.0, 0.0];
+    IlluminationModel {
+        affine_r: [1.0, 0.0, 0.0, 0.0],
+        affine_g: [0.0, 1.0, 0.0, 0.0],
+        affine_b: [0.0, 0.0, 1.0, 0.0],
+        gain_r: gain,
+        gain_g: gain,
+        gain_b: gain,
+        flare_r: flare,
+        flare_g: flare,
+        flare_b: flare,
+        terms,
+        side: side as f32,
+        residual_rms: 0.0,
+        rejected: 0,
+        kept: 0,
+    }
+}
+
+// Core: what stands beside the number of a refusal: all zeros, a model that sentence 10 refuses.
+pub fn no_model() -> IlluminationModel
+    ensures { λ r. ⌜ r ≡ spec.noModel ⌝ }
+{
+    let row = [0.0, 0.0, 0.0, 0.0];
+    let flare = [0.0, 0.0, 0.0, 0.0, 0.0, 0.0, 0.0, 0.0, 0.0];
+    IlluminationModel {
+        affine_r: row,
+        affine_g: row,
+        affine_b: row,
+        gain_r: flare,
+        gain_g: flare,
+        gain_b: flare,
+        flare_r: flare,
+        flare_g: flare,
+        flare_b: flare,
+        terms: 0,
+        side: 0.0,
+        residual_rms: 0.0,
+        rejected: 0,
+        kept: 0,
+    }
+}
+
+// The model that corrects nothing, with 4 terms, for a card of this side. Refused by 2.
+pub fn identity(side: usize) -> Modelled
+    ensures { λ r. ⌜ r ≡ identityOf side ⌝ }
+{
+    if limits::bad_side(side) {
+        return Modelled {
+            number: 2,
+            model: no_model(),
+        };
+    }
+    Modelled {
+        number: 0,
+        model: unit_model(side, 4),
+    }
+}
+
+// The number of the first sentence that a colour or a model breaks, or 0.
+fn refused(model: IlluminationModel, colour: Linear) -> u32
+    ensures { λ r. ⌜ r ≡ refusal (sentencesOf model colour) ⌝ }
+{
+    if color::palette::wild_linear(colour) {
+        return 8;
+    }
+    if bad_model(model) {
+        return 10;
+    }
+    0
+}
+
+// An observed colour at a position, corrected by the model. The position is any float, and so is what comes out. Refused by 8
+// and 10.
+pub fn correct(model: IlluminationModel, x: f32, y: f32, colour: Linear) -> Correction
+    ensures { λ r. ⌜ r ≡ correctOf model x y colour ⌝ }
+{
+    let n = refused(model, colour);
+    if n != 0 {
+        return Correction::Refused(n);
+    }
+    let m = corrected(model, x, y, colour);
+    let out = m.colour;
+    Correction::Corrected(out)
+}

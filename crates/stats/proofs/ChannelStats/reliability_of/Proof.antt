@@ -1,0 +1,15 @@
+-- `ChannelStats::reliability_of` meets its contract: the weight of the nearest colour's distance. Assumes nothing.
+use borrow.Author.Needs.{needs}
+use mathlib.Core.Path.{_≡_, refl, sym, ap, _∙_}
+use Rattle.stats.specs.Noise.{reliability}
+use Rattle.stats.proofs.ChannelStats.reliability_of.Statement.{statement}
+use Rattle.stats.proofs.ChannelStats.reliability_of.Tie as tie
+
+returns : tie.Need-returns
+unfolding reliability
+returns c = cc
+
+pub reliability-of-spec : {M : Type 1} → statement M
+reliability-of-spec =
+    tie.close
+    (tie.spec (λ c κs. search needs) (λ c κs. search needs) returns)
