@@ -1,6 +1,9 @@
-pub mod Chroma
+-- For callers: `Accepted`, what an accepted call knows; `Outcome`, what the two answers say; `Written`, what is left, element by element; `Chroma`, the likelihoods and bit scores of an entry;
+-- `Range`, luma scores within ±20. The others serve the proofs: `Literals` the constants, `Places` positions as f32 values.
 pub mod Accepted
-pub mod Written
 pub mod Outcome
+pub mod Written
+pub mod Chroma
+pub mod Range
 mod Literals
 mod Places

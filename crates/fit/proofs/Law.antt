@@ -1,9 +1,9 @@
 -- What a fit comes to: the model that it gives always passes sentence 10, and its counts are 0 kept, or kept and rejected of all. Assumes nothing.
-use mathlib.Core.Path.{_≡_, refl, sym, ap, _∙_}
+use mathlib.Core.Path.{_≡_, refl, ap, _∙_}
 use mathlib.Core.Logic.{_⊎_, inl, inr}
 use mathlib.Core.Bool.{Bool, true, false, cond}
 use mathlib.Core.List.{List}
-use Prim.Native.Nat.{ℕ, zero, suc, _+_, _*_, _≤_, _<_}
+use Prim.Native.Nat.{ℕ, zero, suc, _+_, _≤_}
 use native.Mathlib.Omega.{arith}
 use lib.Dec.{ltb}
 use lib.ListN.{length}
@@ -12,12 +12,11 @@ use Rattle.sentences.specs.Sentences.{refusal, decided}
 use Rattle.illum.specs.declared.IlluminationModel.{IlluminationModel}
 use Rattle.illum.specs.declared.Modelled.{Modelled}
 use Rattle.illum.specs.Correct.{unitModel, noModel}
-use Rattle.illum.specs.Refusals.{notFiniteModel, badModel, modelled, refusedModel}
+use Rattle.illum.specs.Refusals.{badModel, modelled, refusedModel}
 use Rattle.illum.proofs.Passes.{unit-four-passes, unit-nine-passes}
-use Rattle.fit.specs.declared.Pass.{Pass}
 use Rattle.fit.specs.References.{allLive, liveCount}
 use Rattle.fit.specs.Residual.{residualsOf, limitOf, rejectAbove}
-use Rattle.fit.specs.Fit.{withCounts, passOf, Ran, ran, concluded, droppedOf, counted, secondPass, refitted, firstPass, fitted, termsFor, Request, sentencesOf, Final, final, turnedAway, done, fitOf}
+use Rattle.fit.specs.Fit.{withCounts, passOf, ran, concluded, droppedOf, refitted, firstPass, fitted, termsFor, Request, sentencesOf, turnedAway, done, fitOf}
 use Rattle.fit.proofs.Accepted.{accepted}
 use Rattle.fit.proofs.Counts.{each-counted}
 use Rattle.fit.proofs.Shape.{pass-alike, pass-finite, counts-apart, counts-pass, alike-passes}

@@ -1,10 +1,10 @@
 -- What a list has where a part of it was lent and came back: before the part, in it, and after it. Assumes nothing.
-use mathlib.Core.Path.{_≡_, refl, sym, ap, _∙_}
+use mathlib.Core.Path.{_≡_, ap, _∙_}
 use mathlib.Core.List.{List, _++_}
 use Prim.Native.Nat.{ℕ, _+_, _-_, _*_, _≤_}
 use native.Mathlib.Omega.{arith}
-use lib.ListN.{length, take, drop, length-append, length-drop}
-use lib.Seq.{length-take-le, take-at, drop-at, take-append-le, take-take, take-add}
+use lib.ListN.{length, take, drop}
+use lib.Seq.{length-take-le, take-at, drop-at, take-append-le, take-add}
 use lib.Ieee.{Float}
 use borrow.Rule.Slice.PartMut.{putMid}
 

@@ -1,5 +1,5 @@
 -- A pass changes a model's surfaces, its affine part and its residual, and nothing else; and where it has a solution and sentence 11 does not hold, its numbers are finite. Assumes nothing.
-use mathlib.Core.Path.{_≡_, refl, sym, ap, _∙_}
+use mathlib.Core.Path.{_≡_, refl, ap, _∙_}
 use mathlib.Core.Bool.{Bool, true, false, cond, _||_}
 use mathlib.Core.List.{List}
 use Prim.Native.Nat.{ℕ}

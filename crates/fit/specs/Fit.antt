@@ -1,9 +1,9 @@
 -- The fit: two passes with a rejection between them, and the refusals of `fit_flat` and `fit_counted`. Definitions only.
 use mathlib.Core.Bool.{Bool, true, false, cond, not, _||_}
-use mathlib.Core.List.{List, [], _∷_, _++_}
+use mathlib.Core.List.{List, [], _∷_}
 use Prim.Native.Nat.{ℕ, _*_, _/_, _%_}
-use lib.Dec.{ltb, leb, eqb}
-use lib.ListN.{length, replicate, drop}
+use lib.Dec.{ltb, eqb}
+use lib.ListN.{length}
 use lib.Ieee.{Float}
 use Rattle.loops.specs.Loops.{anyUp}
 use Rattle.sentences.specs.Sentences.{Sentence, _when_, refusal, decided}
@@ -13,7 +13,6 @@ use Rattle.illum.specs.declared.IlluminationModel.{IlluminationModel}
 use Rattle.illum.specs.declared.Modelled.{Modelled}
 use Rattle.illum.specs.Correct.{unitModel}
 use Rattle.illum.specs.Refusals.{notFiniteAt, notFiniteModel, modelled, refusedModel}
-use Rattle.fit.specs.declared.once.Once.{Once}
 use Rattle.fit.specs.declared.Pass.{Pass}
 use Rattle.fit.specs.References.{allLive, liveCount, badPositions, badColours}
 use Rattle.fit.specs.Once.{fitOnce}

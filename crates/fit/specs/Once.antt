@@ -1,6 +1,6 @@
 -- One pass's equations: the Rust's `fit_once`, channel by channel and row by row, in its order of operations. Definitions only.
 -- The Rust collects the rows and hands them to `least_squares`; here each live reference's row is added to the normal equations as it comes.
-use mathlib.Core.Bool.{Bool, true, false, cond, not}
+use mathlib.Core.Bool.{Bool, true, false, cond}
 use mathlib.Core.List.{List, [], _∷_}
 use Prim.Native.Nat.{ℕ, _+_, _*_}
 use lib.Dec.{ltb, leb}

@@ -1,7 +1,7 @@
 -- Residuals, their root mean square, and which references are rejected, in the Rust's order. Definitions only.
-use mathlib.Core.Bool.{Bool, false, cond, _&&_}
+use mathlib.Core.Bool.{false, cond, _&&_}
 use mathlib.Core.List.{List, [], _∷_}
-use Prim.Native.Nat.{ℕ, zero, suc, _+_, _*_, _/_, _^_}
+use Prim.Native.Nat.{ℕ, zero, suc, _+_, _/_, _^_}
 use lib.Dec.{ltb}
 use lib.IntN.{pos}
 use lib.ListN.{getD, set}

@@ -1,13 +1,11 @@
 -- Which models sentence 10 lets pass: the one that the fit starts from does, at every side that sentence 2 lets pass; what stands beside the number of a refusal does not. Assumes nothing.
 use mathlib.Core.Path.{_≡_, refl}
-use mathlib.Core.Bool.{true, false, _||_}
+use mathlib.Core.Bool.{true, false}
 use Prim.Native.Nat.{ℕ, _≤_}
-use lib.Ieee.{binary32, ofInt}
-use lib.IntN.{pos}
 use Rattle.loops.specs.Loops.{anyUp, someOf}
 use Rattle.illum.specs.Surface.{termsUsed}
 use Rattle.illum.specs.Correct.{unitModel, noModel}
-use Rattle.illum.specs.Refusals.{badTerms, badModelSide, notFiniteAffine, notFiniteGains, notFiniteFlares, notFiniteModel, badModel}
+use Rattle.illum.specs.Refusals.{badTerms, notFiniteAffine, notFiniteGains, notFiniteFlares, notFiniteModel, badModel}
 use Rattle.illum.proofs.Side.{side-passes}
 
 module _ (side : ℕ) (least : 1 ≤ side) (most : side ≤ 1024) where

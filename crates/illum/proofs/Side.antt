@@ -1,7 +1,7 @@
 -- The whole numbers from 1 to 1,024 as f32: what lies between the two ends has a whole part of at most 1,024, and each of them passes sentence 10's test of a model's side. Assumes nothing.
-use mathlib.Core.Path.{_≡_, refl, sym, ap, _∙_}
+use mathlib.Core.Path.{_≡_, refl, sym, _∙_}
 use mathlib.Core.Logic.{_⊎_, inl, inr, ⊎-elim}
-use mathlib.Core.Bool.{Bool, true, false, cond, _&&_, _||_}
+use mathlib.Core.Bool.{Bool, true, false, _&&_, _||_}
 use Prim.Native.Nat.{ℕ, suc, _+_, _-_, _*_, _/_, _^_, _≤_, _<_, min}
 use native.Mathlib.Omega.{arith}
 use native.Mathlib.Nat.{mul-one, mul-comm, div-le-of-le-mul, div-eq-of-eq-mul-left, min-le-left, min-eq-left, lt-of-lt-of-le, le-trans, le-refl, le-of-eq, add-le-add, add-comm}
@@ -9,12 +9,12 @@ use lib.Dec.{T, ltb, eqb, lt→ltb}
 use lib.IntN.{ℤ, pos}
 use lib.Pow.{pow-pos, pow-mono, shl-lt}
 use lib.Ieee.{Float, nan, inf, fin, Format, binary32, prec, emax, low, up, down, le, lt, eq, ofBits, ofInt, round, toUnsigned}
-use lib.Ieee.Fits.{reach, up-pos, down-pos}
+use lib.Ieee.Fits.{reach, down-pos}
 use lib.Ieee.Exact.{HasValue, round-exact}
 use lib.Ieee.Scale.{overflow}
 use borrow.Author.Tests.{ltb-true, eqb-true}
 use Rattle.floatlaws.specs.Value.{Num}
-use Rattle.floatlaws.specs.Order.{Le, to-le, Same, to-eq}
+use Rattle.floatlaws.specs.Order.{to-le, to-eq}
 use Rattle.floatlaws.specs.Ops.{int-rounds}
 use Rattle.floatlaws.specs.Mono.{int-mono}
 use Rattle.illum.specs.Refusals.{badModelSide}

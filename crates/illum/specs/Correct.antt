@@ -1,9 +1,9 @@
 -- The correction of an observed colour, and the models that correct nothing: the Rust's `correct` and `identity`. Definitions only.
-use mathlib.Core.Bool.{Bool, false}
+use mathlib.Core.Bool.{false}
 use mathlib.Core.List.{List, [], _∷_}
 use Prim.Native.Nat.{ℕ}
 use lib.IntN.{pos}
-use lib.ListN.{getD, replicate}
+use lib.ListN.{getD}
 use lib.Ieee.{Float, nan, fin, binary32, binary64, add, mul, ofInt}
 use Rattle.float.specs.Single.{toSingle}
 use Rattle.color.specs.declared.Linear.{Linear}

@@ -1,5 +1,5 @@
 -- The polynomial surfaces of the illumination model, and one channel's inverse: the Rust's `basis` and `deshade`, in its order of operations. Definitions only.
-use mathlib.Core.Bool.{Bool, true, false, cond}
+use mathlib.Core.Bool.{Bool, false, cond}
 use mathlib.Core.List.{List, [], _∷_}
 use Prim.Native.Nat.{ℕ}
 use lib.Dec.{eqb}

@@ -2,18 +2,18 @@
 use mathlib.Core.Path.{_≡_, refl, sym, ap, _∙_}
 use mathlib.Core.Logic.{_⊎_, inl, inr}
 use mathlib.Core.Bool.{Bool, true, false, cond, _||_}
-use Prim.Native.Nat.{ℕ, _+_, _-_, _*_, _≤_, _<_}
+use Prim.Native.Nat.{ℕ, zero, suc, _+_, _-_, _*_, _≤_, _<_}
 use native.Mathlib.Nat.{lt-irrefl, lt-of-lt-of-le, le-of-eq, mul-pos, zero-mul}
 use native.Mathlib.Omega.{arith}
-use lib.Dec.{T}
+use lib.IntN.{ℤ, pos}
+use lib.Dec.{T, eqb·suc-zero}
 use lib.Ieee.{Float, nan, inf, fin, binary32, up, down, unlike, round, add, mul, div, lt, isNan, fits}
 use lib.Ieee.Fits.{down-pos}
 use lib.Ieee.Scale.{finite}
 use Rattle.floatlaws.specs.Value.{mag, hi, lo, unit, Num, overflow-pos}
 use Rattle.floatlaws.specs.Near.{near, near-zero, round-num, lo-round, Rounds}
 use Rattle.floatlaws.specs.Finite.{Fin, num, add-num, div-num}
-use Rattle.floatlaws.specs.Ops.{add-rounds, div-rounds}
-use Rattle.float.specs.Select.{min}
+use Rattle.floatlaws.specs.Ops.{mag-pos, add-rounds, div-rounds}
 use Rattle.float.specs.Root.{sqrtOf}
 use Rattle.float.proofs.Roots.{sqrt-num}
 use Rattle.stats.specs.Arithmetic.{_⊕_, _⊗_, _⊘_, squared}
@@ -108,25 +108,5 @@ pub div-plus : {x y : Float} → Plus x → Fin binary32 y → 0 < hi binary32 y
 div-plus {x} {y} p q h =
     from-plus (div-rounds (p .num) (num q) h (div-num (p .num) q h)) (mul-none (lo binary32 x) (unit binary32) (p .none))
 
-pub sqrt-plus : (x : Float) → Plus x → Plus (sqrtOf x)
-sqrt-plus x p = let r = sqrt-num (p .num) (p .none) in record { num = r .0; none = r .1 }
-
--- the smaller of a number and what may be none is a number
-pick : (b : Bool) (x y : Float) → Plus x → Plus y → Plus (cond b y x)
-pick true x y p q = q
-pick false x y p q = p
-
-nan-less : (x : Float) → lt nan x ≡ false
-unfolding lt
-nan-less x = refl
-
-not-nan : (x : Float) → Num binary32 x → isNan x ≡ false
-unfolding isNan
-not-nan nan p = absurd (p .real)
-not-nan (inf s) p = refl
-not-nan (fin s m e) p = refl
-
-pub min-plus : (x y : Float) → Plus x → Plain y → Plus (min x y)
-unfolding min
-min-plus x y p (inr q) = pick (lt y x || isNan x) x y p q
-min-plus x y p (inl e) = rw (e, nan-less, not-nan x (p .num)) p
+pub sqrt-plus : {x : Float} → Plus x → Plus (sqrtOf x)
+sqrt-plus p = let r = sqrt-num (p .num) (p .none) in record { num = r .0; none = r .1 }

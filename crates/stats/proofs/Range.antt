@@ -1,4 +1,4 @@
--- The range of a noise record that passes sentences 8 and 9, and of its `luma_llr`: at a lightness up to 2^100 in magnitude each step of the formula is finite up to the product, the divisor is finite and
+-- The range of a noise record that passes sentences 8 and 9, and of its `luma_llr`: at a lightness up to 2^36 in magnitude, as every colour that the stage accepts has it, each step of the formula is finite up to the product, the divisor is finite and
 -- above zero, so the quotient is a number, and the clamp holds it to ±20. Assumes nothing.
 use mathlib.Core.Path.{_≡_, refl, sym, ap, _∙_, subst}
 use mathlib.Core.Bool.{Bool, true, false, not, _&&_}
@@ -15,6 +15,7 @@ use Rattle.floatlaws.specs.Interval.{In, within, point, in-pos, add-in, sub-in,
 use Rattle.float.specs.Select.{clamp}
 use Rattle.float.proofs.Select.{clamp-num, clamp-range}
 use Rattle.color.specs.Color.{whole, fraction}
+use Rattle.color.proofs.Bounded.{Within}
 use Rattle.stats.specs.declared.ChannelStats.{ChannelStats}
 use Rattle.stats.specs.Arithmetic.{_⊕_, _⊖_, _⊗_, _⊘_}
 use Rattle.stats.specs.Noise.{lumaLlr}
@@ -55,16 +56,16 @@ was-true true e = refl
 was-true false e = let z : _≡_ {A = ℕ} 0 1 = cc in absurd (omega arith)
 
 -- a figure of a record, as an f32 that sentence 8 lets pass
-pub figure-in : (v : Float) → T (fits binary32 v) → wildFigure v ≡ false → In binary32 (neg (whole (2 ^ 40))) (whole (2 ^ 40)) v
+figure-in : (v : Float) → T (fits binary32 v) → wildFigure v ≡ false → Within 40 v
 unfolding wildFigure
 figure-in v t h =
-    let p = both (le v (whole (2 ^ 40))) (le (neg (whole (2 ^ 40))) v) (was-true (le v (whole (2 ^ 40)) && le (neg (whole (2 ^ 40))) v) h) in
-    let n : Num binary32 v = record { fit = t; real = le-real v (whole (2 ^ 40)) (p .0) } in
-    within (neg-fin (most-is .is)) (most-is .is) n
-    (of-le (num (neg-fin (most-is .is))) n (to-T (le (neg (whole (2 ^ 40))) v) (p .1)))
-    (of-le n (most-is .num) (to-T (le v (whole (2 ^ 40))) (p .0)))
+    let m = whole (2 ^ 40) in
+    let f = most-is .is in
+    let p = both (le v m) (le (neg m) v) (was-true (le v m && le (neg m) v) h) in
+    let n : Num binary32 v = record { fit = t; real = le-real v m (p .0) } in
+    within (neg-fin f) f n (of-le (num (neg-fin f)) n (to-T (le (neg m) v) (p .1))) (of-le n (num f) (to-T (le v m) (p .0)))
 
-sigma-in : (v : Float) → In binary32 (neg (whole (2 ^ 40))) (whole (2 ^ 40)) v → lt v (fraction 75 100) ≡ false → In binary32 (fraction 75 100) (whole (2 ^ 40)) v
+sigma-in : (v : Float) → Within 40 v → lt v (fraction 75 100) ≡ false → In binary32 (fraction 75 100) (whole (2 ^ 40)) v
 sigma-in v p h = within (least-is .is) (p .to) (num (p .is)) (of-not-lt (num (p .is)) (least-is .num) (rw h tt)) (p .high)
 
 -- the record's figures are f32 values
@@ -78,12 +79,12 @@ pub record Held (n : ChannelStats) : Type 0 where
 
 -- and stand in these ranges
 pub record Good (n : ChannelStats) : Type 0 where
-  pub l0 : In binary32 (neg (whole (2 ^ 40))) (whole (2 ^ 40)) (n .l0)
-  pub l1 : In binary32 (neg (whole (2 ^ 40))) (whole (2 ^ 40)) (n .l1)
+  pub l0 : Within 40 (n .l0)
+  pub l1 : Within 40 (n .l1)
   pub sigma-l : In binary32 (fraction 75 100) (whole (2 ^ 40)) (n .«sigma_l»)
   pub sigma-ab : In binary32 (fraction 75 100) (whole (2 ^ 40)) (n .«sigma_ab»)
-  pub sigma-ab-dark : In binary32 (neg (whole (2 ^ 40))) (whole (2 ^ 40)) (n .«sigma_ab_dark»)
-  pub sigma-ab-light : In binary32 (neg (whole (2 ^ 40))) (whole (2 ^ 40)) (n .«sigma_ab_light»)
+  pub sigma-ab-dark : Within 40 (n .«sigma_ab_dark»)
+  pub sigma-ab-light : Within 40 (n .«sigma_ab_light»)
   pub dark-level : badLevelSigma (n .«sigma_ab_dark») ≡ false
   pub light-level : badLevelSigma (n .«sigma_ab_light») ≡ false
 
@@ -110,10 +111,6 @@ good n f h k =
     }
 
 -- ---- `luma_llr`
-
--- a lightness far beyond that of any colour that the stage corrects
-abbrev pub Lightness : Float → Type 0
-Lightness l = In binary32 (neg (whole (2 ^ 100))) (whole (2 ^ 100)) l
 
 order : T (le (neg (whole 20)) (whole 20))
 unfolding le neg fraction round
@@ -142,7 +139,7 @@ module _ (n : ChannelStats) (g : Good n) where
   unfolding mul fraction round
   spread-above = in-pos spread tt
 
-  module _ (l : Float) (p : Lightness l) where
+  module _ (l : Float) (p : Within 36 l) where
     lead : Fin binary32 (n .l0 ⊕ n .l1 ⊖ whole 2 ⊗ l)
     unfolding add sub mul neg fraction round
     lead = sub-in (add-in (g .l0) (g .l1) tt) (mul-in-signed (point (two-is .is)) p tt) tt .is

@@ -1,14 +1,15 @@
 -- `reliability` is a number from 0 to 1, for every record, sample and palette: the smallest distance starts at +∞ and `min` passes over a NaN, so it is never below zero and never a NaN,
 -- and 1 divided by 1 and more is at most 1. Assumes nothing.
-use mathlib.Core.Path.{_≡_, refl, sym, ap, _∙_}
+use mathlib.Core.Path.{_≡_, refl, sym, ap, _∙_, subst}
 use mathlib.Core.List.{List}
-use mathlib.Core.Bool.{Bool}
+use mathlib.Core.Logic.{_⊎_, inl, inr}
+use mathlib.Core.Bool.{false, not}
 use Prim.Native.Nat.{ℕ, _+_, _*_, _≤_, _<_, zero-le}
 use native.Mathlib.Nat.{mul-one, one-mul, zero-mul, mul-le-mul-left, le-of-eq, le-trans}
 use native.Mathlib.Omega.{arith}
 use lib.Dec.{T}
-use lib.Ieee.{Float, inf, binary32, sub, div, round, fits}
-use lib.Ieee.Fits.{sub-fits, div-fits}
+use lib.Ieee.{Float, inf, binary32, round, fits, isNan}
+use lib.Ieee.Fits.{add-fits, div-fits}
 use Rattle.loops.proofs.Laws.{forUp-to}
 use Rattle.floatlaws.specs.Value.{unit, unit-pos, mag, hi, lo, Num}
 use Rattle.floatlaws.specs.Order.{Le, sides}
@@ -17,13 +18,14 @@ use Rattle.floatlaws.specs.Finite.{Fin, num, add-num, div-num'}
 use Rattle.floatlaws.specs.Ops.{add-rounds, div-rounds}
 use Rattle.floatlaws.specs.Const.{Const, const, isConst}
 use Rattle.floatlaws.specs.Interval.{In, within}
+use Rattle.float.proofs.Select.{Least, least-start, least-step}
 use Rattle.color.specs.declared.Lab.{Lab}
 use Rattle.color.specs.Color.{whole, fraction}
 use Rattle.color.specs.Palette.{paletteLab}
 use Rattle.stats.specs.declared.ChannelStats.{ChannelStats}
 use Rattle.stats.specs.Arithmetic.{_⊕_, _⊖_, _⊘_, squared}
 use Rattle.stats.specs.Noise.{sigmaAbAt, distance, closer, nearest, weight, reliability}
-use Rattle.stats.proofs.Plus.{Plus, Plain, infinite, square, square-plain, add-plus, add-plain, div-plus, sqrt-plus, min-plus}
+use Rattle.stats.proofs.Plus.{Plus, Plain, infinite, square, square-plain, add-plus, add-plain, div-plus, sqrt-plus}
 
 pub zero-is : Const binary32 (whole 0) 0 0 1
 unfolding fraction round isConst
@@ -60,11 +62,28 @@ distance-plain n sample c =
     let db = squared ((sample .b ⊖ c .b) ⊘ s) in
     add-plain (dl ⊕ da) db (add-plain dl da (term (sample .l) (c .l) (n .«sigma_l»)) (term (sample .a) (c .a) s)) (term (sample .b) (c .b) s)
 
-pub nearest-plus : (n : ChannelStats) (sample : Lab) (palette : List Float) (hues : ℕ) → Plus (nearest n sample palette hues)
+-- the smallest distance: `min` from +∞ on is a number, at most each distance that is one, and at least what is at most all of these
+distance-fits : (n : ChannelStats) (sample c : Lab) → T (fits binary32 (distance n sample c))
+unfolding distance
+distance-fits n sample c = add-fits binary32 _ _
+
+pub nearest-least : (n : ChannelStats) (sample : Lab) (palette : List Float) (hues : ℕ) →
+    Least binary32 (λ i. distance n sample (paletteLab palette hues i)) (2 * hues) (nearest n sample palette hues)
 unfolding closer
+nearest-least n sample palette hues =
+    forUp-to (Least binary32 (λ i. distance n sample (paletteLab palette hues i))) (closer n sample palette hues) (2 * hues) 0 (inf false) zero-le
+    (least-start binary32 (λ i. distance n sample (paletteLab palette hues i))) (λ i q r d p. least-step (distance-fits n sample (paletteLab palette hues i)) p)
+
+-- so it is not below zero
+at-least-zero : (x : Float) → Num binary32 x → Plain x → Le binary32 (whole 0) x
+at-least-zero x p (inl e) = absurd (unfold isNan in (subst (λ (y : Float). T (not (isNan y))) e (p .real)))
+at-least-zero x p (inr q) = omega (arith, zero-is .hi, zero-is .lo, q .none)
+
+pub nearest-plus : (n : ChannelStats) (sample : Lab) (palette : List Float) (hues : ℕ) → Plus (nearest n sample palette hues)
 nearest-plus n sample palette hues =
-    forUp-to (λ i d. Plus d) (closer n sample palette hues) (2 * hues) 0 (inf Bool.false) zero-le infinite
-    (λ i l h d p. min-plus d (distance n sample (paletteLab palette hues i)) p (distance-plain n sample (paletteLab palette hues i)))
+    let l = nearest-least n sample palette hues in
+    let z = sides (l .ge (whole 0) (zero-is .num) (λ i h p. at-least-zero (distance n sample (paletteLab palette hues i)) p (distance-plain n sample (paletteLab palette hues i)))) in
+    record { num = l .num; none = omega (arith, zero-is .lo) }
 
 -- ---- the weight
 
@@ -98,7 +117,7 @@ inverse s p h =
 pub weight-in : (d : Float) → Plus d → In binary32 (whole 0) (whole 1) (weight d)
 unfolding weight
 weight-in d p =
-    let t = div-plus (sqrt-plus d p) (three-is .is) three-above in
+    let t = div-plus (sqrt-plus p) (three-is .is) three-above in
     let q = square _ (t .num) in
     let s = one-more _ (square _ (q .num)) in
     inverse _ (s .0 .num) (s .1)

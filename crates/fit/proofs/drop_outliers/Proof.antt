@@ -1,17 +1,17 @@
 -- `fit::drop_outliers` meets its contract: sigma of the residuals, and then the rejection among the live marks; a count up to 16,384 is a u32.
 -- Assumes nothing.
-use mathlib.Core.Path.{_≡_, refl, sym, ap, _∙_}
+use mathlib.Core.Path.{_≡_, sym, ap, _∙_}
 use mathlib.Core.List.{List, _++_}
-use Prim.Native.Nat.{ℕ, _+_, _-_, _*_, _≤_}
+use Prim.Native.Nat.{ℕ, _+_, _-_, _*_}
 use native.Mathlib.Omega.{arith}
 use borrow.Rule.Slice.PartMut.{putMid, same-len-mid}
-use lib.ListN.{length, take, drop, length-drop, length-append}
+use lib.ListN.{length, take, drop, length-drop}
 use lib.Seq.{length-take-le, take-append-le, take-take}
 use lib.Ieee.{Float}
 use Rattle.order.specs.Deviation.{sigmaOf}
 use Rattle.illum.specs.declared.IlluminationModel.{IlluminationModel}
-use Rattle.fit.specs.Residual.{threeSigma, limitOf, Rejection, rejection, rejectAbove}
-use Rattle.fit.specs.Fit.{withCounts, Dropped, dropped, counted, droppedOf}
+use Rattle.fit.specs.Residual.{threeSigma, limitOf, rejection, rejectAbove}
+use Rattle.fit.specs.Fit.{withCounts, dropped, counted, droppedOf}
 use Rattle.fit.proofs.Parts.{part-before, part-is, second-half}
 use borrow.Author.Needs.{needs}
 use Rattle.fit.proofs.drop_outliers.Statement.{statement}

@@ -1,19 +1,19 @@
 -- `fit::fit_counted` meets its contract: the number that was found, or what the passes give, with the scratch that they used cleared.
 -- Assumes nothing.
-use mathlib.Core.Path.{_≡_, refl, sym, ap, _∙_}
+use mathlib.Core.Path.{_≡_, sym, ap, _∙_}
 use mathlib.Core.Bool.{false}
 use mathlib.Core.List.{List, _++_}
 use Prim.Native.Nat.{ℕ, _+_, _*_, _≤_}
 use native.Mathlib.Omega.{arith}
-use lib.ListN.{length, take, drop, replicate, length-append, length-drop}
+use lib.ListN.{length, take, drop, replicate, length-append}
 use lib.Seq.{length-take-le, drop-at}
 use lib.Ieee.{Float}
 use Rattle.sentences.specs.Sentences.{refusal}
 use Rattle.order.specs.Median.{zero32}
 use Rattle.order.specs.Deviation.{cleared}
 use Rattle.illum.specs.declared.Modelled.{Modelled}
-use Rattle.fit.specs.Fit.{Ran, ran, fitted, termsFor, Final, final, request, sentencesOf, fitOf}
-use Rattle.fit.proofs.Accepted.{Accepted, accepted, turned-away, taken}
+use Rattle.fit.specs.Fit.{Ran, ran, fitted, termsFor, final, request, sentencesOf, fitOf}
+use Rattle.fit.proofs.Accepted.{accepted, turned-away, taken}
 use borrow.Author.Needs.{needs}
 use Rattle.fit.proofs.fit_counted.Statement.{statement}
 use Rattle.fit.proofs.fit_counted.Tie as tie

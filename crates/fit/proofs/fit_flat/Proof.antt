@@ -1,12 +1,11 @@
 -- `fit::fit_flat` meets its contract: a slice of whole references is counted; else 2 or 5, which stands before every other sentence.
 -- Assumes nothing.
-use mathlib.Core.Path.{_≡_, refl, sym, ap, _∙_}
-use mathlib.Core.Bool.{Bool, true, false, not, _||_}
+use mathlib.Core.Path.{_≡_, sym, ap, _∙_}
+use mathlib.Core.Bool.{Bool, true, false, not}
 use mathlib.Core.List.{List}
-use Prim.Native.Nat.{ℕ, _*_, _/_, _%_, _≤_}
+use Prim.Native.Nat.{ℕ, _/_, _%_}
 use native.Mathlib.Omega.{arith}
 use borrow.Author.Tests.{eq-eqb, ne-eqb}
-use lib.Dec.{eqb}
 use lib.ListN.{length}
 use lib.Ieee.{Float}
 use Rattle.sentences.specs.Sentences.{refusal}
@@ -14,7 +13,7 @@ use Rattle.limits.specs.Limits.{badSide}
 use Rattle.illum.specs.declared.IlluminationModel.{IlluminationModel}
 use Rattle.illum.specs.Correct.{noModel}
 use Rattle.illum.specs.Refusals.{modelled}
-use Rattle.fit.specs.Fit.{fitSentences, Final, final, request, flatRequest, sentencesOf, fitOf}
+use Rattle.fit.specs.Fit.{fitSentences, Final, final, request, flatRequest, fitOf}
 use Rattle.fit.proofs.Accepted.{turned-away}
 use borrow.Author.Needs.{needs}
 use Rattle.fit.proofs.fit_flat.Statement.{statement}

@@ -1,13 +1,12 @@
 -- `fit::refit` meets its contract: pass two from the model whose outliers are dropped: without a solution, not finite, or the end.
 -- Assumes nothing.
-use mathlib.Core.Path.{_≡_, refl, sym, ap, _∙_}
-use mathlib.Core.Bool.{true, false, not}
+use mathlib.Core.Path.{_≡_, sym, ap, _∙_}
+use mathlib.Core.Bool.{true, false}
 use mathlib.Core.List.{List}
-use Prim.Native.Nat.{ℕ, _*_, _≤_}
+use Prim.Native.Nat.{ℕ}
 use native.Mathlib.Omega.{arith}
 use native.Mathlib.Nat.{le-of-eq}
 use borrow.Author.Tests.{not-true, not-false}
-use lib.ListN.{length, take}
 use lib.Seq.{length-take-le}
 use lib.Ieee.{Float}
 use Rattle.illum.specs.declared.IlluminationModel.{IlluminationModel}

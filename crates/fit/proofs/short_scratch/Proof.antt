@@ -7,7 +7,6 @@ use native.Mathlib.Omega.{arith}
 use lib.Dec.{ltb}
 use borrow.Author.Tests.{lt-ltb, le-ltb, ltb-true, ltb-false}
 use Rattle.fit.specs.Fit.{shortScratch}
-use borrow.Author.Needs.{needs}
 use Rattle.fit.proofs.short_scratch.Statement.{statement}
 use Rattle.fit.proofs.short_scratch.Tie as tie
 

@@ -4,7 +4,6 @@ use mathlib.Core.Path.{_≡_}
 use Prim.Native.Nat.{ℕ, _<_, _≤_}
 use borrow.Author.Tests.{lt-ltb, le-ltb}
 use Rattle.fit.specs.Fit.{termsFor}
-use borrow.Author.Needs.{needs}
 use Rattle.fit.proofs.terms_for.Statement.{statement}
 use Rattle.fit.proofs.terms_for.Tie as tie
 

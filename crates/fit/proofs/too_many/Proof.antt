@@ -1,7 +1,6 @@
 -- `fit::too_many` meets its contract: its test.
 -- Assumes nothing.
 use Rattle.fit.specs.Fit.{tooMany}
-use borrow.Author.Needs.{needs}
 use Rattle.fit.proofs.too_many.Statement.{statement}
 use Rattle.fit.proofs.too_many.Tie as tie
 

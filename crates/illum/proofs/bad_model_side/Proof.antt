@@ -1,12 +1,12 @@
 -- `illum::bad_model_side` meets its contract, by its three tests; what lies between 1 and 1,024 has a whole part, and that is an f32.
 -- Assumes nothing.
-use mathlib.Core.Path.{_≡_, refl, sym, subst}
-use mathlib.Core.Bool.{Bool, true, false, not}
+use mathlib.Core.Path.{_≡_}
+use mathlib.Core.Bool.{true, false}
 use Prim.Native.Nat.{ℕ}
 use native.Mathlib.Omega.{arith}
-use lib.Dec.{T, le→leb}
+use lib.Dec.{le→leb}
 use lib.IntN.{pos}
-use lib.Ieee.{Float, binary32, le, ne, eq, ofBits, ofInt, inFloat, toUnsigned}
+use lib.Ieee.{Float, binary32, le, ne, ofBits, ofInt, inFloat, toUnsigned}
 use Rattle.illum.specs.Refusals.{badModelSide}
 use Rattle.illum.proofs.Side.{one-is, most-is, above, below, cut}
 use Rattle.illum.proofs.bad_model_side.Statement.{statement}

@@ -1,10 +1,9 @@
 -- `illum::bad_terms` meets its contract, by its two tests.
 -- Assumes nothing.
 use mathlib.Core.Path.{_≡_}
-use mathlib.Core.Bool.{Bool, false, not}
+use mathlib.Core.Bool.{false, not}
 use Prim.Native.Nat.{ℕ}
 use lib.Dec.{eqb}
-use borrow.Author.Needs.{needs}
 use borrow.Author.Tests.{ne-eqb}
 use Rattle.illum.specs.Refusals.{badTerms}
 use Rattle.illum.proofs.bad_terms.Statement.{statement}

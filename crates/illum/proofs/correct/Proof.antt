@@ -1,6 +1,6 @@
 -- `illum::correct` meets its contract: the number that was found, or the core's colour.
 -- Assumes nothing.
-use mathlib.Core.Path.{_≡_, ap}
+use mathlib.Core.Path.{_≡_}
 use Prim.Native.Nat.{ℕ}
 use lib.Ieee.{Float}
 use borrow.Author.Needs.{needs}

@@ -2,7 +2,6 @@
 -- Assumes nothing.
 use mathlib.Core.Path.{refl}
 use lib.Ieee.{ofBits}
-use borrow.Author.Needs.{needs}
 use Rattle.illum.specs.Correct.{noModel}
 use Rattle.illum.proofs.no_model.Statement.{statement}
 use Rattle.illum.proofs.no_model.Tie as tie

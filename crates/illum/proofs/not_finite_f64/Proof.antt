@@ -1,10 +1,9 @@
 -- `illum::not_finite_f64` meets its contract: a number is finite where it lies between the infinities.
 -- Assumes nothing.
 use mathlib.Core.Path.{_≡_, refl}
-use mathlib.Core.Bool.{Bool, true, false, not}
+use mathlib.Core.Bool.{true, false, not}
 use lib.Ieee.{Float, nan, inf, fin, lt, div, neg, ofBits}
 use lib.Ieee.Scale.{finite}
-use borrow.Author.Needs.{needs}
 use Rattle.illum.proofs.not_finite_f64.Statement.{statement}
 use Rattle.illum.proofs.not_finite_f64.Tie as tie
 

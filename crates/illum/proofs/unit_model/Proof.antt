@@ -4,7 +4,6 @@ use mathlib.Core.Path.{refl}
 use lib.Dec.{le→leb}
 use lib.Ieee.{ofBits, inFloat}
 use native.Mathlib.Omega.{arith}
-use borrow.Author.Needs.{needs}
 use Rattle.illum.specs.Correct.{unitModel}
 use Rattle.illum.proofs.unit_model.Statement.{statement}
 use Rattle.illum.proofs.unit_model.Tie as tie

@@ -5,7 +5,7 @@ use mathlib.Core.Bool.{Bool, true, false}
 use mathlib.Core.List.{List}
 use Prim.Native.Nat.{ℕ}
 use lib.Ieee.{Float}
-use Rattle.math.specs.Gauss.{System, system}
+use Rattle.math.specs.Gauss.{system}
 use Rattle.math.specs.Normal.{addRow}
 use Rattle.illum.specs.declared.IlluminationModel.{IlluminationModel}
 use Rattle.fit.specs.References.{isLive, nominalOf}

@@ -1,8 +1,5 @@
 -- `fit::once::finish` meets its contract: an array of 18 has room for the unknowns.
 -- Assumes nothing.
-use mathlib.Core.Path.{_≡_}
-use Prim.Native.Nat.{ℕ, _≤_}
-use native.Mathlib.Omega.{arith}
 use borrow.Author.Needs.{needs}
 use Rattle.fit.proofs.once.finish.Statement.{statement}
 use Rattle.fit.proofs.once.finish.Tie as tie

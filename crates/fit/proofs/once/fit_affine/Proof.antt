@@ -1,18 +1,17 @@
 -- `fit::once::fit_affine` meets its contract: what is left of the channels from c on gives the rest, or no solution.
 -- Assumes nothing.
-use mathlib.Core.Path.{_≡_, refl, sym, ap, _∙_}
-use mathlib.Core.Bool.{Bool, true, false, not}
-use mathlib.Core.List.{List, []}
+use mathlib.Core.Path.{_≡_, ap}
+use mathlib.Core.Bool.{true, false, not}
+use mathlib.Core.List.{List}
 use Prim.Native.Nat.{ℕ, _+_, _-_, _<_, _≤_}
 use borrow.Author.Tests.{not-true, not-false}
-use lib.ListN.{length, set}
+use lib.ListN.{set}
 use lib.Ieee.{Float, ofBits}
 use Rattle.loops.specs.Loops.{Turn, go, out, forTry}
 use Rattle.loops.proofs.Laws.{LeftTry, turn-try, out-try, done-try, loops}
 use Rattle.illum.specs.declared.IlluminationModel.{IlluminationModel}
 use Rattle.fit.specs.declared.once.Row.{Row}
-use Rattle.fit.specs.declared.once.Affine.{Affine}
-use Rattle.fit.specs.Once.{noRow, noRows, fitRow, fitRowAt, rowsOf, affineOf}
+use Rattle.fit.specs.Once.{noRows, fitRow, fitRowAt, rowsOf, affineOf}
 use borrow.Author.Needs.{needs}
 use Rattle.fit.proofs.once.fit_affine.Statement.{statement}
 use Rattle.fit.proofs.once.fit_affine.Tie as tie

@@ -1,13 +1,13 @@
 -- `fit::once::fit_surface` meets its contract: fewer live references than unknowns, a solution, or none.
 -- Assumes nothing.
-use mathlib.Core.Path.{_≡_, refl, sym, ap, _∙_}
+use mathlib.Core.Path.{_≡_}
 use mathlib.Core.Bool.{Bool, true, false}
 use mathlib.Core.List.{List}
 use Prim.Native.Nat.{ℕ, _<_, _≤_}
 use borrow.Author.Tests.{lt-ltb, le-ltb}
 use lib.ListN.{replicate}
 use lib.Ieee.{Float, ofBits}
-use Rattle.math.specs.Gauss.{Settled, System, system, settled}
+use Rattle.math.specs.Gauss.{system, settled}
 use Rattle.math.specs.Normal.{finish}
 use Rattle.illum.specs.Surface.{zero64}
 use Rattle.fit.specs.declared.once.Plan.{Plan}

@@ -2,7 +2,7 @@
 -- Assumes nothing.
 use mathlib.Core.Path.{_≡_}
 use mathlib.Core.List.{List}
-use Prim.Native.Nat.{ℕ, _≤_}
+use Prim.Native.Nat.{ℕ}
 use lib.Ieee.{Float}
 use Rattle.math.specs.Gauss.{System}
 use Rattle.math.specs.Normal.{addRow}

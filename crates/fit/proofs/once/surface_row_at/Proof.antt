@@ -5,7 +5,7 @@ use mathlib.Core.Bool.{Bool, true, false}
 use mathlib.Core.List.{List}
 use Prim.Native.Nat.{ℕ}
 use lib.Ieee.{Float}
-use Rattle.math.specs.Gauss.{System, system}
+use Rattle.math.specs.Gauss.{system}
 use Rattle.fit.specs.declared.once.Plan.{Plan}
 use Rattle.fit.specs.References.{isLive}
 use Rattle.fit.specs.Once.{surfaceRow, surfaceRowAt}

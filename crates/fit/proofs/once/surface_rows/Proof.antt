@@ -1,8 +1,6 @@
 -- `fit::once::surface_rows` meets its contract: what is left from i on adds the rest.
 -- Assumes nothing.
-use mathlib.Core.Path.{_≡_}
 use Prim.Native.Nat.{_-_}
-use lib.ListN.{length}
 use Rattle.loops.proofs.Laws.{Left, loops}
 use Rattle.math.specs.Gauss.{system}
 use Rattle.fit.specs.Once.{surfaceRowAt, surfaceRows}

@@ -2,7 +2,6 @@
 -- Assumes nothing.
 use mathlib.Core.Path.{refl}
 use lib.Ieee.{ofBits}
-use borrow.Author.Needs.{needs}
 use Rattle.fit.proofs.once.unit_surface.Statement.{statement}
 use Rattle.fit.proofs.once.unit_surface.Tie as tie
 

@@ -1,13 +1,13 @@
 -- `fit::residual::copy_up` meets its contract: before turn i the first i numbers are copied, and the first half is as it was.
 -- Assumes nothing.
-use mathlib.Core.Path.{_≡_, sym, _∙_}
+use mathlib.Core.Path.{_≡_, sym}
 use mathlib.Core.List.{List}
-use Prim.Native.Nat.{ℕ, _-_, _*_, _<_, _≤_}
+use Prim.Native.Nat.{ℕ, _-_, _*_}
 use native.Mathlib.Omega.{arith}
-use lib.ListN.{length, getD, take}
+use lib.ListN.{length, take}
 use lib.Seq.{length-take-le}
-use lib.Ieee.{Float, nan}
-use Rattle.fit.proofs.Halves.{Raised, raise-turn, raise-read, raises}
+use lib.Ieee.{Float}
+use Rattle.fit.proofs.Halves.{Raised, raise-read, raises}
 use borrow.Author.Needs.{needs}
 use Rattle.fit.proofs.residual.copy_up.Statement.{statement}
 use Rattle.fit.proofs.residual.copy_up.Tie as tie

@@ -1,11 +1,10 @@
 -- `fit::residual::reject_at` meets its contract: by its two tests.
 -- Assumes nothing.
-use mathlib.Core.Path.{_≡_, refl, sym, ap, _∙_}
+use mathlib.Core.Path.{_≡_, refl}
 use mathlib.Core.Bool.{true, false}
 use mathlib.Core.List.{List}
-use Prim.Native.Nat.{ℕ, _+_, _*_, _/_, _<_, _≤_}
-use native.Mathlib.Omega.{arith}
-use lib.ListN.{length, getD, set, take, drop}
+use Prim.Native.Nat.{ℕ, _+_, _/_, _<_, _≤_}
+use lib.ListN.{getD, set, take, drop}
 use lib.Seq.{take-set-lt, drop-set-lt, getD-drop}
 use lib.Ieee.{Float, nan, lt, ofBits}
 use borrow.Author.Tests.{lt-ltb, le-ltb}

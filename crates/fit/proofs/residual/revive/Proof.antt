@@ -1,10 +1,10 @@
 -- `fit::residual::revive` meets its contract: before turn i the first i marks are written.
 -- Assumes nothing.
 use mathlib.Core.Path.{_≡_, sym, ap, _∙_}
-use mathlib.Core.List.{List, [], _++_, append-nil}
+use mathlib.Core.List.{List, _++_, append-nil}
 use Prim.Native.Nat.{ℕ, _-_, _≤_, _<_}
 use native.Mathlib.Omega.{arith}
-use lib.ListN.{length, getD, drop, replicate, length-replicate, getD-replicate, drop-of-length-le}
+use lib.ListN.{length, getD, drop, length-replicate, getD-replicate, drop-of-length-le}
 use lib.Ieee.{Float, nan, ofBits}
 use Rattle.order.proofs.Fill.{Filling, fill-done, fills}
 use Rattle.fit.specs.References.{liveMark, allLive}

@@ -1,7 +1,6 @@
 -- `fit::residual::squared` meets its contract: one product.
 -- Assumes nothing.
 use Rattle.fit.specs.Residual.{squared}
-use borrow.Author.Needs.{needs}
 use Rattle.fit.proofs.residual.squared.Statement.{statement}
 use Rattle.fit.proofs.residual.squared.Tie as tie
 

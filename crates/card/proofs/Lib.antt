@@ -1,0 +1,4 @@
+pub mod Filled
+pub mod Signed
+pub mod Accepted
+pub mod Worked

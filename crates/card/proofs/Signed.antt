@@ -1,0 +1,42 @@
+-- 16 bits as a signed number: from 2^15 on, taking 2^16 off at 32 bits gives it, since nothing wraps there. Assumes nothing.
+use mathlib.Core.Path.{_≡_, ap, _∙_}
+use mathlib.Core.List.{List}
+use Prim.Native.Nat.{ℕ, suc, _-_, _≤_, _<_}
+use native.Mathlib.Omega.{arith}
+use borrow.Author.Tests.{lt-ltb, le-ltb}
+use lib.IntN.{ℤ, pos, negsuc, _-ℤ_}
+use mir.Syntax.{w32}
+use mir.Val.{SFits, toZ, ofZ}
+use mir.Facts.{toZ-ofZ}
+use Rattle.card.specs.Number.{u16At, i16Of, i16At}
+
+small : (n : ℕ) → n < 65536 → toZ w32 n ≡ pos n
+small n h = toZ-ofZ {w = w32} {z = pos n} (record { sfits = omega arith })
+
+pub low : (n : ℕ) → n < 65536 → n < 32768 → toZ w32 n ≡ i16Of n
+unfolding i16Of
+low n f h = small n f ∙ rw (lt-ltb n 32768 h)
+
+module _ (n : ℕ) (f : n < 65536) (h : 32768 ≤ n) where
+  less : toZ w32 n -ℤ pos 65536 ≡ i16Of n
+  unfolding i16Of
+  less =
+      ap (λ (z : ℤ). z -ℤ pos 65536) (small n f) ∙
+      rw (le-ltb n 32768 h, lt-ltb n 65536 f) (ap negsuc (counts n f))
+    where
+      counts : (n : ℕ) → n < 65536 → 65536 - suc n ≡ 65535 - n
+      counts n f = omega arith
+
+  in-range : SFits w32 (i16Of n)
+  unfolding i16Of
+  in-range = rw (le-ltb n 32768 h) (record { sfits = omega arith })
+
+  pub fits : SFits w32 (toZ w32 n -ℤ pos 65536)
+  fits = rw less in-range
+
+  pub high : toZ w32 (ofZ w32 (toZ w32 n -ℤ pos 65536)) ≡ i16Of n
+  high = toZ-ofZ fits ∙ less
+
+pub there : (s : List ℕ) (i n : ℕ) (x : ℤ) → n ≡ u16At s i → x ≡ i16Of n → SFits w32 x → toZ w32 (ofZ w32 x) ≡ i16At s i
+unfolding i16At
+there s i n x e f g = toZ-ofZ g ∙ f ∙ ap i16Of e

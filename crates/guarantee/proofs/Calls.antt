@@ -1,0 +1,58 @@
+-- The calls' contracts joined: whatever the five calls of a card give and leave, each handed what the one before it left, their bits are the bits read that the guarantee speaks of, and the card is accepted
+-- where each is done; so what a program reads from a card inside the margin is what the card was drawn from. Assumes nothing.
+use mathlib.Core.Path.{_≡_, refl, sym, ap, _∙_}
+use mathlib.Core.List.{List, _++_}
+use mathlib.Core.Bool.{true}
+use Prim.Native.Nat.{ℕ, _<_}
+use lib.ListN.{length, take}
+use lib.Ieee.{Float}
+use Rattle.limits.specs.Chroma.{chromaOn}
+use Rattle.modulate.specs.declared.Outcome.{Outcome}
+use Rattle.modulate.specs.declared.Outcome.the-variants as outcome
+use Rattle.modulate.specs.Score.{Ended, ended, unmaskLumaOf}
+use Rattle.modulate.specs.Read.{readListOf}
+use Rattle.demod.specs.Call as scoring
+use Rattle.refine.specs.declared.Outcome as refineOutcome
+use Rattle.refine.specs.declared.Outcome.the-variants as refined
+use Rattle.refine.specs.Calls as refinement
+use Rattle.guarantee.specs.Card.{Setting, Card, modules, chromaScores, drawnCard, toScore, scoredCard, refinedCard, unmaskedCard, lumaRead, chromaRead, Accepted, bitsDrawn, bitsRead}
+use Rattle.guarantee.specs.Guarantee.{Singles, InMargin, NearModule, NearCell, Readable}
+use Rattle.guarantee.proofs.Guarantee.{read-as-drawn}
+
+-- `score`, `add_local_luma`, `unmask_luma` and `read_list` twice: e, f, g, h and k are what their contracts say
+module _ (s : Setting) (c : Card) (r : Outcome) (luma colours chroma : List Float) (e : scoring.final r luma colours chroma ≡ scoring.scoredOf (toScore s c))
+    (r₂ : refineOutcome.Outcome) (luma₂ scratch : List Float) (f : refinement.final r₂ luma₂ scratch ≡ refinement.refineOf (refinement.request luma (s .side) (s .hues) (s .xs) (s .ys) (s .grid) colours (s .palette) (s .noise) (c .scratch)))
+    (r₃ : Outcome) (luma₃ : List Float) (g : ended r₃ luma₃ ≡ unmaskLumaOf luma₂ (s .side) (s .xs) (s .ys) (s .grid) (s .mask))
+    (r₄ : Outcome) (bits : List ℕ) (h : ended r₄ bits ≡ readListOf luma₃ (c .lumaBits)) (r₅ : Outcome) (chromaBits : List ℕ) (k : ended r₅ chromaBits ≡ readListOf chroma (c .chromaBits)) where
+  refine-is : refinement.final r₂ luma₂ scratch ≡ refinedCard s c
+  refine-is =
+      f ∙ ap (λ x. refinement.refineOf (refinement.request (x .luma) (s .side) (s .hues) (s .xs) (s .ys) (s .grid) (x .colours) (s .palette) (s .noise) (c .scratch))) e
+
+  unmask-is : ended r₃ luma₃ ≡ unmaskedCard s c
+  unmask-is = g ∙ ap (λ x. unmaskLumaOf (x .luma) (s .side) (s .xs) (s .ys) (s .grid) (s .mask)) refine-is
+
+  luma-is : ended r₄ bits ≡ lumaRead s c
+  luma-is = h ∙ ap (λ x. readListOf (x .list) (c .lumaBits)) unmask-is
+
+  chroma-is : ended r₅ chromaBits ≡ chromaRead s c
+  chroma-is = k ∙ ap (λ x. readListOf (x .chroma) (c .chromaBits)) e
+
+  pub joined : take (modules s) bits ++ take (chromaScores s) chromaBits ≡ bitsRead s c
+  unfolding bitsRead
+  joined = ap (λ x. take (modules s) (x .list) ++ take (chromaScores s) chromaBits) luma-is ∙ ap (λ x. take (modules s) (lumaRead s c .list) ++ take (chromaScores s) (x .list)) chroma-is
+
+  module _ (p : r ≡ outcome.Done) (q : r₂ ≡ refined.Done) (u : r₃ ≡ outcome.Done) (v : r₄ ≡ outcome.Done) (w : r₅ ≡ outcome.Done) where
+    pub all-done : Accepted s c
+    all-done =
+        record {
+          scoring = ap (λ x. x .answer) (sym e) ∙ p;
+          refinement = ap (λ x. x .answer) (sym refine-is) ∙ q;
+          unmasking = ap (λ x. x .answer) (sym unmask-is) ∙ u;
+          luma = ap (λ x. x .answer) (sym luma-is) ∙ v;
+          chroma = ap (λ x. x .answer) (sym chroma-is) ∙ w;
+        }
+
+    -- inside the margin, and near what was drawn, the program has the bits drawn
+    pub program-reads : Singles s → InMargin s → drawnCard s c .answer ≡ outcome.Done → ((i : ℕ) → i < modules s → NearModule s c i) →
+        (chromaOn (s .hues) ≡ true → (j : ℕ) → j < length (s .cxs) → NearCell s c j) → take (modules s) bits ++ take (chromaScores s) chromaBits ≡ bitsDrawn s c
+    program-reads S M D N C = joined ∙ read-as-drawn s c S M (record { drawing = D; accepted = all-done; module-near = N; cell-near = C }) .same

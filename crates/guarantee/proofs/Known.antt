@@ -1,0 +1,129 @@
+-- What a readable card's calls say: none of their sentences holds, so each left what its definition writes. Assumes nothing.
+use mathlib.Core.Path.{_≡_, refl, sym, ap, _∙_, subst}
+use mathlib.Core.Bool.{Bool, true, false, cond}
+use mathlib.Core.List.{List}
+use Prim.Native.Nat.{ℕ, zero, suc, _+_, _*_, _≤_, _<_}
+use native.Mathlib.Nat.{mod-lt}
+use native.Mathlib.Omega.{arith}
+use borrow.Author.Tests.{ltb-false}
+use lib.Dec.{ltb}
+use lib.ListN.{length, getD}
+use lib.Ieee.{Float, nan}
+use Rattle.sentences.specs.Sentences.{refusal, decided, at, sound, fresh}
+use Rattle.color.specs.Color.{whole}
+use Rattle.modulate.specs.declared.Outcome.the-variants as outcome
+use Rattle.modulate.specs.Gray.{chromaSymbolToHue}
+use Rattle.modulate.specs.Mask.{chromaMaskApply}
+use Rattle.modulate.specs.Draw.{gridLevel, ringLevel, cellHue, ringHue, levelAt, hueAt, entriesOf, symbolAt}
+use Rattle.modulate.specs.Score.{replaced, unmaskAt, unmasked, unmaskSentences, unmaskLumaOf, Ended, writtenOr}
+use Rattle.modulate.specs.Read.{reads, readAt, readList, readSentences, readListOf}
+use Rattle.modulate.proofs.Symbols.{bit-lt}
+use Rattle.modulate.proofs.Written.{Reached, reached}
+use Rattle.modulate.proofs.Answers.{list-done, none-of}
+use Rattle.modulate.proofs.Accepted.{IsDrawn, drawn-done}
+use Rattle.limits.specs.Chroma.{chromaOn, symbolBits}
+use Rattle.stats.specs.Margin.{inMargin}
+use Rattle.stats.specs.Calls as stats
+use Rattle.demod.specs.Call as scoring
+use Rattle.demod.proofs.Accepted as scored
+use Rattle.refine.specs.declared.Outcome.the-variants as refined
+use Rattle.refine.specs.Calls as refinement
+use Rattle.refine.proofs.Accepted as refining
+use Rattle.guarantee.specs.Card.{Setting, Card, modules, toDraw, drawnCard, toScore, scoredCard, toRefine, refinedCard, unmaskedCard, Accepted}
+use Rattle.guarantee.specs.Guarantee.{Singles, InMargin, Readable}
+use Rattle.guarantee.proofs.Range.{Held}
+use Rattle.guarantee.proofs.Sample.{Fits, said-yes}
+
+-- ---- a call that reads a list
+
+module _ (scores : List Float) (bits : List ℕ) (done : readListOf scores bits .answer ≡ outcome.Done) where
+  was-done : (0 ≡ refusal (readSentences scores bits)) × (readListOf scores bits .list ≡ readList scores bits)
+  unfolding readListOf
+  was-done = list-done (readSentences scores bits) bits (readList scores bits) done
+
+  read-room : length scores ≤ length bits
+  unfolding readSentences at sound fresh
+  read-room = ltb-false (length bits) (length scores) (none-of (readSentences scores bits) refl 0 (was-done .0) refl 5)
+
+  all-read : Reached 0 (readAt scores) bits (length scores) (readList scores bits)
+  all-read = reached 0 (readAt scores) bits (length scores) read-room
+
+  pub read-at : (i : ℕ) → i < length scores → getD (readListOf scores bits .list) i 0 ≡ reads (getD scores i nan)
+  read-at i h = ap (λ (l : List ℕ). getD l i 0) (was-done .1) ∙ all-read .done i h
+
+  pub read-long : length scores ≤ length (readListOf scores bits .list)
+  read-long = rw (was-done .1) (omega (arith, all-read .long, read-room))
+
+-- ---- refinement's number
+
+refine-by : (q : refinement.Request) (n : ℕ) → refinement.numberOf (decided n (refinement.turnedAway q) (refinement.finalOf (refinement.refinedOf q)) .answer) ≡ n
+unfolding decided
+refine-by q zero = refl
+refine-by q (suc n) = refl
+
+refine-number : (q : refinement.Request) → refinement.numberOf (refinement.refineOf q .answer) ≡ refusal (refinement.sentencesOf q)
+unfolding refinement.refineOf
+refine-number q = refine-by q (refusal (refinement.sentencesOf q))
+
+score-none : scoring.numberOf outcome.Done ≡ 0
+unfolding scoring.numberOf
+score-none = refl
+
+-- ---- levels and hues
+
+either : (b : Bool) (x y n : ℕ) → x < n → y < n → cond b x y < n
+either true x y n p q = p
+either false x y n p q = q
+
+pub level-two : (bits : List ℕ) (s : Setting) (i : ℕ) → levelAt bits (s .xs) (s .ys) (s .grid) (s .mask) i < 2
+unfolding levelAt gridLevel ringLevel
+level-two bits s i = either (ltb i (s .grid)) _ _ 2 (bit-lt _) (bit-lt _)
+
+pub hue-below : (bits : List ℕ) (hues m : ℕ) (cxs cys : List ℕ) (j : ℕ) → 0 < hues → hueAt bits hues m cxs cys j < hues
+unfolding hueAt cellHue ringHue chromaMaskApply chromaSymbolToHue
+hue-below bits hues m cxs cys j h = either (ltb j (length cxs)) _ _ hues (mod-lt _ h) (mod-lt _ h)
+
+module _ (s : Setting) (c : Card) (R : Readable s c) where
+  -- drawing
+  pub is-drawn : IsDrawn (toDraw s c)
+  is-drawn = drawn-done (toDraw s c) (R .drawing)
+
+  pub drawn-level : (i : ℕ) → i < modules s → getD (drawnCard s c .levels) i 0 ≡ levelAt (c .bits) (s .xs) (s .ys) (s .grid) (s .mask) i
+  drawn-level i h = ap (λ d. getD (d .levels) i 0) (is-drawn .left) ∙ is-drawn .level i h
+
+  pub drawn-hue : chromaOn (s .hues) ≡ true → (j : ℕ) → j < entriesOf (modules s) (s .grid) (length (s .cxs)) (s .size) → getD (drawnCard s c .hues) j 0 ≡ hueAt (c .bits) (s .hues) (modules s) (s .cxs) (s .cys) j
+  drawn-hue on j h = ap (λ d. getD (d .hues) j 0) (is-drawn .left) ∙ is-drawn .hue on j h
+
+  -- scoring
+  score-zero : 0 ≡ refusal (scoring.sentencesOf (toScore s c))
+  score-zero = sym (ap scoring.numberOf (R .accepted .scoring) ∙ score-none) ∙ scored.number (toScore s c)
+
+  pub scoring-knows : scored.Accepted (toScore s c)
+  scoring-knows = scored.accepted (toScore s c) 0 score-zero refl
+
+  pub scored-is : scoring.done (toScore s c) ≡ scoredCard s c
+  scored-is = scored.taken (toScore s c) 0 score-zero refl
+
+  -- refinement
+  refine-zero : 0 ≡ refusal (refinement.sentencesOf (toRefine s c))
+  refine-zero = sym (ap refinement.numberOf (R .accepted .refinement)) ∙ refine-number (toRefine s c)
+
+  pub refined-is : refinement.finalOf (refinement.refinedOf (toRefine s c)) ≡ refinedCard s c
+  refined-is = refining.at-done (toRefine s c) 0 refine-zero refl
+
+  -- unmasking
+  pub unmasked-is : unmaskedCard s c .list ≡ unmasked (s .mask) (s .xs) (s .ys) (s .grid) (refinedCard s c .luma)
+  unfolding unmaskLumaOf
+  unmasked-is =
+      list-done (unmaskSentences (refinedCard s c .luma) (s .side) (s .xs) (s .ys) (s .grid)) (refinedCard s c .luma) (unmasked (s .mask) (s .xs) (s .ys) (s .grid) (refinedCard s c .luma)) (R .accepted .unmasking) .1
+
+-- ---- the setting's numbers
+
+pub held : (s : Setting) → Singles s → Held (s .noise)
+held s p = record { l0 = p .l0; l1 = p .l1; sigma-l = p .sigma-l; sigma-ab = p .sigma-ab; sigma-ab-dark = p .sigma-ab-dark; sigma-ab-light = p .sigma-ab-light }
+
+pub palette-fits : (s : Setting) → Singles s → Fits (s .palette)
+palette-fits s p = record { at = p .palette }
+
+pub in-margin : (s : Setting) → InMargin s → inMargin (whole 13) (s .noise) (s .palette) (s .hues) ≡ true
+in-margin s e = said-yes (refusal (stats.sentencesOf (s .noise) (s .palette) (s .hues))) (inMargin (whole 13) (s .noise) (s .palette) (s .hues)) e

@@ -1,0 +1,195 @@
+-- The luma score inside the margin, over any threshold: half a sigma from a dark colour, L is at most what the margin check tested, so `luma_llr` is at least the threshold; from a light one L is at
+-- least that, so it is at most minus the threshold; and the weight takes 0.7 % of it at most. Assumes nothing.
+use mathlib.Core.Path.{_≡_, refl, sym, ap, _∙_}
+use mathlib.Core.Logic.{_⊎_, inl, inr, ⊎-elim}
+use mathlib.Core.Bool.{Bool, true, false}
+use mathlib.Core.List.{List}
+use Prim.Native.Nat.{ℕ, _+_, _*_, _≤_, _<_}
+use native.Mathlib.Omega.{arith}
+use lib.Dec.{T}
+use lib.Ieee.{Float, binary32, neg, add, sub, mul, div, le, round, ofBits, fits}
+use Rattle.floatlaws.specs.Value.{unit, unit-pos, hi, lo, both-sides, Num}
+use Rattle.floatlaws.specs.Order.{Le, of-le, to-le, sides, le-trans, neg-num, neg-anti, hi-neg, lo-neg}
+use Rattle.floatlaws.specs.Near.{above, under}
+use Rattle.floatlaws.specs.Ops.{add-rounds, sub-rounds}
+use Rattle.floatlaws.specs.Mono.{mul-mono, mul-mono', mul-anti'}
+use Rattle.floatlaws.specs.Finite.{Fin, num, neg-fin, mul-num, between}
+use Rattle.floatlaws.specs.Const.{Const, const, isConst}
+use Rattle.floatlaws.specs.Interval.{In, within, point, none, plain, add-in, sub-in, div-in}
+use Rattle.float.specs.Select.{abs}
+use Rattle.float.proofs.Select.{abs-sides, abs-num}
+use Rattle.color.specs.declared.Lab.{Lab}
+use Rattle.color.specs.Color.{whole, fraction}
+use Rattle.color.specs.Palette.{paletteLab}
+use Rattle.stats.specs.declared.ChannelStats.{ChannelStats}
+use Rattle.stats.specs.Arithmetic.{_⊕_, _⊖_, _⊗_, _⊘_}
+use Rattle.stats.specs.Noise.{lumaLlr}
+use Rattle.stats.specs.Margin.{darkClear, lightClear}
+use Rattle.guarantee.proofs.Range.{Level, Sigma, Tame, to-T, of-T}
+use Rattle.guarantee.proofs.Luma.{Lightness, zero-is, two-is, llr-in, llr-falls}
+use Rattle.guarantee.proofs.Sigma.{Scale, Any, wider}
+use Rattle.guarantee.proofs.Half.{Close, scale-plain, halved, half-hi, half-lo}
+use Rattle.guarantee.proofs.Weight.{Weight, leastWeight}
+
+-- ---- a number that is close to one in range is in range
+
+widest : Const binary32 (whole 1024) 1024 0 1
+unfolding fraction round isConst
+widest = const binary32 (whole 1024) 1024 0 1 tt
+
+-- what lies between the ends is between
+in-lightness : {a b l : Float} → In binary32 a b l → Le binary32 (neg (whole 1024)) a → Le binary32 b (whole 1024) → Lightness l
+in-lightness p u v = within (neg-fin (widest .is)) (widest .is) (num (p .is)) (le-trans u (p .low)) (le-trans (p .high) v)
+
+module _ {s c : Float} (S : Sigma s) (C : Level c) where
+  half-in : In binary32 (fraction 75 100 ⊘ whole 2) (whole 1000 ⊘ whole 2) (s ⊘ whole 2)
+  unfolding div fraction round
+  half-in = div-in S (point (two-is .is)) tt
+
+  -- L + sigma_l/2 and L - sigma_l/2
+  upper : In binary32 (neg (whole 256) ⊕ fraction 75 100 ⊘ whole 2) (whole 256 ⊕ whole 1000 ⊘ whole 2) (c ⊕ s ⊘ whole 2)
+  unfolding add neg div fraction round
+  upper = add-in C half-in tt
+
+  lower : In binary32 (neg (whole 256) ⊖ whole 1000 ⊘ whole 2) (whole 256 ⊖ fraction 75 100 ⊘ whole 2) (c ⊖ s ⊘ whole 2)
+  unfolding sub neg div fraction round
+  lower = sub-in C half-in tt
+
+  upper-lightness : Lightness (c ⊕ s ⊘ whole 2)
+  unfolding le add neg div fraction round
+  upper-lightness = in-lightness upper (of-le (num (neg-fin (widest .is))) (num (upper .from)) tt) (of-le (num (upper .to)) (widest .num) tt)
+
+  lower-lightness : Lightness (c ⊖ s ⊘ whole 2)
+  unfolding le sub neg div fraction round
+  lower-lightness = in-lightness lower (of-le (num (neg-fin (widest .is))) (num (lower .from)) tt) (of-le (num (lower .to)) (widest .num) tt)
+
+  module _ {l : Float} (p : Close s l c) where
+    -- the sample's L is at most L + sigma_l/2, and at least L - sigma_l/2
+    below-upper : Le binary32 l (c ⊕ s ⊘ whole 2)
+    below-upper =
+        above (num (p .is)) (add-rounds (num (C .is)) (halved (wider S)) (num (upper .is)))
+        (omega (arith, p .up, half-hi (wider S), half-lo (wider S), scale-plain (wider S)))
+
+    above-lower : Le binary32 (c ⊖ s ⊘ whole 2) l
+    above-lower =
+        under (num (p .is)) (sub-rounds (num (C .is)) (halved (wider S)) (num (lower .is)))
+        (omega (arith, p .down, half-hi (wider S), half-lo (wider S), scale-plain (wider S)))
+
+    pub sample-lightness : Lightness l
+    sample-lightness =
+        within (neg-fin (widest .is)) (widest .is) (num (p .is)) (le-trans (lower-lightness .low) above-lower) (le-trans below-upper (upper-lightness .high))
+
+-- ---- the score
+
+module _ (n : ChannelStats) (t : Tame n) (palette : List Float) (hues : ℕ) (threshold : Float) (N : Num binary32 threshold) where
+  -- a dark colour's is at least the threshold
+  pub dark-llr : (h : ℕ) → Level (paletteLab palette hues h .l) → darkClear threshold n palette hues h ≡ true → {l : Float} → Close (n .«sigma_l») l (paletteLab palette hues h .l) →
+      Le binary32 threshold (lumaLlr n l)
+  unfolding darkClear
+  dark-llr h C e {l} p =
+      let u = upper-lightness (t .sigma-l) C in
+      le-trans (of-le N (num (llr-in n t u .is)) (to-T (le threshold (lumaLlr n (paletteLab palette hues h .l ⊕ n .«sigma_l» ⊘ whole 2))) e))
+      (llr-falls n t (sample-lightness (t .sigma-l) C p) u (below-upper (t .sigma-l) C p))
+
+  -- a light one's at most minus the threshold
+  pub light-llr : (h : ℕ) → Level (paletteLab palette hues (hues + h) .l) → lightClear threshold n palette hues h ≡ true → {l : Float} → Close (n .«sigma_l») l (paletteLab palette hues (hues + h) .l) →
+      Le binary32 (lumaLlr n l) (neg threshold)
+  unfolding lightClear
+  light-llr h C e {l} p =
+      let u = lower-lightness (t .sigma-l) C in
+      le-trans (llr-falls n t u (sample-lightness (t .sigma-l) C p) (above-lower (t .sigma-l) C p))
+      (of-le (num (llr-in n t u .is)) (neg-num N) (to-T (le (lumaLlr n (paletteLab palette hues (hues + h) .l ⊖ n .«sigma_l» ⊘ whole 2)) (neg threshold)) e))
+
+-- ---- the score, weighed: at least the threshold times the least weight in magnitude
+
+pub weight-fin : Fin binary32 leastWeight
+unfolding ofBits fits
+weight-fin = record { fit = tt; finite = tt }
+
+module _ {threshold v w : Float} (F : Fin binary32 threshold) (plus : lo binary32 threshold ≡ 0) (P : Fin binary32 v) (W : Weight w) where
+  weight-plain : lo binary32 w ≡ 0
+  unfolding ofBits
+  weight-plain = none W tt
+
+  pub weighed-dark : Le binary32 threshold v → Le binary32 (threshold ⊗ leastWeight) (v ⊗ w)
+  weighed-dark h =
+      le-trans
+      (mul-mono' (num weight-fin) (num (W .is)) (num F) (mul-num F weight-fin) (mul-num F (W .is)) plus (W .low))
+      (mul-mono (num F) (num P) (num (W .is)) (mul-num F (W .is)) (mul-num P (W .is)) weight-plain h)
+
+  pub weighed-light : Le binary32 v (neg threshold) → Le binary32 (v ⊗ w) (neg threshold ⊗ leastWeight)
+  weighed-light h =
+      let G = neg-fin F in
+      le-trans
+      (mul-mono (num P) (num G) (num (W .is)) (mul-num P (W .is)) (mul-num G (W .is)) weight-plain h)
+      (mul-anti' (num weight-fin) (num (W .is)) (num G) (mul-num G weight-fin) (mul-num G (W .is)) (hi-neg binary32 threshold ∙ plus) (W .low))
+
+-- ---- at document 01's threshold of 13: at least 12 in magnitude
+
+pub thirteen-is : Const binary32 (whole 13) 13 0 1
+unfolding fraction round isConst
+thirteen-is = const binary32 (whole 13) 13 0 1 tt
+
+pub twelve-is : Const binary32 (whole 12) 12 0 1
+unfolding fraction round isConst
+twelve-is = const binary32 (whole 12) 12 0 1 tt
+
+thirteen-plain : lo binary32 (whole 13) ≡ 0
+thirteen-plain = omega (arith, thirteen-is .lo)
+
+twelve-least : Le binary32 (whole 12) (whole 13 ⊗ leastWeight)
+unfolding le mul ofBits fraction round
+twelve-least = of-le (twelve-is .num) (mul-num (thirteen-is .is) weight-fin) tt
+
+twelve-most : Le binary32 (neg (whole 13) ⊗ leastWeight) (neg (whole 12))
+unfolding le neg mul ofBits fraction round
+twelve-most = of-le (mul-num (neg-fin (thirteen-is .is)) weight-fin) (num (neg-fin (twelve-is .is))) tt
+
+less-than : Le binary32 (whole 12) (whole 13)
+unfolding le fraction round
+less-than = of-le (twelve-is .num) (thirteen-is .num) tt
+
+-- a score of at least 12 for dark, at most -12 for light
+pub record Dark (v : Float) : Type 0 where
+  pub is : Num binary32 v
+  pub at-least : Le binary32 (whole 12) v
+
+pub record Light (v : Float) : Type 0 where
+  pub is : Num binary32 v
+  pub at-most : Le binary32 v (neg (whole 12))
+
+module _ {v : Float} (P : Fin binary32 v) where
+  -- as it is, with chroma off
+  pub dark-as-is : Le binary32 (whole 13) v → Dark v
+  dark-as-is h = record { is = num P; at-least = le-trans less-than h }
+
+  pub light-as-is : Le binary32 v (neg (whole 13)) → Light v
+  light-as-is h = record { is = num P; at-most = le-trans h (neg-anti less-than) }
+
+  -- weighed
+  module _ {w : Float} (W : Weight w) where
+    pub dark-weighed : Le binary32 (whole 13) v → Dark (v ⊗ w)
+    dark-weighed h = record { is = mul-num P (W .is); at-least = le-trans twelve-least (weighed-dark (thirteen-is .is) thirteen-plain P W h) }
+
+    pub light-weighed : Le binary32 v (neg (whole 13)) → Light (v ⊗ w)
+    light-weighed h = record { is = mul-num P (W .is); at-most = le-trans (weighed-light (thirteen-is .is) thirteen-plain P W h) twelve-most }
+
+-- such a score has the level's sign
+pub dark-above : {v : Float} → Dark v → 0 < hi binary32 v
+dark-above p = omega (arith, sides (p .at-least) .0, twelve-is .hi, unit-pos binary32)
+
+pub light-below : {v : Float} → Light v → 0 < lo binary32 v
+light-below {v} p = omega (arith, sides (p .at-most) .1, twelve-is .hi, unit-pos binary32, lo-neg binary32 (whole 12))
+
+-- and refinement passes over it: |v| is at least 12
+pub dark-sure : {v : Float} → Dark v → le (whole 12) (abs v) ≡ true
+dark-sure {v} p =
+    let a = abs-sides binary32 v in
+    let s = sides (p .at-least) in
+    of-T (le (whole 12) (abs v)) (to-le (twelve-is .num) (abs-num (p .is)) (record { le = omega (arith, a .0, a .1, s .0, s .1, twelve-is .lo, both-sides binary32 v) }))
+
+pub light-sure : {v : Float} → Light v → le (whole 12) (abs v) ≡ true
+light-sure {v} p =
+    let a = abs-sides binary32 v in
+    let s = sides (p .at-most) in
+    of-T (le (whole 12) (abs v)) (to-le (twelve-is .num) (abs-num (p .is)) (record { le = omega (arith, a .0, a .1, s .0, s .1, twelve-is .lo, lo-neg binary32 (whole 12), both-sides binary32 v) }))

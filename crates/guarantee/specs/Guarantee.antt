@@ -1,0 +1,65 @@
+-- The read guarantee (document 01, demand 3): two cards of one layout, palette, mask, model and noise record, drawn from any bits, whose calls are accepted and whose corrected colours lie within half a
+-- sigma of a drawn colour, are read as they were drawn, so they are read as equal exactly when they were drawn from equal bits. `proofs/Guarantee.antt` proves it. Definitions only.
+use mathlib.Core.Path.{_≡_}
+use mathlib.Core.Bool.{true, false}
+use mathlib.Core.List.{List}
+use Prim.Native.Nat.{ℕ, _+_, _<_}
+use lib.Dec.{T}
+use lib.ListN.{length, getD}
+use lib.Ieee.{Float, nan, binary32, fits}
+use Rattle.limits.specs.Chroma.{chromaOn}
+use Rattle.modulate.specs.declared.Outcome.the-variants as outcome
+use Rattle.stats.specs.declared.Verdict.the-variants as verdict
+use Rattle.stats.specs.Calls.{marginAnswer}
+use Rattle.guarantee.specs.Within.{halfSigma}
+use Rattle.guarantee.specs.Card.{Setting, Card, modules, chromaScores, drawnCard, Accepted, bitsDrawn, bitsRead, moduleLab, cellLab, paletteColour, carriesChroma, ringPlace}
+
+-- the palette and the noise record hold f32 values, as the code's do
+pub record Singles (s : Setting) : Type 0 where
+  pub palette : (i : ℕ) → T (fits binary32 (getD (s .palette) i nan))
+  pub l0 : T (fits binary32 (s .noise .l0))
+  pub l1 : T (fits binary32 (s .noise .l1))
+  pub sigma-l : T (fits binary32 (s .noise .«sigma_l»))
+  pub sigma-ab : T (fits binary32 (s .noise .«sigma_ab»))
+  pub sigma-ab-dark : T (fits binary32 (s .noise .«sigma_ab_dark»))
+  pub sigma-ab-light : T (fits binary32 (s .noise .«sigma_ab_light»))
+
+-- module i is within half a sigma of its drawn colour: "A module's drawn colour is a palette colour of its level, and of its hue too where a ring module carries chroma"
+pub record NearModule (s : Setting) (c : Card) (i : ℕ) : Type 0 where
+  pub hue : ℕ
+  pub below : hue < s .hues
+  pub own : carriesChroma s i ≡ true → hue ≡ getD (drawnCard s c .hues) (ringPlace s i) 0
+  pub near : halfSigma (s .noise) (moduleLab s c i) (paletteColour s (getD (drawnCard s c .levels) i 0) hue) ≡ true
+
+-- cell j: "a cell's is one of its hue"
+pub record NearCell (s : Setting) (c : Card) (j : ℕ) : Type 0 where
+  pub level : ℕ
+  pub below : level < 2
+  pub near : halfSigma (s .noise) (cellLab s c j) (paletteColour s level (getD (drawnCard s c .hues) j 0)) ≡ true
+
+-- a card that is drawn, accepted, and near what was drawn; "with chroma off, cells are neither corrected nor scored"
+pub record Readable (s : Setting) (c : Card) : Type 0 where
+  pub drawing : drawnCard s c .answer ≡ outcome.Done
+  pub accepted : Accepted s c
+  pub module-near : (i : ℕ) → i < modules s → NearModule s c i
+  pub cell-near : chromaOn (s .hues) ≡ true → (j : ℕ) → j < length (s .cxs) → NearCell s c j
+
+-- "the bits read are the bits drawn, place for place, with equal lengths"
+pub record ReadAsDrawn (s : Setting) (c : Card) : Type 0 where
+  pub drawn-length : length (bitsDrawn s c) ≡ modules s + chromaScores s
+  pub read-length : length (bitsRead s c) ≡ modules s + chromaScores s
+  pub same : bitsRead s c ≡ bitsDrawn s c
+
+-- the margin check says yes, so it is not refused
+abbrev pub InMargin : Setting → Type 0
+InMargin s = marginAnswer (s .noise) (s .palette) (s .hues) ≡ verdict.Yes
+
+-- the guarantee
+pub record Guaranteed (s : Setting) (a b : Card) : Type 0 where
+  pub first : ReadAsDrawn s a
+  pub second : ReadAsDrawn s b
+  pub equal-read : bitsDrawn s a ≡ bitsDrawn s b → bitsRead s a ≡ bitsRead s b
+  pub equal-drawn : bitsRead s a ≡ bitsRead s b → bitsDrawn s a ≡ bitsDrawn s b
+
+abbrev pub ReadGuarantee : Type 0
+ReadGuarantee = (s : Setting) (a b : Card) → Singles s → InMargin s → Readable s a → Readable s b → Guaranteed s a b

@@ -1,0 +1,1 @@
+// The read guarantee: two cards of one layout, drawn from any bits and read inside the margin, are read as they were drawn. No code.
