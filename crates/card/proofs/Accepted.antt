@@ -1,7 +1,8 @@
--- What an accepted file is: its sections lie one after the other between the directory and its end, so each lies inside it and all of them together fill it. And a file is refused exactly where it is malformed. Assumes nothing.
-use mathlib.Core.Path.{_≡_, refl}
+-- What an accepted file is: its sections lie one after the other between the directory and its end, so each lies inside it and all of them
+-- together fill it. And a file is refused exactly where it is malformed. Assumes nothing.
+use mathlib.Core.Path.{_≡_, refl, ap, _∙_}
 use mathlib.Core.Logic.{⊎-elim}
-use mathlib.Core.Bool.{Bool, true, false, not, cond}
+use mathlib.Core.Bool.{Bool, true, false, not}
 use mathlib.Core.List.{List}
 use Prim.Native.Nat.{ℕ, zero, suc, _+_, _*_, _%_, _≤_, _<_}
 use native.Mathlib.Omega.{arith}
@@ -11,9 +12,10 @@ use lib.Dec.{ltb, eqb}
 use lib.ListN.{length, getD}
 use Rattle.loops.specs.Loops.{anyUp}
 use Rattle.loops.proofs.Laws.{anyUp-false}
+use Rattle.sentences.specs.Sentences.{refusal, decided}
 use Rattle.sentences.proofs.Laws.{neither}
 use Rattle.card.specs.Number.{u16At}
-use Rattle.card.specs.File.{offsetOf, lengthOf, startOf, misplacedAt, badDirectory, badPalette, badLengths, largeSide, malformed, settingsAt, sectionOf, cardOf, opened}
+use Rattle.card.specs.File.{offsetOf, lengthOf, startOf, misplacedAt, badDirectory, badPalette, badLengths, largeSide, malformed, settingsAt, sectionOf, cardOf, Said, said, opened}
 use Rattle.card.specs.declared.Card.{Card}
 use Rattle.card.specs.declared.Opened.the-variants.{Refused, Accepted}
 
@@ -36,7 +38,9 @@ start-first pairs s = refl
 later : (pairs : ℕ) (s : List ℕ) (k j : ℕ) → k ≤ j → startOf pairs s k ≤ startOf pairs s j
 later pairs s zero zero h = le-refl (startOf pairs s zero)
 later pairs s (suc k) zero h = absurd (omega arith)
-later pairs s k (suc j) h = ⊎-elim (λ (e : k ≡ suc j). rw e (le-refl (startOf pairs s (suc j)))) (λ (l : k < suc j). omega (arith, later pairs s k j (omega arith), start-next pairs s j)) (eq-or-lt-of-le h)
+later pairs s k (suc j) h =
+    ⊎-elim (λ (e : k ≡ suc j). rw e (le-refl (startOf pairs s (suc j))))
+    (λ (l : k < suc j). omega (arith, later pairs s k j (omega arith), start-next pairs s j)) (eq-or-lt-of-le h)
 
 -- ---- over the number of pairs
 module _ (pairs : ℕ) (s : List ℕ) (good : malformed pairs s ≡ false) where
@@ -126,19 +130,24 @@ holds s good =
       small = t .small;
     }
 
-by-test : (s : List ℕ) (c : Card) (b : Bool) → malformed 5 s ≡ b → cond b (Refused 1) (Accepted (cardOf 5 s)) ≡ Accepted c → Held s c
-by-test s c true e h = let z : _≡_ {A = ℕ} 0 1 = cc in absurd (omega arith)
-by-test s c false e h = let q : c ≡ cardOf 5 s = cc in rw q (holds s e)
-
-pub accepted : (s : List ℕ) (c : Card) → opened 5 s ≡ Accepted c → Held s c
-unfolding opened
-accepted s c h = by-test s c (malformed 5 s) refl h
-
 -- what the definition accepts is not refused, and what it does not accept is
-pub not-refused : (pairs : ℕ) (s : List ℕ) → malformed pairs s ≡ false → opened pairs s ≡ Accepted (cardOf pairs s)
-unfolding opened
+pub not-refused : (pairs : ℕ) (s : List ℕ) → malformed pairs s ≡ false → opened pairs s ≡ said (Accepted (cardOf pairs s))
+unfolding opened refusal decided
 not-refused pairs s h = rw h
 
-pub refused : (pairs : ℕ) (s : List ℕ) → malformed pairs s ≡ true → opened pairs s ≡ Refused 1
-unfolding opened
+pub refused : (pairs : ℕ) (s : List ℕ) → malformed pairs s ≡ true → opened pairs s ≡ said (Refused 1)
+unfolding opened refusal decided
 refused pairs s h = rw h
+
+by-test : (s : List ℕ) (c : Card) (b : Bool) → malformed 5 s ≡ b → said (Accepted c) ≡ opened 5 s → Held s c
+by-test s c true e h =
+    let q : Accepted c ≡ Refused 1 = ap (λ (a : Said). a .answer) (h ∙ refused 5 s e) in
+    let z : _≡_ {A = ℕ} 0 1 = cc in absurd (omega arith)
+by-test s c false e h =
+    let q : Accepted c ≡ Accepted (cardOf 5 s) = ap (λ (a : Said). a .answer) (h ∙ not-refused 5 s e) in
+    let p : c ≡ cardOf 5 s = cc in
+    rw p (holds s e)
+
+-- what a caller of `open` may use of the card that it gave
+pub accepted : (s : List ℕ) (c : Card) → said (Accepted c) ≡ opened 5 s → Held s c
+accepted s c h = by-test s c (malformed 5 s) refl h

@@ -1,10 +1,11 @@
 -- The card file of document 01, "Card file and listing", over the number of pairs of its directory: which files are refused by 1, and what the others hold. Definitions only.
-use mathlib.Core.Bool.{Bool, not, cond, _||_}
-use mathlib.Core.List.{List}
+use mathlib.Core.Bool.{Bool, not, _||_}
+use mathlib.Core.List.{List, [], _∷_}
 use Prim.Native.Nat.{ℕ, zero, suc, _+_, _*_, _/_, _%_}
 use lib.Dec.{ltb, eqb}
 use lib.ListN.{length, getD}
 use Rattle.loops.specs.Loops.{anyUp}
+use Rattle.sentences.specs.Sentences.{Sentence, _when_, refusal, decided}
 use Rattle.card.specs.Number.{u16At, u32At}
 use Rattle.card.specs.declared.Settings.{Settings}
 use Rattle.card.specs.declared.Section.{Section}
@@ -87,6 +88,25 @@ cardOf pairs s =
       cells = sectionOf s 4 16;
     }
 
--- a file that is not malformed is accepted as what it holds
-unfoldable pub opened : ℕ → List ℕ → Opened
-opened pairs s = cond (malformed pairs s) (Refused 1) (Accepted (cardOf pairs s))
+-- ---- the answer
+
+-- document 01's number of an answer, 0 where the file is accepted
+abbrev pub numberOf : Opened → ℕ
+numberOf (Refused n) = n
+numberOf (Accepted c) = 0
+
+-- what an answer says: the number, and which case it is, with the card
+pub record Said : Type 0 where
+  pub number : ℕ
+  pub answer : Opened
+
+abbrev pub said : Opened → Said
+said r = record { number = numberOf r; answer = r }
+
+-- the one sentence that a file meets before any call
+abbrev pub fileSentences : ℕ → List ℕ → List Sentence
+fileSentences pairs s = (1 when malformed pairs s) ∷ []
+
+-- refused by 1, or what the file holds
+unfoldable pub opened : ℕ → List ℕ → Said
+opened pairs s = decided (refusal (fileSentences pairs s)) (λ n. said (Refused n)) (said (Accepted (cardOf pairs s)))

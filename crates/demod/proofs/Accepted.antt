@@ -1,9 +1,8 @@
 -- What `score` knows past its sentences: none of them holds, so the slices are long enough, the positions are f32 values, and colours, palette and record are in their ranges. Assumes nothing.
-use mathlib.Core.Path.{_≡_, refl, sym, ap, _∙_}
-use mathlib.Core.Bool.{Bool, true, false, not, cond, _||_}
+use mathlib.Core.Path.{_≡_, refl, sym, _∙_}
+use mathlib.Core.Bool.{true, false, not, cond}
 use mathlib.Core.List.{List}
-use Prim.Native.Nat.{ℕ, zero, suc, _+_, _*_, _≤_, _<_}
-use native.Mathlib.Omega.{arith}
+use Prim.Native.Nat.{ℕ, zero, suc, _*_, _≤_, _<_}
 use borrow.Author.Tests.{ltb-false, not-false, eqb-true}
 use lib.Dec.{ltb, eqb}
 use lib.IntN.{ℤ}
@@ -13,11 +12,11 @@ use Rattle.loops.proofs.Laws.{anyUp-false}
 use Rattle.sentences.specs.Sentences.{refusal, decided, at, before, fresh, sound}
 use Rattle.sentences.proofs.Laws.{none-holds, that-holds, earlier-fail, neither, refuses, accepts}
 use Rattle.places.specs.Places.{badPlaces}
-use Rattle.limits.specs.Limits.{badSide, badHues, badCellSize, badCounts, badCells}
+use Rattle.limits.specs.Limits.{badHues, badCells}
 use Rattle.limits.specs.Chroma.{chromaOn, ringModules, chromaLength}
 use Rattle.limits.proofs.Laws.{side-in, cell-size-in, counts-in}
 use Rattle.color.specs.declared.Linear.{Linear}
-use Rattle.color.specs.Palette.{paletteLen, wildAt, wildIn, wildPalette, wildLinear}
+use Rattle.color.specs.Palette.{paletteLen, wildIn, wildPalette, wildLinear}
 use Rattle.illum.specs.Refusals.{badModel}
 use Rattle.stats.specs.declared.ChannelStats.{ChannelStats}
 use Rattle.stats.specs.Calls.{shortPalette, badNoiseNumbers, badNumbers, badSigmas}

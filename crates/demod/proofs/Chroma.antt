@@ -1,25 +1,23 @@
 -- The likelihoods and the bit scores of one chroma entry, element by element: each turn writes one place and keeps the others, so the lengths stay and each place holds its own. Assumes nothing.
-use mathlib.Core.Path.{_≡_, refl, sym, ap, _∙_}
-use mathlib.Core.Bool.{true, false}
+use mathlib.Core.Path.{_≡_, sym, ap, _∙_}
+use mathlib.Core.Bool.{false}
 use mathlib.Core.List.{List}
-use Prim.Native.Nat.{ℕ, _+_, _*_, _^_, _≤_, _<_}
+use Prim.Native.Nat.{ℕ, _+_, _*_, _≤_, _<_}
 use native.Mathlib.Nat.{le-trans, le-of-eq, suc-mul, mul-le-mul-right}
-use native.Mathlib.Numerals.{add-one}
-use native.Mathlib.Omega.{arith}
-use lib.ListN.{length, getD, replicate}
+use lib.ListN.{length, replicate}
 use lib.Ieee.{Float, nan, binary32, ofBits}
 use Rattle.limits.specs.Limits.{badHues}
-use Rattle.limits.specs.Chroma.{log2, chromaOn, symbolBits, ringModules, chromaEntries, chromaLength}
+use Rattle.limits.specs.Chroma.{log2, symbolBits}
 use Rattle.limits.proofs.Laws.{hues-in, symbol-bits-few}
 use Rattle.color.specs.declared.Linear.{Linear}
 use Rattle.color.specs.declared.Lab.{Lab}
 use Rattle.color.specs.Color.{linearToLab}
 use Rattle.modulate.specs.declared.Cell.{Cell}
-use Rattle.modulate.specs.Score.{bitLlr, bitLlrAt, chromaBitLlrs}
+use Rattle.modulate.specs.Score.{bitLlrAt, chromaBitLlrs}
 use Rattle.modulate.proofs.Written.{Reached, reached}
 use Rattle.stats.specs.declared.ChannelStats.{ChannelStats}
 use Rattle.stats.specs.Noise.{denominator, hueLogLikelihood, putLikelihood, hueLogLikelihoods, reliability}
-use Rattle.demod.specs.Score.{likelihoods, bitScores, putScores, writeEntry}
+use Rattle.demod.specs.Score.{putScores, writeEntry}
 use Rattle.demod.proofs.Literals.{n0}
 
 -- each hue's likelihood, and the tail as it was

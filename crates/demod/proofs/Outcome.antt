@@ -17,7 +17,7 @@ use Rattle.modulate.specs.declared.Outcome.the-variants.{Refused, Done}
 use Rattle.demod.specs.Score.{writeCells, writeRings, ringChroma, chromaWritten}
 use Rattle.demod.specs.Call.{Request, moduleColours, cellColours, sentencesOf, turnedAway, done, writtenModules, writtenChroma, scoredOf, numberOf}
 use Rattle.demod.proofs.Accepted.{Accepted, accepted, number, given, first, turned-away, taken}
-use Rattle.demod.proofs.Written.{Modules, modules-are, Entries, entryScore, place, cells-are, cellOf, Rings, rings-are, ring-has, ring-long, ring-below, ring-past}
+use Rattle.demod.proofs.Written.{Modules, modules-are, Entries, entryScore, place, cells-are, cellOf, rings-are, ring-has, ring-long, ring-below, ring-past}
 
 -- the chroma list of an accepted call, with chroma on
 pub record Listed (q : Request) : Type 0 where

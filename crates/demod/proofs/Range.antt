@@ -1,6 +1,6 @@
 -- The luma scores of an accepted call are finite and within ±20: the record passes sentences 8 and 9 and each corrected colour sentence 12, so `luma_llr` is within ±20, and the weight is from 0 to 1.
 -- Assumes nothing.
-use mathlib.Core.Path.{_≡_, refl, sym, ap, _∙_}
+use mathlib.Core.Path.{_≡_, ap, _∙_}
 use mathlib.Core.Bool.{Bool, true, false, cond}
 use mathlib.Core.List.{List}
 use Prim.Native.Nat.{ℕ, _<_}
@@ -24,8 +24,7 @@ use Rattle.stats.specs.Noise.{lumaLlr, reliability}
 use Rattle.stats.proofs.Range.{Held, Good, good, luma-llr-in}
 use Rattle.stats.proofs.Reliable.{reliability-in}
 use Rattle.demod.specs.Score.{moduleColour, weighed, lumaScore}
-use Rattle.demod.specs.Call.{Request, Final, moduleColours, done, scoredOf}
-use Rattle.demod.proofs.Accepted.{Accepted}
+use Rattle.demod.specs.Call.{Request, Final, moduleColours, scoredOf}
 use Rattle.demod.proofs.Outcome.{at-done}
 
 -- the components are f32 values

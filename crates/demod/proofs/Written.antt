@@ -1,6 +1,6 @@
 -- What an accepted call leaves, element by element: each module's score and colour, each chroma entry's scores, the tails as they were, the lengths. No turn of a loop comes back to a place that
 -- another one wrote: module i has place i, and entry e of the chroma list the places from e × bits up to the next entry's. Assumes nothing.
-use mathlib.Core.Path.{_≡_, refl, sym, ap, _∙_}
+use mathlib.Core.Path.{_≡_, refl, ap, _∙_}
 use mathlib.Core.Logic.{⊎-elim}
 use mathlib.Core.List.{List}
 use Prim.Native.Nat.{ℕ, suc, _+_, _-_, _*_, _≤_, _<_, zero-le}
@@ -12,7 +12,7 @@ use lib.Ieee.{Float, nan}
 use Rattle.loops.proofs.Laws.{forUp-to}
 use Rattle.limits.specs.Chroma.{symbolBits}
 use Rattle.color.specs.declared.Linear.{Linear}
-use Rattle.color.specs.Color.{linear, linearToLab}
+use Rattle.color.specs.Color.{linearToLab}
 use Rattle.color.specs.Palette.{linearAt}
 use Rattle.modulate.specs.declared.Cell.{Cell}
 use Rattle.modulate.specs.declared.Cell.the-variants.{Unmasked, At}

@@ -1,6 +1,6 @@
 -- The calls' contracts joined: whatever the five calls of a card give and leave, each handed what the one before it left, their bits are the bits read that the guarantee speaks of, and the card is accepted
 -- where each is done; so what a program reads from a card inside the margin is what the card was drawn from. Assumes nothing.
-use mathlib.Core.Path.{_≡_, refl, sym, ap, _∙_}
+use mathlib.Core.Path.{_≡_, sym, ap, _∙_}
 use mathlib.Core.List.{List, _++_}
 use mathlib.Core.Bool.{true}
 use Prim.Native.Nat.{ℕ, _<_}
@@ -9,14 +9,14 @@ use lib.Ieee.{Float}
 use Rattle.limits.specs.Chroma.{chromaOn}
 use Rattle.modulate.specs.declared.Outcome.{Outcome}
 use Rattle.modulate.specs.declared.Outcome.the-variants as outcome
-use Rattle.modulate.specs.Score.{Ended, ended, unmaskLumaOf}
+use Rattle.modulate.specs.Score.{ended, unmaskLumaOf}
 use Rattle.modulate.specs.Read.{readListOf}
 use Rattle.demod.specs.Call as scoring
 use Rattle.refine.specs.declared.Outcome as refineOutcome
 use Rattle.refine.specs.declared.Outcome.the-variants as refined
 use Rattle.refine.specs.Calls as refinement
-use Rattle.guarantee.specs.Card.{Setting, Card, modules, chromaScores, drawnCard, toScore, scoredCard, refinedCard, unmaskedCard, lumaRead, chromaRead, Accepted, bitsDrawn, bitsRead}
-use Rattle.guarantee.specs.Guarantee.{Singles, InMargin, NearModule, NearCell, Readable}
+use Rattle.guarantee.specs.Card.{Setting, Card, modules, chromaScores, drawnCard, toScore, refinedCard, unmaskedCard, lumaRead, chromaRead, Accepted, bitsDrawn, bitsRead}
+use Rattle.guarantee.specs.Guarantee.{Singles, InMargin, NearModule, NearCell}
 use Rattle.guarantee.proofs.Guarantee.{read-as-drawn}
 
 -- `score`, `add_local_luma`, `unmask_luma` and `read_list` twice: e, f, g, h and k are what their contracts say

@@ -1,19 +1,19 @@
 -- The read guarantee. Each luma bit and each chroma bit is read as it was drawn, so the bits read are the bits drawn, and two lists that equal two lists are equal exactly when those are. Assumes nothing.
 use mathlib.Core.Path.{_≡_, refl, sym, ap, _∙_, subst}
 use mathlib.Core.Bool.{Bool, true, false}
-use mathlib.Core.List.{List, _++_, map}
-use Prim.Native.Nat.{ℕ, _+_, _-_, _*_, _≤_, _<_, zero-le}
+use mathlib.Core.List.{List, _++_}
+use Prim.Native.Nat.{ℕ, _+_, _-_, _≤_, _<_, zero-le}
 use native.Mathlib.Nat.{zero-mul, le-trans, le-of-eq}
 use native.Mathlib.Omega.{arith}
 use borrow.Author.Tests.{ltb-true, ltb-false}
 use lib.Dec.{ltb}
 use lib.ListN.{length, getD, take, length-append, length-map, List·getD-append, List·getD-map}
 use lib.Seq.{length-take-le, getD-take, getD-append-add, ext-getD}
-use Rattle.limits.specs.Chroma.{chromaOn, symbolBits, ringModules, chromaLength}
+use Rattle.limits.specs.Chroma.{chromaOn, symbolBits, chromaLength}
 use Rattle.modulate.specs.Draw.{isOne, bitOf}
 use Rattle.modulate.proofs.Lengths.{bits-long}
 use Rattle.guarantee.specs.Card.{Setting, Card, modules, chromaScores, lumaRead, chromaRead, bitsDrawn, bitsRead}
-use Rattle.guarantee.specs.Guarantee.{Singles, InMargin, Readable, ReadAsDrawn, Guaranteed, ReadGuarantee}
+use Rattle.guarantee.specs.Guarantee.{Singles, InMargin, Readable, ReadAsDrawn, ReadGuarantee}
 use Rattle.guarantee.proofs.Known.{is-drawn}
 use Rattle.guarantee.proofs.ReadLuma.{luma-bit, luma-bits}
 use Rattle.guarantee.proofs.ReadChroma.{chroma-bit, chroma-bits}

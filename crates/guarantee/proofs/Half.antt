@@ -1,28 +1,28 @@
 -- What lies within half a sigma of a colour: the rounded difference is at most half the sigma, since that half is a float, so divided by the sigma it is at most 1/2, and its square at most 1/4.
 -- Assumes nothing.
-use mathlib.Core.Path.{_≡_, refl, sym, ap, _∙_, subst}
-use mathlib.Core.Bool.{Bool, true, false, not, _&&_}
+use mathlib.Core.Path.{_≡_, refl}
+use mathlib.Core.Bool.{true, false, not, _&&_}
 use Prim.Native.Nat.{ℕ, _+_, _-_, _*_, _^_, _≤_, _<_}
-use native.Mathlib.Nat.{mul-one, mul-le-mul-right, mul-le-mul-left, mul-comm, mul-left-comm, zero-mul, le-trans, le-of-eq, lt-of-lt-of-le}
+use native.Mathlib.Nat.{mul-le-mul-left, mul-comm, mul-left-comm, zero-mul, le-trans, le-of-eq}
 use native.Mathlib.Omega.{arith}
 use lib.Dec.{T, leb, leb→le}
-use lib.Ieee.{Float, nan, inf, fin, binary32, neg, mul, div, sub, round, fits}
+use lib.Ieee.{Float, nan, inf, fin, binary32, neg, mul, round, fits}
 use lib.Ieee.Scale.{finite}
 use Rattle.floatlaws.specs.Value.{unit, unit-pos, hi, lo, mag, negative, Num}
-use Rattle.floatlaws.specs.Order.{Le, sides, neg-num, hi-neg, lo-neg}
-use Rattle.floatlaws.specs.Near.{Rounds, above, under}
+use Rattle.floatlaws.specs.Order.{sides, neg-num, hi-neg, lo-neg}
+use Rattle.floatlaws.specs.Near.{above, under}
 use Rattle.floatlaws.specs.Ops.{sub-rounds, div-rounds}
 use Rattle.floatlaws.specs.Finite.{Fin, num, neg-fin, sub-num, div-num}
-use Rattle.floatlaws.specs.Const.{Const}
 use Rattle.floatlaws.specs.Exact.{div-halve}
-use Rattle.floatlaws.specs.Interval.{In, within, point, none, in-pos, mul-in}
+use Rattle.floatlaws.specs.Interval.{In, within, none, in-pos, mul-in}
 use Rattle.float.specs.Select.{abs}
 use Rattle.float.proofs.Select.{abs-num, abs-sides, abs-le}
 use Rattle.color.specs.Color.{whole, fraction}
 use Rattle.stats.specs.Arithmetic.{_⊖_, _⊗_, _⊘_, squared}
+use Rattle.stats.proofs.Reliable.{zero-is}
 use Rattle.guarantee.specs.Within.{halfApart}
 use Rattle.guarantee.proofs.Range.{to-T, both}
-use Rattle.guarantee.proofs.Luma.{zero-is, two-is}
+use Rattle.guarantee.proofs.Luma.{two-is}
 use Rattle.guarantee.proofs.Sigma.{Scale, half-is}
 
 -- ---- the premise, taken apart
@@ -92,27 +92,21 @@ module _ {s : Float} (S : Scale s) where
   pub halved : Num binary32 (s ⊘ whole 2)
   halved = div-num (num (S .is)) (two-is .is) two-above
 
+  two-hi : hi binary32 (whole 2) ≡ 2 ^ 1 * unit binary32
+  two-hi = omega (arith, two-is .hi)
+
+  normal : 2 ^ 24 ≤ hi binary32 s + lo binary32 s
+  normal = omega (arith, least, sides (S .low))
+
   -- s/2 is a float
   pub half-hi : hi binary32 (s ⊘ whole 2) * 2 ≡ hi binary32 s
   half-hi = div-halve 1 (S .is) (two-is .num) halved two-hi normal .0
-    where
-      two-hi : hi binary32 (whole 2) ≡ 2 ^ 1 * unit binary32
-      two-hi = omega (arith, two-is .hi)
 
-      normal : 2 ^ 24 ≤ hi binary32 s + lo binary32 s
-      normal = omega (arith, least, sides (S .low))
+  nothing : (a b : ℕ) → a * 2 ^ 1 ≡ b → b ≡ 0 → a ≡ 0
+  nothing a b e z = omega arith
 
   pub half-lo : lo binary32 (s ⊘ whole 2) ≡ 0
-  half-lo = above-zero (lo binary32 (s ⊘ whole 2)) (div-halve 1 (S .is) (two-is .num) halved two-hi normal .1)
-    where
-      two-hi : hi binary32 (whole 2) ≡ 2 ^ 1 * unit binary32
-      two-hi = omega (arith, two-is .hi)
-
-      normal : 2 ^ 24 ≤ hi binary32 s + lo binary32 s
-      normal = omega (arith, least, sides (S .low))
-
-      above-zero : (a : ℕ) → a * 2 ^ 1 ≡ lo binary32 s → a ≡ 0
-      above-zero a e = omega (arith, scale-plain)
+  half-lo = nothing (lo binary32 (s ⊘ whole 2)) (lo binary32 s) (div-halve 1 (S .is) (two-is .num) halved two-hi normal .1) scale-plain
 
   module _ {x y : Float} (c : Close s x y) where
     difference : Num binary32 (x ⊖ y)

@@ -1,17 +1,14 @@
 -- The own hue's likelihood is above every other's. A sample within half a sigma of a colour that is within s of its hue point and more than 4 × s in a or b from another is, in each axis, within 25/16 × s
 -- of the one, and in an axis 27/8 × s or more from the other; the squared distances differ more than twofold, and the divisor, though it has the sample's own sigma, is the same. Assumes nothing.
-use mathlib.Core.Path.{_≡_, refl, sym, ap, _∙_, subst}
+use mathlib.Core.Path.{_≡_, sym, ap, _∙_, subst}
 use mathlib.Core.Logic.{_⊎_, inl, inr, ⊎-elim}
-use mathlib.Core.Bool.{Bool, true, false, _&&_, _||_}
-use mathlib.Core.List.{List}
-use Prim.Native.Nat.{ℕ, suc, _+_, _-_, _*_, _^_, _≤_, _<_, zero-le}
-use native.Mathlib.Nat.{add-mul, mul-comm, mul-assoc, mul-left-comm, mul-right-comm, mul-le-mul, mul-le-mul-right, le-trans, le-of-eq, le-of-mul-le-mul-right, zero-mul}
+use mathlib.Core.Bool.{true}
+use Prim.Native.Nat.{ℕ, suc, _+_, _-_, _*_, _^_, _≤_, _<_}
+use native.Mathlib.Nat.{add-mul, mul-comm, mul-assoc, mul-left-comm, mul-right-comm, mul-le-mul, mul-le-mul-right}
 use native.Mathlib.Omega.{arith}
-use lib.Dec.{T, leb, ltb}
-use lib.ListN.{length, getD}
-use lib.Ieee.{Float, nan, binary32, emax, neg, add, sub, mul, div, lt, le, round, fits}
+use lib.Dec.{T, ltb}
+use lib.Ieee.{Float, binary32, emax, neg, add, sub, mul, div, lt, le, round}
 use Rattle.floatlaws.specs.Value.{unit, unit-pos, limit, limit-above, mag, hi, lo, one-side, both-sides, Num}
-use Rattle.floatlaws.specs.Order as order
 use Rattle.floatlaws.specs.Order.{Le, Lt, of-le, of-lt, sides, le-lt-trans, neg-num, hi-neg, lo-neg}
 use Rattle.floatlaws.specs.Near.{Rounds, rounds-mono, rounds-self, above}
 use Rattle.floatlaws.specs.Error.{Normal, gap-plus, over, at-most, div-apart}
@@ -20,15 +17,15 @@ use Rattle.floatlaws.specs.Mono.{add-mono, mul-both, div-mono}
 use Rattle.floatlaws.specs.Exact.{scale'}
 use Rattle.floatlaws.specs.Finite.{Fin, num, neg-fin, fin-under, fin-of, sub-num, mul-num, div-num}
 use Rattle.floatlaws.specs.Const.{Const, const, isConst}
-use Rattle.floatlaws.specs.Interval.{In, within, point, none, in-pos, in-normal, plain, add-in, sub-in, mul-in, div-in}
+use Rattle.floatlaws.specs.Interval.{In, point, none, in-pos, in-normal, add-in, sub-in, mul-in, div-in}
 use Rattle.float.specs.Select.{abs}
-use Rattle.float.proofs.Select.{abs-one, abs-num, abs-sides, abs-fits, of-abs-le}
+use Rattle.float.proofs.Select.{abs-one, abs-num, abs-sides, of-abs-le}
 use Rattle.color.specs.Color.{whole, fraction}
 use Rattle.stats.specs.Arithmetic.{_⊕_, _⊖_, _⊗_, _⊘_, squared}
-use Rattle.guarantee.proofs.Range.{to-T, both, either}
-use Rattle.guarantee.proofs.Luma.{two-is, zero-is}
+use Rattle.guarantee.proofs.Range.{to-T}
+use Rattle.guarantee.proofs.Luma.{two-is}
 use Rattle.guarantee.proofs.Sigma.{Scale, Any}
-use Rattle.guarantee.proofs.Half.{Close, square-abs, square-in, scale-plain, scale-above}
+use Rattle.guarantee.proofs.Half.{Close, square-abs, square-in, scale-plain}
 
 -- ---- a negated number is rounded from the negated number
 
@@ -59,7 +56,22 @@ module _ {z e : Float} (p : Num binary32 z) (q : Num binary32 e) (n : Num binary
       let u : Le binary32 e (abs z) = record { le = omega (arith, s .0, s .1, o) } in
       rw (square-abs z) (mul-both q a q a m (rw (square-abs z) at n) o o u u)
 
--- ---- the edges: 25/16 × s and 27/8 × s
+-- ---- the edges: 25/16 × s and 27/8 × s, with their squares
+
+abbrev pub nearEdge : Float → Float
+nearEdge s = fraction 25 16 ⊗ s
+
+abbrev pub farEdge : Float → Float
+farEdge s = fraction 27 8 ⊗ s
+
+abbrev pub nearSquare : Float → Float
+nearSquare s = nearEdge s ⊗ nearEdge s
+
+abbrev pub farSquare : Float → Float
+farSquare s = farEdge s ⊗ farEdge s
+
+abbrev pub nearSum : Float → Float
+nearSum s = nearSquare s ⊕ nearSquare s
 
 near-is : Const binary32 (fraction 25 16) 25 0 16
 unfolding fraction round isConst
@@ -94,21 +106,21 @@ normal-of : {n : ℕ} → Normal binary32 n → 2 ^ 23 ≤ n
 normal-of v = omega (arith, v .least)
 
 module _ {s : Float} (S : Scale s) where
-  near-edge : In binary32 (fraction 25 16 ⊗ fraction 1 2) (fraction 25 16 ⊗ whole 2000) (fraction 25 16 ⊗ s)
+  near-edge : In binary32 (nearEdge (fraction 1 2)) (nearEdge (whole 2000)) (nearEdge s)
   unfolding mul fraction round
   near-edge = mul-in (point (near-is .is)) S tt
 
-  far-edge : In binary32 (fraction 27 8 ⊗ fraction 1 2) (fraction 27 8 ⊗ whole 2000) (fraction 27 8 ⊗ s)
+  far-edge : In binary32 (farEdge (fraction 1 2)) (farEdge (whole 2000)) (farEdge s)
   unfolding mul fraction round
   far-edge = mul-in (point (far-is .is)) S tt
 
-  near-rounds : Rounds binary32 (fraction 25 16 ⊗ s) (hi binary32 (fraction 25 16) * hi binary32 s) 0 (unit binary32)
+  near-rounds : Rounds binary32 (nearEdge s) (hi binary32 (fraction 25 16) * hi binary32 s) 0 (unit binary32)
   near-rounds = mul-plus (near-is .num) (num (S .is)) (num (near-edge .is)) near-plain (scale-plain S)
 
-  far-rounds : Rounds binary32 (fraction 27 8 ⊗ s) (hi binary32 (fraction 27 8) * hi binary32 s) 0 (unit binary32)
+  far-rounds : Rounds binary32 (farEdge s) (hi binary32 (fraction 27 8) * hi binary32 s) 0 (unit binary32)
   far-rounds = mul-plus (far-is .num) (num (S .is)) (num (far-edge .is)) far-plain (scale-plain S)
 
-  edges-apart : 32 * hi binary32 (fraction 25 16 ⊗ s) ≤ 15 * hi binary32 (fraction 27 8 ⊗ s)
+  edges-apart : 32 * hi binary32 (nearEdge s) ≤ 15 * hi binary32 (farEdge s)
   unfolding hi mag mul fraction round
   edges-apart =
       gap-plus 32 15 near-rounds far-rounds (in-normal near-edge tt) (in-normal far-edge tt)
@@ -120,36 +132,36 @@ module _ {s : Float} (S : Scale s) where
           let r : x * k * u * 54 ≡ y * k * u * 25 = mul-right-comm (x * k) u 54 ∙ ap (λ (z : ℕ). z * u) (mul-right-comm x k 54 ∙ ap (λ (z : ℕ). z * k) e ∙ mul-right-comm y 25 k) ∙ mul-right-comm (y * k) 25 u in
           omega arith
 
-  near-square : In binary32 (fraction 25 16 ⊗ fraction 1 2 ⊗ (fraction 25 16 ⊗ fraction 1 2)) (fraction 25 16 ⊗ whole 2000 ⊗ (fraction 25 16 ⊗ whole 2000)) (fraction 25 16 ⊗ s ⊗ (fraction 25 16 ⊗ s))
+  near-square : In binary32 (nearSquare (fraction 1 2)) (nearSquare (whole 2000)) (nearSquare s)
   unfolding mul fraction round
   near-square = mul-in near-edge near-edge tt
 
-  far-square : In binary32 (fraction 27 8 ⊗ fraction 1 2 ⊗ (fraction 27 8 ⊗ fraction 1 2)) (fraction 27 8 ⊗ whole 2000 ⊗ (fraction 27 8 ⊗ whole 2000)) (fraction 27 8 ⊗ s ⊗ (fraction 27 8 ⊗ s))
+  far-square : In binary32 (farSquare (fraction 1 2)) (farSquare (whole 2000)) (farSquare s)
   unfolding mul fraction round
   far-square = mul-in far-edge far-edge tt
 
-  near-edge-plain : lo binary32 (fraction 25 16 ⊗ s) ≡ 0
+  near-edge-plain : lo binary32 (nearEdge s) ≡ 0
   unfolding mul fraction round
   near-edge-plain = none near-edge tt
 
-  far-edge-plain : lo binary32 (fraction 27 8 ⊗ s) ≡ 0
+  far-edge-plain : lo binary32 (farEdge s) ≡ 0
   unfolding mul fraction round
   far-edge-plain = none far-edge tt
 
-  near-square-plain : lo binary32 (fraction 25 16 ⊗ s ⊗ (fraction 25 16 ⊗ s)) ≡ 0
+  near-square-plain : lo binary32 (nearSquare s) ≡ 0
   unfolding mul fraction round
   near-square-plain = none near-square tt
 
-  far-square-plain : lo binary32 (fraction 27 8 ⊗ s ⊗ (fraction 27 8 ⊗ s)) ≡ 0
+  far-square-plain : lo binary32 (farSquare s) ≡ 0
   unfolding mul fraction round
   far-square-plain = none far-square tt
 
-  squares-apart : 9 * hi binary32 (fraction 25 16 ⊗ s ⊗ (fraction 25 16 ⊗ s)) ≤ 2 * hi binary32 (fraction 27 8 ⊗ s ⊗ (fraction 27 8 ⊗ s))
+  squares-apart : 9 * hi binary32 (nearSquare s) ≤ 2 * hi binary32 (farSquare s)
   unfolding hi mag mul fraction round
   squares-apart =
       gap-plus 9 2 (mul-plus (num (near-edge .is)) (num (near-edge .is)) (num (near-square .is)) near-edge-plain near-edge-plain) (mul-plus (num (far-edge .is)) (num (far-edge .is)) (num (far-square .is)) far-edge-plain far-edge-plain)
       (in-normal near-square tt) (in-normal far-square tt)
-      (enough (hi binary32 (fraction 25 16 ⊗ s)) (hi binary32 (fraction 27 8 ⊗ s)) (unit binary32) edges-apart)
+      (enough (hi binary32 (nearEdge s)) (hi binary32 (farEdge s)) (unit binary32) edges-apart)
     where
       enough : (x y u : ℕ) → 32 * x ≤ 15 * y → 9 * (x * x * u) * (2 ^ 24 + 1) + 2 * (y * y * u) ≤ 2 * (y * y * u) * 2 ^ 24
       enough x y u h =
@@ -159,25 +171,19 @@ module _ {s : Float} (S : Scale s) where
           omega arith
 
   -- the sum of two near squares
-  sum-in : In binary32 (fraction 25 16 ⊗ fraction 1 2 ⊗ (fraction 25 16 ⊗ fraction 1 2) ⊕ fraction 25 16 ⊗ fraction 1 2 ⊗ (fraction 25 16 ⊗ fraction 1 2)) (fraction 25 16 ⊗ whole 2000 ⊗ (fraction 25 16 ⊗ whole 2000) ⊕ fraction 25 16 ⊗ whole 2000 ⊗ (fraction 25 16 ⊗ whole 2000)) (fraction 25 16 ⊗ s ⊗ (fraction 25 16 ⊗ s) ⊕ fraction 25 16 ⊗ s ⊗ (fraction 25 16 ⊗ s))
+  sum-in : In binary32 (nearSum (fraction 1 2)) (nearSum (whole 2000)) (nearSum s)
   unfolding add mul fraction round
   sum-in = add-in near-square near-square tt
 
-  abbrev nearSum : Float
-  nearSum = fraction 25 16 ⊗ s ⊗ (fraction 25 16 ⊗ s) ⊕ fraction 25 16 ⊗ s ⊗ (fraction 25 16 ⊗ s)
-
-  abbrev farSquare : Float
-  farSquare = fraction 27 8 ⊗ s ⊗ (fraction 27 8 ⊗ s)
-
-  sum-plain : lo binary32 nearSum ≡ 0
+  sum-plain : lo binary32 (nearSum s) ≡ 0
   unfolding add mul fraction round
   sum-plain = none sum-in tt
 
-  sum-normal : Normal binary32 (hi binary32 nearSum)
+  sum-normal : Normal binary32 (hi binary32 (nearSum s))
   unfolding hi mag add mul fraction round
   sum-normal = in-normal sum-in tt
 
-  far-normal : Normal binary32 (hi binary32 farSquare)
+  far-normal : Normal binary32 (hi binary32 (farSquare s))
   unfolding hi mag mul fraction round
   far-normal = in-normal far-square tt
 
@@ -185,14 +191,14 @@ module _ {s : Float} (S : Scale s) where
   none-twice a e = omega arith
 
   -- twice it is at most a far square
-  twofold : 2 * hi binary32 nearSum ≤ hi binary32 farSquare
+  twofold : 2 * hi binary32 (nearSum s) ≤ hi binary32 (farSquare s)
   twofold =
       let q = num (near-square .is) in
-      let a : Rounds binary32 nearSum (hi binary32 (fraction 25 16 ⊗ s ⊗ (fraction 25 16 ⊗ s)) + hi binary32 (fraction 25 16 ⊗ s ⊗ (fraction 25 16 ⊗ s))) 0 1 =
-      subst (λ (N : ℕ). Rounds binary32 nearSum (hi binary32 (fraction 25 16 ⊗ s ⊗ (fraction 25 16 ⊗ s)) + hi binary32 (fraction 25 16 ⊗ s ⊗ (fraction 25 16 ⊗ s))) N 1) (none-twice (lo binary32 (fraction 25 16 ⊗ s ⊗ (fraction 25 16 ⊗ s))) near-square-plain) (add-rounds q q (num (sum-in .is))) in
-      let b : Rounds binary32 farSquare (hi binary32 farSquare) 0 1 =
-      subst (λ (N : ℕ). Rounds binary32 farSquare (hi binary32 farSquare) N 1) far-square-plain (rounds-self (num (far-square .is))) in
-      omega (arith, gap-plus 2 1 a b sum-normal far-normal (enough (hi binary32 (fraction 25 16 ⊗ s ⊗ (fraction 25 16 ⊗ s))) (hi binary32 farSquare) squares-apart))
+      let a : Rounds binary32 (nearSum s) (hi binary32 (nearSquare s) + hi binary32 (nearSquare s)) 0 1 =
+      subst (λ (N : ℕ). Rounds binary32 (nearSum s) (hi binary32 (nearSquare s) + hi binary32 (nearSquare s)) N 1) (none-twice (lo binary32 (nearSquare s)) near-square-plain) (add-rounds q q (num (sum-in .is))) in
+      let b : Rounds binary32 (farSquare s) (hi binary32 (farSquare s)) 0 1 =
+      subst (λ (N : ℕ). Rounds binary32 (farSquare s) (hi binary32 (farSquare s)) N 1) far-square-plain (rounds-self (num (far-square .is))) in
+      omega (arith, gap-plus 2 1 a b sum-normal far-normal (enough (hi binary32 (nearSquare s)) (hi binary32 (farSquare s)) squares-apart))
     where
       enough : (x y : ℕ) → 9 * x ≤ 2 * y → 2 * ((x + x) * 1) * (2 ^ 24 + 1) + 1 * (y * 1) ≤ 1 * (y * 1) * 2 ^ 24
       enough x y h = omega arith
@@ -254,7 +260,7 @@ module _ {s : Float} (S : Scale s) where
       flipped-up = omega (arith, p .up)
 
       -- within s of the hue point: the sample is within 25/16 × s
-      pub at-own : le (abs (c ⊖ h)) s ≡ true → (hi binary32 (x ⊖ h) ≤ hi binary32 (fraction 25 16 ⊗ s)) × (lo binary32 (x ⊖ h) ≤ hi binary32 (fraction 25 16 ⊗ s))
+      pub at-own : le (abs (c ⊖ h)) s ≡ true → (hi binary32 (x ⊖ h) ≤ hi binary32 (nearEdge s)) × (lo binary32 (x ⊖ h) ≤ hi binary32 (nearEdge s))
       at-own e =
           let o = of-abs-le (of-le (abs-num (num offset)) (num (S .is)) (to-T (le (abs (c ⊖ h)) s) e)) in
           let a : hi binary32 (c ⊖ h) ≤ hi binary32 s = sides (o .1) .0 in
@@ -286,20 +292,20 @@ module _ {s : Float} (S : Scale s) where
       four-lo = omega (arith, four .1, scale-plain S)
 
       -- more than 4 × s from another hue point: the sample is 27/8 × s from it or more
-      pub off-other : lt (whole 4 ⊗ s) (abs (c ⊖ h)) ≡ true → hi binary32 (fraction 27 8 ⊗ s) ≤ mag binary32 (x ⊖ h)
+      pub off-other : lt (whole 4 ⊗ s) (abs (c ⊖ h)) ≡ true → hi binary32 (farEdge s) ≤ mag binary32 (x ⊖ h)
       off-other e = ⊎-elim over-it under-it (abs-one (c ⊖ h))
         where
           beyond : Lt binary32 (whole 4 ⊗ s) (abs (c ⊖ h))
           beyond = of-lt four-num (abs-num (num offset)) (to-T (lt (whole 4 ⊗ s) (abs (c ⊖ h))) e)
 
-          over-it : abs (c ⊖ h) ≡ c ⊖ h → hi binary32 (fraction 27 8 ⊗ s) ≤ mag binary32 (x ⊖ h)
+          over-it : abs (c ⊖ h) ≡ c ⊖ h → hi binary32 (farEdge s) ≤ mag binary32 (x ⊖ h)
           over-it z =
               let a = over four-num offset-rounds (rw z at beyond) in
               let f = far-sum (hi binary32 x) (hi binary32 c) (lo binary32 x) (lo binary32 c) (hi binary32 h) (lo binary32 h) (hi binary32 (whole 4 ⊗ s)) (lo binary32 (whole 4 ⊗ s)) (four .0) four-lo a (p .down) in
               let q = rounds-mono far-rounds sample-rounds (reach (hi binary32 x + lo binary32 h) (lo binary32 x + hi binary32 h) (hi binary32 s) (hi binary32 (fraction 27 8)) (unit binary32) (far-is .hi) f) in
               omega (arith, sides q .0, both-sides binary32 (x ⊖ h))
 
-          under-it : abs (c ⊖ h) ≡ neg (c ⊖ h) → hi binary32 (fraction 27 8 ⊗ s) ≤ mag binary32 (x ⊖ h)
+          under-it : abs (c ⊖ h) ≡ neg (c ⊖ h) → hi binary32 (farEdge s) ≤ mag binary32 (x ⊖ h)
           under-it z =
               let a = over four-num (neg-rounds offset-rounds) (rw z at beyond) in
               let f = far-sum (lo binary32 x) (lo binary32 c) (hi binary32 x) (hi binary32 c) (lo binary32 h) (hi binary32 h) (hi binary32 (whole 4 ⊗ s)) (lo binary32 (whole 4 ⊗ s)) (four .0) four-lo a flipped-up in
@@ -338,17 +344,17 @@ module _ {s s' : Float} (S : Scale s) (S' : Scale s') where
   unfolding mul fraction round
   spread-above = in-pos spread tt
 
-  far-part : In binary32 (fraction 27 8 ⊗ fraction 1 2 ⊗ (fraction 27 8 ⊗ fraction 1 2) ⊘ (whole 2 ⊗ whole 2000 ⊗ whole 2000)) (fraction 27 8 ⊗ whole 2000 ⊗ (fraction 27 8 ⊗ whole 2000) ⊘ (whole 2 ⊗ fraction 1 2 ⊗ fraction 1 2)) (fraction 27 8 ⊗ s ⊗ (fraction 27 8 ⊗ s) ⊘ (whole 2 ⊗ s' ⊗ s'))
+  far-part : In binary32 (farSquare (fraction 1 2) ⊘ (whole 2 ⊗ whole 2000 ⊗ whole 2000)) (farSquare (whole 2000) ⊘ (whole 2 ⊗ fraction 1 2 ⊗ fraction 1 2)) (farSquare s ⊘ (whole 2 ⊗ s' ⊗ s'))
   unfolding div mul fraction round
   far-part = div-in (far-square S) spread tt
 
-  far-part-normal : Normal binary32 (hi binary32 (fraction 27 8 ⊗ s ⊗ (fraction 27 8 ⊗ s) ⊘ (whole 2 ⊗ s' ⊗ s')))
+  far-part-normal : Normal binary32 (hi binary32 (farSquare s ⊘ (whole 2 ⊗ s' ⊗ s')))
   unfolding hi mag div mul fraction round
   far-part-normal = in-normal far-part tt
 
   -- what lies between the own hue's likelihood and the others'
   abbrev pub between : Float
-  between = neg (fraction 27 8 ⊗ s ⊗ (fraction 27 8 ⊗ s) ⊘ (whole 2 ⊗ s' ⊗ s'))
+  between = neg (farSquare s ⊘ (whole 2 ⊗ s' ⊗ s'))
 
   pub between-fin : Fin binary32 between
   between-fin = neg-fin (far-part .is)
@@ -367,13 +373,13 @@ module _ {s s' : Float} (S : Scale s) (S' : Scale s') where
         × (lo binary32 (neg (squared x ⊕ squared y) ⊘ (whole 2 ⊗ s' ⊗ s')) ≡ hi binary32 ((squared x ⊕ squared y) ⊘ (whole 2 ⊗ s' ⊗ s')))
     flip = div-neg total (num (spread .is)) spread-above part likelihood
 
-    flip-far : (hi binary32 between ≡ lo binary32 (fraction 27 8 ⊗ s ⊗ (fraction 27 8 ⊗ s) ⊘ (whole 2 ⊗ s' ⊗ s')))
-        × (lo binary32 between ≡ hi binary32 (fraction 27 8 ⊗ s ⊗ (fraction 27 8 ⊗ s) ⊘ (whole 2 ⊗ s' ⊗ s')))
+    flip-far : (hi binary32 between ≡ lo binary32 (farSquare s ⊘ (whole 2 ⊗ s' ⊗ s')))
+        × (lo binary32 between ≡ hi binary32 (farSquare s ⊘ (whole 2 ⊗ s' ⊗ s')))
     flip-far = (hi-neg binary32 _, lo-neg binary32 _)
 
     -- near in both axes: above it
     abbrev Within : Float → Type 0
-    Within z = (hi binary32 z ≤ hi binary32 (fraction 25 16 ⊗ s)) × (lo binary32 z ≤ hi binary32 (fraction 25 16 ⊗ s))
+    Within z = (hi binary32 z ≤ hi binary32 (nearEdge s)) × (lo binary32 z ≤ hi binary32 (nearEdge s))
 
     pub own-ahead : Within x → Within y → Lt binary32 between (neg (squared x ⊕ squared y) ⊘ (whole 2 ⊗ s' ⊗ s'))
     own-ahead u v =
@@ -397,7 +403,7 @@ module _ {s s' : Float} (S : Scale s) (S' : Scale s') where
     own-fin = fin-of likelihood (omega (arith, flip .0, fin-under part-fin)) (omega (arith, flip .1, fin-under part-fin))
 
     -- far in one axis: at most it
-    pub other-behind : (hi binary32 (fraction 27 8 ⊗ s) ≤ mag binary32 x) ⊎ (hi binary32 (fraction 27 8 ⊗ s) ≤ mag binary32 y) → Le binary32 (neg (squared x ⊕ squared y) ⊘ (whole 2 ⊗ s' ⊗ s')) between
+    pub other-behind : (hi binary32 (farEdge s) ≤ mag binary32 x) ⊎ (hi binary32 (farEdge s) ≤ mag binary32 y) → Le binary32 (neg (squared x ⊕ squared y) ⊘ (whole 2 ⊗ s' ⊗ s')) between
     other-behind far =
         let o = div-mono (num (far-square S .is)) total (num (spread .is)) (num (far-part .is)) part spread-above (most far) in
         record { le = omega (arith, o .le, flip .0, flip .1, flip-far .0, flip-far .1) }
@@ -405,7 +411,7 @@ module _ {s s' : Float} (S : Scale s) (S' : Scale s') where
         sum-rounds : Rounds binary32 (squared x ⊕ squared y) (hi binary32 (squared x) + hi binary32 (squared y)) (lo binary32 (squared x) + lo binary32 (squared y)) 1
         sum-rounds = add-rounds (mul-num (X .is) (X .is)) (mul-num (Y .is) (Y .is)) total
 
-        most : (hi binary32 (fraction 27 8 ⊗ s) ≤ mag binary32 x) ⊎ (hi binary32 (fraction 27 8 ⊗ s) ≤ mag binary32 y) → Le binary32 (fraction 27 8 ⊗ s ⊗ (fraction 27 8 ⊗ s)) (squared x ⊕ squared y)
+        most : (hi binary32 (farEdge s) ≤ mag binary32 x) ⊎ (hi binary32 (farEdge s) ≤ mag binary32 y) → Le binary32 (farSquare s) (squared x ⊕ squared y)
         most (inl f) =
             let a = sides (square-least (num (X .is)) (num (far-edge S .is)) (mul-num (X .is) (X .is)) (num (far-square S .is)) (far-edge-plain S) f) in
             above (num (far-square S .is)) sum-rounds (omega (arith, a .0, square-plain X Y X, square-plain X Y Y))

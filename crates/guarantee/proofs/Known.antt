@@ -1,8 +1,8 @@
 -- What a readable card's calls say: none of their sentences holds, so each left what its definition writes. Assumes nothing.
-use mathlib.Core.Path.{_≡_, refl, sym, ap, _∙_, subst}
+use mathlib.Core.Path.{_≡_, refl, sym, ap, _∙_}
 use mathlib.Core.Bool.{Bool, true, false, cond}
 use mathlib.Core.List.{List}
-use Prim.Native.Nat.{ℕ, zero, suc, _+_, _*_, _≤_, _<_}
+use Prim.Native.Nat.{ℕ, zero, suc, _≤_, _<_}
 use native.Mathlib.Nat.{mod-lt}
 use native.Mathlib.Omega.{arith}
 use borrow.Author.Tests.{ltb-false}
@@ -14,24 +14,23 @@ use Rattle.color.specs.Color.{whole}
 use Rattle.modulate.specs.declared.Outcome.the-variants as outcome
 use Rattle.modulate.specs.Gray.{chromaSymbolToHue}
 use Rattle.modulate.specs.Mask.{chromaMaskApply}
-use Rattle.modulate.specs.Draw.{gridLevel, ringLevel, cellHue, ringHue, levelAt, hueAt, entriesOf, symbolAt}
-use Rattle.modulate.specs.Score.{replaced, unmaskAt, unmasked, unmaskSentences, unmaskLumaOf, Ended, writtenOr}
+use Rattle.modulate.specs.Draw.{gridLevel, ringLevel, cellHue, ringHue, levelAt, hueAt, entriesOf}
+use Rattle.modulate.specs.Score.{unmasked, unmaskSentences, unmaskLumaOf}
 use Rattle.modulate.specs.Read.{reads, readAt, readList, readSentences, readListOf}
 use Rattle.modulate.proofs.Symbols.{bit-lt}
 use Rattle.modulate.proofs.Written.{Reached, reached}
 use Rattle.modulate.proofs.Answers.{list-done, none-of}
 use Rattle.modulate.proofs.Accepted.{IsDrawn, drawn-done}
-use Rattle.limits.specs.Chroma.{chromaOn, symbolBits}
+use Rattle.limits.specs.Chroma.{chromaOn}
 use Rattle.stats.specs.Margin.{inMargin}
 use Rattle.stats.specs.Calls as stats
-use Rattle.demod.specs.Call as scoring
+use Rattle.stats.proofs.Range.{Held}
 use Rattle.demod.proofs.Accepted as scored
-use Rattle.refine.specs.declared.Outcome.the-variants as refined
+use Rattle.demod.proofs.Outcome.{IsDone, at-done}
 use Rattle.refine.specs.Calls as refinement
 use Rattle.refine.proofs.Accepted as refining
-use Rattle.guarantee.specs.Card.{Setting, Card, modules, toDraw, drawnCard, toScore, scoredCard, toRefine, refinedCard, unmaskedCard, Accepted}
+use Rattle.guarantee.specs.Card.{Setting, Card, modules, toDraw, drawnCard, toScore, toRefine, refinedCard, unmaskedCard, Accepted}
 use Rattle.guarantee.specs.Guarantee.{Singles, InMargin, Readable}
-use Rattle.guarantee.proofs.Range.{Held}
 use Rattle.guarantee.proofs.Sample.{Fits, said-yes}
 
 -- ---- a call that reads a list
@@ -65,10 +64,6 @@ refine-number : (q : refinement.Request) → refinement.numberOf (refinement.ref
 unfolding refinement.refineOf
 refine-number q = refine-by q (refusal (refinement.sentencesOf q))
 
-score-none : scoring.numberOf outcome.Done ≡ 0
-unfolding scoring.numberOf
-score-none = refl
-
 -- ---- levels and hues
 
 either : (b : Bool) (x y n : ℕ) → x < n → y < n → cond b x y < n
@@ -95,14 +90,11 @@ module _ (s : Setting) (c : Card) (R : Readable s c) where
   drawn-hue on j h = ap (λ d. getD (d .hues) j 0) (is-drawn .left) ∙ is-drawn .hue on j h
 
   -- scoring
-  score-zero : 0 ≡ refusal (scoring.sentencesOf (toScore s c))
-  score-zero = sym (ap scoring.numberOf (R .accepted .scoring) ∙ score-none) ∙ scored.number (toScore s c)
+  pub scored-card : IsDone (toScore s c)
+  scored-card = at-done (toScore s c) (R .accepted .scoring)
 
   pub scoring-knows : scored.Accepted (toScore s c)
-  scoring-knows = scored.accepted (toScore s c) 0 score-zero refl
-
-  pub scored-is : scoring.done (toScore s c) ≡ scoredCard s c
-  scored-is = scored.taken (toScore s c) 0 score-zero refl
+  scoring-knows = scored-card .fit
 
   -- refinement
   refine-zero : 0 ≡ refusal (refinement.sentencesOf (toRefine s c))

@@ -1,43 +1,42 @@
 -- Inside the margin the hue of the colour that a sample is within half a sigma of leads, so each bit score has the sign of that hue's symbol; the weight, 0.9931 at least, and the clamp keep that sign: the
 -- smallest float times the least weight is not 0. Assumes nothing.
-use mathlib.Core.Path.{_≡_, refl, sym, ap, _∙_, subst}
+use mathlib.Core.Path.{_≡_, refl, sym, _∙_}
 use mathlib.Core.Logic.{_⊎_, inl, inr, ⊎-elim}
-use mathlib.Core.Bool.{Bool, true, false, _&&_, _||_}
+use mathlib.Core.Bool.{true, false}
 use mathlib.Core.List.{List}
-use Prim.Native.Nat.{ℕ, zero, suc, _+_, _*_, _≤_, _<_}
+use Prim.Native.Nat.{ℕ, zero, suc, _≤_, _<_}
 use native.Mathlib.Omega.{arith}
-use lib.Dec.{T}
 use lib.IntN.{negsuc}
 use lib.ListN.{length, getD}
-use lib.Ieee.{Float, nan, fin, binary32, neg, mul, lt, le, round, ofBits, fits}
+use lib.Ieee.{Float, nan, fin, binary32, neg, mul, lt, le, ofBits, fits}
 use Rattle.floatlaws.specs.Value.{unit-pos, mag, hi, lo, one-side, Num}
-use Rattle.floatlaws.specs.Order.{Le, Lt, of-lt, sides, le-trans, above-none, hi-neg, lo-neg}
-use Rattle.floatlaws.specs.Ops.{hi-positive, mul-rounds, mul-swap}
-use Rattle.floatlaws.specs.Near.{above, under}
+use Rattle.floatlaws.specs.Order.{Le, Lt, sides, le-trans, above-none, hi-neg, lo-neg}
+use Rattle.floatlaws.specs.Ops.{hi-positive, mul-swap}
+use Rattle.floatlaws.specs.Near.{above}
 use Rattle.floatlaws.specs.Mono.{mul-both, mul-mono, mul-anti'}
 use Rattle.floatlaws.specs.Finite.{Fin, num, neg-fin, mul-num, mul-num-pos}
-use Rattle.floatlaws.specs.Interval.{In, none, in-pos}
+use Rattle.floatlaws.specs.Interval.{none, in-pos}
 use Rattle.float.specs.Select.{abs, clamp}
 use Rattle.float.proofs.Select.{clamp-num, clamp-gt, clamp-lt}
-use Rattle.limits.specs.Limits.{badHues}
 use Rattle.color.specs.declared.Lab.{Lab}
 use Rattle.color.specs.declared.palette.Ab.{Ab}
-use Rattle.color.specs.Color.{whole, fraction}
+use Rattle.color.specs.Color.{whole}
 use Rattle.color.specs.Palette.{hueAb, paletteLab}
 use Rattle.modulate.specs.declared.Cell.{Cell}
 use Rattle.modulate.specs.Score.{bitOfHue, bitLlr}
 use Rattle.modulate.specs.Read.{reads}
-use Rattle.modulate.proofs.Decided.{Leads, ForZero, ForOne, for-zero, for-one, bit-lt, read-zero, read-one}
+use Rattle.modulate.proofs.Decided.{Leads, for-zero, for-one, bit-lt, read-zero, read-one}
 use Rattle.modulate.proofs.Written.{reached}
 use Rattle.stats.specs.declared.ChannelStats.{ChannelStats}
-use Rattle.stats.specs.Arithmetic.{_⊕_, _⊖_, _⊗_, _⊘_, squared}
+use Rattle.stats.specs.Arithmetic.{_⊖_, _⊗_}
 use Rattle.stats.specs.Noise.{sigmaAbAt, denominator, hueLogLikelihood, putLikelihood, hueLogLikelihoods}
 use Rattle.stats.specs.Margin.{near, far}
+use Rattle.stats.proofs.Range.{twenty-is}
+use Rattle.stats.proofs.Reliable.{zero-is}
 use Rattle.stats.proofs.Clear.{Apart}
 use Rattle.guarantee.proofs.Range.{Tame, both, either}
-use Rattle.guarantee.proofs.Luma.{zero-is, twenty-is, twenty-order}
+use Rattle.guarantee.proofs.Luma.{twenty-order}
 use Rattle.guarantee.proofs.Sigma.{Scale, Any, sigma-in}
-use Rattle.guarantee.proofs.Half.{Close}
 use Rattle.guarantee.proofs.Weight.{Bounded, Near, Weight, leastWeight}
 use Rattle.guarantee.proofs.Score.{weight-fin}
 use Rattle.guarantee.proofs.Hue as hue
@@ -96,7 +95,7 @@ module _ (n : ChannelStats) (t : Tame n) (palette : List Float) (hues : ℕ) (po
   )
     where
       by : (lt (whole 4 ⊗ sigmaAbAt n (colour .l)) (abs (colour .a ⊖ hueAb palette h .a)) ≡ true) ⊎ (lt (whole 4 ⊗ sigmaAbAt n (colour .l)) (abs (colour .b ⊖ hueAb palette h .b)) ≡ true) →
-          (hi binary32 (fraction 27 8 ⊗ sigmaAbAt n (colour .l)) ≤ mag binary32 (sample .a ⊖ hueAb palette h .a)) ⊎ (hi binary32 (fraction 27 8 ⊗ sigmaAbAt n (colour .l)) ≤ mag binary32 (sample .b ⊖ hueAb palette h .b))
+          (hi binary32 (hue.farEdge (sigmaAbAt n (colour .l))) ≤ mag binary32 (sample .a ⊖ hueAb palette h .a)) ⊎ (hi binary32 (hue.farEdge (sigmaAbAt n (colour .l))) ≤ mag binary32 (sample .b ⊖ hueAb palette h .b))
       by (inl e) = inl (hue.off-other scale (close .a) (C .a) (points h l .a) e)
       by (inr e) = inr (hue.off-other scale (close .b) (C .b) (points h l .b) e)
 

@@ -1,36 +1,28 @@
 -- `luma_llr` does not rise with L, inside the margin: 2 × L rises, so the lead (l0 + l1) - 2 × L falls, l1 - l0 and 2 × sigma² are above zero, and the clamp keeps the order. So a dark colour that
 -- the margin check finds clear at L + sigma_l/2 is clear at every L up to there, and a light one at every L from L - sigma_l/2 on. Assumes nothing.
 use mathlib.Core.Path.{_≡_}
-use mathlib.Core.Bool.{true, false}
-use Prim.Native.Nat.{_+_, _*_, _<_}
+use Prim.Native.Nat.{_<_}
 use native.Mathlib.Omega.{arith}
 use lib.Ieee.{Float, binary32, neg, add, sub, mul, le, round}
 use Rattle.floatlaws.specs.Value.{hi, lo, Num}
 use Rattle.floatlaws.specs.Order.{Le, of-le, le-refl, above-none}
 use Rattle.floatlaws.specs.Finite.{Fin, num, neg-fin, div-num}
-use Rattle.floatlaws.specs.Ops.{zero-sides}
 use Rattle.floatlaws.specs.Mono.{sub-mono, mul-mono', div-mono}
 use Rattle.floatlaws.specs.Const.{Const, const, isConst}
-use Rattle.floatlaws.specs.Interval.{In, within, point, plain, none, in-pos, add-in, sub-in, mul-in, mul-in-signed}
+use Rattle.floatlaws.specs.Interval.{In, within, point, none, in-pos, add-in, sub-in, mul-in, mul-in-signed}
 use Rattle.floatlaws.specs.Exact.{sub-above}
-use Rattle.float.proofs.Select.{clamp-num, clamp-range, clamp-mono}
+use Rattle.float.proofs.Select.{clamp-mono}
 use Rattle.color.specs.Color.{whole, fraction}
 use Rattle.stats.specs.declared.ChannelStats.{ChannelStats}
 use Rattle.stats.specs.Arithmetic.{_⊕_, _⊖_, _⊗_, _⊘_}
 use Rattle.stats.specs.Noise.{lumaLlr}
+use Rattle.stats.proofs.Range.{twenty-is, clamped}
+use Rattle.stats.proofs.Reliable.{zero-is}
 use Rattle.guarantee.proofs.Range.{Tame}
-
-pub zero-is : Const binary32 (whole 0) 0 0 1
-unfolding fraction round isConst
-zero-is = const binary32 (whole 0) 0 0 1 tt
 
 pub two-is : Const binary32 (whole 2) 2 0 1
 unfolding fraction round isConst
 two-is = const binary32 (whole 2) 2 0 1 tt
-
-pub twenty-is : Const binary32 (whole 20) 20 0 1
-unfolding fraction round isConst
-twenty-is = const binary32 (whole 20) 20 0 1 tt
 
 pub twenty-order : Le binary32 (neg (whole 20)) (whole 20)
 unfolding le neg fraction round
@@ -81,10 +73,7 @@ module _ (n : ChannelStats) (t : Tame n) where
     -- a number within ±20
     pub llr-in : In binary32 (neg (whole 20)) (whole 20) (lumaLlr n l)
     unfolding lumaLlr
-    llr-in =
-        let m = neg-fin (twenty-is .is) in
-        let r = clamp-range (num m) (twenty-is .num) twenty-order quotient in
-        within m (twenty-is .is) (clamp-num (num m) (twenty-is .num) twenty-order quotient) (r .0) (r .1)
+    llr-in = clamped _ quotient
 
   two-plain : lo binary32 (whole 2) ≡ 0
   two-plain = omega (arith, two-is .lo)

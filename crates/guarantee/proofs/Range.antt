@@ -1,16 +1,16 @@
 -- The numbers of a noise record that passes the margin check and sentences 8 and 9: each test bounds one of them, and a number between finite bounds is finite. Assumes nothing.
-use mathlib.Core.Path.{_≡_, refl, sym, ap, _∙_, subst}
+use mathlib.Core.Path.{_≡_, refl, sym, _∙_, subst}
 use mathlib.Core.Logic.{_⊎_, inl, inr}
 use mathlib.Core.Bool.{Bool, true, false, not, _&&_, _||_}
 use mathlib.Core.List.{List}
-use Prim.Native.Nat.{ℕ, _*_, _<_}
+use Prim.Native.Nat.{ℕ}
 use native.Mathlib.Omega.{arith}
 use lib.Dec.{T}
 use lib.Ieee.{Float, nan, inf, fin, binary32, neg, lt, le, eq, round, fits, isNan}
 use Rattle.sentences.proofs.Laws.{neither}
 use Rattle.floatlaws.specs.Value.{Num}
-use Rattle.floatlaws.specs.Order.{Le, Lt, of-le, of-lt, of-not-lt}
-use Rattle.floatlaws.specs.Finite.{Fin, num, neg-fin}
+use Rattle.floatlaws.specs.Order.{Lt, of-le, of-lt, of-not-lt}
+use Rattle.floatlaws.specs.Finite.{num, neg-fin}
 use Rattle.floatlaws.specs.Const.{Const, const, isConst}
 use Rattle.floatlaws.specs.Interval.{In, within}
 use Rattle.float.specs.Select.{abs}
@@ -19,6 +19,7 @@ use Rattle.color.specs.Color.{whole, fraction}
 use Rattle.stats.specs.declared.ChannelStats.{ChannelStats}
 use Rattle.stats.specs.Margin.{levelFits, sigmasFit}
 use Rattle.stats.specs.Calls.{badLevelSigma, badSigmas}
+use Rattle.stats.proofs.Range.{Held}
 use Rattle.stats.proofs.Clear.{Clear}
 
 -- ---- tests
@@ -115,15 +116,6 @@ level-sigma v f e h = by (either (eq v (whole 0)) (le (fraction 75 100) v) (was-
         inr (within (least-sigma .is) (most-sigma .is) n (of-le (least-sigma .num) n (to-T (le (fraction 75 100) v) p)) (of-le n (most-sigma .num) (to-T (le v (whole 1000)) e)))
 
 -- ---- the record
-
--- its figures are f32 values
-pub record Held (n : ChannelStats) : Type 0 where
-  pub l0 : T (fits binary32 (n .l0))
-  pub l1 : T (fits binary32 (n .l1))
-  pub sigma-l : T (fits binary32 (n .«sigma_l»))
-  pub sigma-ab : T (fits binary32 (n .«sigma_ab»))
-  pub sigma-ab-dark : T (fits binary32 (n .«sigma_ab_dark»))
-  pub sigma-ab-light : T (fits binary32 (n .«sigma_ab_light»))
 
 pub record Tame (n : ChannelStats) : Type 0 where
   pub l0 : Level (n .l0)

@@ -1,17 +1,16 @@
 -- Each chroma bit is read as it was drawn: the colour of a cell, or of a ring module that carries chroma, lies near a palette colour of its drawn hue, so that hue leads, its bit scores have the symbol's
 -- signs, and the weight and the clamp keep them. Assumes nothing.
 use mathlib.Core.Path.{_≡_, refl, sym, ap, _∙_, subst}
-use mathlib.Core.Bool.{Bool, true, false, cond, _&&_}
-use mathlib.Core.List.{List}
+use mathlib.Core.Bool.{Bool, true, false, cond}
 use Prim.Native.Nat.{ℕ, zero, suc, _+_, _-_, _*_, _/_, _%_, _≤_, _<_}
 use native.Mathlib.Nat.{one-mul, zero-mul, mul-comm, mod-lt, div-add-mod', div-lt-iff-lt-mul, le-trans, le-of-eq}
 use native.Mathlib.Omega.{arith}
 use borrow.Author.Tests.{ltb-true, ltb-false, lt-ltb, le-ltb, le-leb}
-use lib.Dec.{ltb, leb, eqb}
+use lib.Dec.{ltb, eqb}
 use lib.ListN.{length, getD, replicate, length-replicate}
 use lib.Ieee.{Float, nan}
 use Rattle.limits.specs.Limits.{badHues}
-use Rattle.limits.specs.Chroma.{log2, chromaOn, symbolBits, ringModules, chromaEntries, chromaLength}
+use Rattle.limits.specs.Chroma.{chromaOn, symbolBits, chromaEntries, chromaLength}
 use Rattle.limits.proofs.Laws.{hues-in, symbol-bits-on}
 use Rattle.color.specs.declared.Linear.{Linear}
 use Rattle.color.specs.declared.Lab.{Lab}
@@ -20,23 +19,22 @@ use Rattle.color.specs.Palette.{paletteLab}
 use Rattle.modulate.specs.declared.Cell.{Cell}
 use Rattle.modulate.specs.declared.Cell.the-variants.{Unmasked, At}
 use Rattle.modulate.specs.Draw.{isOne, bitOf, levelAt, hueAt}
-use Rattle.modulate.specs.Score.{bitLlr, chromaBitLlrs}
+use Rattle.modulate.specs.Score.{bitLlr}
 use Rattle.modulate.specs.Read.{reads}
 use Rattle.modulate.proofs.ReadBack.{read-cell, read-ring}
-use Rattle.stats.specs.Noise.{reliability, hueLogLikelihoods}
+use Rattle.stats.specs.Noise.{reliability}
 use Rattle.stats.proofs.Clear.{Apart}
 use Rattle.demod.specs.Score.{weighed, likelihoods, bitScores, chromaScore}
 use Rattle.demod.specs.Call.{moduleColours, cellColours, writtenChroma}
 use Rattle.demod.proofs.Chroma.{bits-are}
-use Rattle.demod.proofs.Accepted as scored
 use Rattle.guarantee.specs.Within.{halfSigma}
 use Rattle.guarantee.specs.Card.{Setting, Card, modules, chromaScores, drawnCard, toScore, scoredCard, chromaRead, moduleLab, cellLab, paletteColour, carriesChroma}
-use Rattle.guarantee.specs.Guarantee.{Singles, InMargin, NearModule, NearCell, Readable}
+use Rattle.guarantee.specs.Guarantee.{Singles, InMargin, Readable}
 use Rattle.guarantee.proofs.Weight.{Weight}
 use Rattle.guarantee.proofs.Leads.{read-held}
 use Rattle.guarantee.proofs.Scored as lists
-use Rattle.guarantee.proofs.Sample.{LabFits, lab-fits, HueLeads, hue-leads, weight, margin}
-use Rattle.guarantee.proofs.Known.{read-at, read-long, level-two, hue-below, drawn-level, drawn-hue, scoring-knows, scored-is, held, palette-fits, in-margin}
+use Rattle.guarantee.proofs.Sample.{lab-fits, HueLeads, hue-leads, weight, margin}
+use Rattle.guarantee.proofs.Known.{read-at, read-long, level-two, hue-below, drawn-level, drawn-hue, scored-card, scoring-knows, held, palette-fits, in-margin}
 
 module _ (s : Setting) (c : Card) (S : Singles s) (M : InMargin s) (R : Readable s c) (on : chromaOn (s .hues) ≡ true) where
   good : badHues (s .hues) ≡ false
@@ -168,10 +166,10 @@ module _ (s : Setting) (c : Card) (S : Singles s) (M : InMargin s) (R : Readable
       lists.chroma-done (s .noise) (s .palette) (s .hues) (s .size) (s .grid) (moduleColours (toScore s c)) (modules s) (s .cxs) (s .cys) (cellColours (toScore s c)) (c .chroma) on (scoring-knows s c R .counts .1) long
 
   scored-at : (e b : ℕ) → e < entries → b < symbolBits (s .hues) → getD (scoredCard s c .chroma) (e * symbolBits (s .hues) + b) nan ≡ scoreAt e b
-  scored-at e b h k = ap (λ f. getD (f .chroma) (e * symbolBits (s .hues) + b) nan) (sym (scored-is s c R)) ∙ filled .done e h b k
+  scored-at e b h k = ap (λ f. getD (f .chroma) (e * symbolBits (s .hues) + b) nan) (scored-card s c R .left) ∙ filled .done e h b k
 
   scored-long : entries * symbolBits (s .hues) ≤ length (scoredCard s c .chroma)
-  scored-long = subst (λ f. entries * symbolBits (s .hues) ≤ length (f .chroma)) (scored-is s c R) (le-trans long (le-of-eq (sym (filled .long))))
+  scored-long = rw (scored-card s c R .left) (le-trans long (le-of-eq (sym (filled .long))))
 
   split : (e b k : ℕ) → e * k + b ≡ k * e + b
   split e b k = ap (λ (x : ℕ). x + b) (mul-comm e k)

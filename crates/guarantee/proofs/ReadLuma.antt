@@ -1,6 +1,6 @@
 -- Each luma bit is read as it was drawn. The module's score has the sign of its drawn level and is at least 12 in magnitude, so refinement passes over it; unmasking turns a grid module's as drawing turned
 -- its bit; and reading takes the sign. Assumes nothing.
-use mathlib.Core.Path.{_≡_, refl, sym, ap, _∙_, subst}
+use mathlib.Core.Path.{_≡_, refl, sym, ap, _∙_}
 use mathlib.Core.Bool.{Bool, true, false}
 use mathlib.Core.List.{List}
 use Prim.Native.Nat.{ℕ, zero, suc, _+_, _*_, _≤_, _<_}
@@ -12,25 +12,22 @@ use lib.ListN.{length, getD}
 use lib.Ieee.{Float, nan}
 use Rattle.limits.specs.Chroma.{weighted}
 use Rattle.color.specs.Palette.{paletteLab}
-use Rattle.color.specs.Color.{linearToLab}
 use Rattle.modulate.specs.Draw.{isOne, bitOf, levelAt}
 use Rattle.modulate.specs.Score.{unmaskAt, unmasked}
 use Rattle.modulate.specs.Read.{reads}
 use Rattle.modulate.proofs.ReadBack.{Says, read-grid, read-ring-luma}
 use Rattle.modulate.proofs.Written.{Reached, reached}
 use Rattle.demod.specs.Score.{lumaScore}
-use Rattle.demod.specs.Call.{moduleColours, writtenModules}
-use Rattle.demod.proofs.Accepted as scored
-use Rattle.refine.specs.Refine.{sure, levelsOf, gridOf, refineAll, refined}
+use Rattle.demod.specs.Call.{moduleColours}
+use Rattle.refine.specs.Refine.{sure, levelsOf, gridOf, refined}
 use Rattle.refine.specs.Calls.{refinedOf}
 use Rattle.refine.proofs.Within.{all-passed-over}
 use Rattle.guarantee.specs.Within.{halfSigma}
-use Rattle.guarantee.specs.Card.{Setting, Card, modules, drawnCard, toScore, scoredCard, toRefine, refinedCard, unmaskedCard, lumaRead, moduleLab, paletteColour}
-use Rattle.guarantee.specs.Guarantee.{Singles, InMargin, NearModule, Readable}
+use Rattle.guarantee.specs.Card.{Setting, Card, modules, toScore, scoredCard, refinedCard, unmaskedCard, lumaRead, moduleLab, paletteColour}
+use Rattle.guarantee.specs.Guarantee.{Singles, InMargin, Readable}
 use Rattle.guarantee.proofs.Score.{Dark, Light, dark-above, light-below, dark-sure, light-sure}
-use Rattle.guarantee.proofs.Scored as lists
-use Rattle.guarantee.proofs.Sample.{LabFits, lab-fits, dark-score, light-score}
-use Rattle.guarantee.proofs.Known.{read-at, read-long, level-two, drawn-level, scoring-knows, scored-is, refined-is, unmasked-is, held, palette-fits, in-margin}
+use Rattle.guarantee.proofs.Sample.{lab-fits, dark-score, light-score}
+use Rattle.guarantee.proofs.Known.{read-at, read-long, level-two, drawn-level, scored-card, scoring-knows, refined-is, unmasked-is, held, palette-fits, in-margin}
 
 module _ (s : Setting) (c : Card) (S : Singles s) (M : InMargin s) (R : Readable s c) where
   abbrev scoreOf : ℕ → Float
@@ -71,14 +68,11 @@ module _ (s : Setting) (c : Card) (S : Singles s) (M : InMargin s) (R : Readable
       by-level (levelAt (c .bits) (s .xs) (s .ys) (s .grid) (s .mask) i) (p .hue) (level-two (c .bits) s i) (p .below) i (rw d at (p .near))
 
   -- what scoring left
-  luma-written : lists.Scored (s .noise) (s .palette) (s .hues) (moduleColours (toScore s c)) (c .luma) (modules s) (writtenModules (toScore s c))
-  luma-written = lists.scored (s .noise) (s .palette) (s .hues) (moduleColours (toScore s c)) (c .luma) (modules s) (c .colours) (scoring-knows s c R .lengths .scores)
-
   luma-at : (i : ℕ) → i < modules s → getD (scoredCard s c .luma) i nan ≡ scoreOf i
-  luma-at i h = ap (λ f. getD (f .luma) i nan) (sym (scored-is s c R)) ∙ luma-written .done i h
+  luma-at i h = ap (λ f. getD (f .luma) i nan) (scored-card s c R .left) ∙ scored-card s c R .wrote .scored i h
 
   luma-long : modules s ≤ length (scoredCard s c .luma)
-  luma-long = subst (λ f. modules s ≤ length (f .luma)) (scored-is s c R) (omega (arith, luma-written .long, scoring-knows s c R .lengths .scores))
+  luma-long = rw (scored-card s c R .left) (omega (arith, scored-card s c R .wrote .luma-long, scoring-knows s c R .lengths .scores))
 
   -- refinement leaves it
   passed-over : refinedCard s c .luma ≡ scoredCard s c .luma

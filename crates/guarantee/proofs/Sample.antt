@@ -1,8 +1,8 @@
 -- What the laws say of one sample inside the margin, with all that a setting gives: within half a sigma of a palette colour its luma score is at least 12 in magnitude and has the colour's level as its sign,
 -- its weight is 0.9931 or more, and the colour's hue leads. Assumes nothing.
-use mathlib.Core.Path.{_≡_, refl, sym, ap, _∙_, subst}
-use mathlib.Core.Logic.{_⊎_, inl, inr, ⊎-elim}
-use mathlib.Core.Bool.{Bool, true, false, cond, _&&_}
+use mathlib.Core.Path.{_≡_, refl, subst}
+use mathlib.Core.Logic.{_⊎_, inl, inr}
+use mathlib.Core.Bool.{Bool, true, false, cond}
 use mathlib.Core.List.{List}
 use Prim.Native.Nat.{ℕ, zero, suc, _+_, _*_, _^_, _≤_, _<_}
 use native.Mathlib.Omega.{arith}
@@ -11,32 +11,31 @@ use lib.ListN.{length, getD}
 use lib.Ieee.{Float, nan, binary32, neg, le, round, fits}
 use lib.Ieee.Fits.{sub-fits, mul-fits}
 use Rattle.sentences.specs.Sentences.{decided}
-use Rattle.floatlaws.specs.Value.{unit, hi, lo, one-side, Num}
+use Rattle.floatlaws.specs.Value.{unit, hi, lo, one-side}
 use Rattle.floatlaws.specs.Order.{Le, of-le, sides, le-trans, hi-neg, lo-neg}
 use Rattle.floatlaws.specs.Finite.{Fin, num, neg-fin}
 use Rattle.floatlaws.specs.Const.{Const, const, isConst}
-use Rattle.floatlaws.specs.Interval.{In, within}
-use Rattle.limits.specs.Chroma.{chromaOn, weighted}
+use Rattle.floatlaws.specs.Interval.{within}
 use Rattle.color.specs.declared.Linear.{Linear}
 use Rattle.color.specs.declared.Lab.{Lab}
-use Rattle.color.specs.Color.{whole, fraction, lightness, xyzToLab, linearToXyz, linearToLab}
+use Rattle.color.specs.Color.{whole, fraction, lightness, xyzToLab, linearToLab}
 use Rattle.color.specs.Palette.{hueAb, paletteLab, wild, wildPalette}
 use Rattle.color.proofs.Bounded as bounded
 use Rattle.color.proofs.Passed.{hue-tame, lab-tame}
 use Rattle.modulate.proofs.Decided.{Leads}
 use Rattle.stats.specs.declared.ChannelStats.{ChannelStats}
-use Rattle.stats.specs.declared.Verdict.{Verdict}
 use Rattle.stats.specs.declared.Verdict.the-variants as verdict
 use Rattle.stats.specs.Noise.{sigmaAbAt, lumaLlr, reliability, hueLogLikelihoods}
 use Rattle.stats.specs.Margin.{inMargin}
-use Rattle.stats.specs.Calls.{badSigmas, yesOrNo, verdictOf}
+use Rattle.stats.specs.Calls.{badSigmas, verdictOf}
+use Rattle.stats.proofs.Range.{Held}
 use Rattle.stats.proofs.Clear.{Clear, Apart, clear}
-use Rattle.demod.specs.Score.{weighed, lumaScore}
+use Rattle.demod.specs.Score.{weighed}
 use Rattle.guarantee.specs.Within.{halfApart, halfSigma}
-use Rattle.guarantee.proofs.Range.{Level, Held, Tame, tame, level-in, both}
+use Rattle.guarantee.proofs.Range.{Level, Tame, tame, level-in, both}
 use Rattle.guarantee.proofs.Luma.{llr-in}
 use Rattle.guarantee.proofs.Sigma.{Scale, Any, wider, sigma-in}
-use Rattle.guarantee.proofs.Half.{Close, close, scale-plain}
+use Rattle.guarantee.proofs.Half.{Close, close}
 use Rattle.guarantee.proofs.Weight.{Bounded, Near, Weight, reliable}
 use Rattle.guarantee.proofs.Score.{Dark, Light, dark-llr, light-llr, sample-lightness, dark-as-is, light-as-is, dark-weighed, light-weighed, thirteen-is}
 use Rattle.guarantee.proofs.Leads.{BoundedAb, runnerUp, leads}

@@ -1,6 +1,6 @@
 -- The guarantee's premises can be met: a card with chroma off, document 01's own case, and one with chroma on, with a cell and a ring module that carries chroma. antt computes each premise. Assumes nothing.
 use mathlib.Core.Path.{_≡_, refl}
-use mathlib.Core.Bool.{Bool, true, false, xor, _&&_}
+use mathlib.Core.Bool.{Bool, true, xor, _&&_}
 use mathlib.Core.List.{List, [], _∷_}
 use Prim.Native.Nat.{ℕ, zero, suc, _<_}
 use native.Mathlib.Omega.{arith}
@@ -12,7 +12,6 @@ use lib.Ieee.Fits.{and-l, and-r}
 use Rattle.limits.specs.Chroma.{chromaOn}
 use Rattle.color.specs.Color.{whole, fraction}
 use Rattle.illum.specs.Correct.{unitModel}
-use Rattle.stats.specs.declared.ChannelStats.{ChannelStats}
 use Rattle.stats.specs.Noise.{nominal}
 use lib.Ieee.{add, sub, mul, div, neg, lt, le, eq, isNan, ofInt, toUnsigned}
 use Rattle.sentences.specs.Sentences.{refusal, decided}
@@ -46,9 +45,7 @@ use Rattle.refine.specs.Calls as refinement
 use Rattle.refine.specs.Calls.{shortSlices, wildNumbers, refinedOf, refineOf}
 use Rattle.refine.specs.Refine.{placeAt, refineAt, refined}
 use Rattle.guarantee.specs.Within.{halfApart, halfSigma}
-use Rattle.guarantee.specs.Card.{drawnCard, scoredCard, refinedCard, unmaskedCard, lumaRead, chromaRead, Accepted, paletteColour, carriesChroma}
-use Rattle.modulate.specs.declared.Outcome.the-variants as outcome
-use Rattle.refine.specs.declared.Outcome.the-variants as refinedOutcome
+use Rattle.guarantee.specs.Card.{paletteColour, carriesChroma}
 use Rattle.guarantee.specs.Card.{Setting, Card, bitsDrawn, bitsRead}
 use Rattle.guarantee.specs.Guarantee.{Singles, InMargin, NearModule, NearCell, Readable}
 use Rattle.guarantee.proofs.Guarantee.{read-as-drawn}

@@ -1,24 +1,21 @@
 -- The luma score inside the margin, over any threshold: half a sigma from a dark colour, L is at most what the margin check tested, so `luma_llr` is at least the threshold; from a light one L is at
 -- least that, so it is at most minus the threshold; and the weight takes 0.7 % of it at most. Assumes nothing.
-use mathlib.Core.Path.{_≡_, refl, sym, ap, _∙_}
-use mathlib.Core.Logic.{_⊎_, inl, inr, ⊎-elim}
-use mathlib.Core.Bool.{Bool, true, false}
+use mathlib.Core.Path.{_≡_, _∙_}
+use mathlib.Core.Bool.{true}
 use mathlib.Core.List.{List}
-use Prim.Native.Nat.{ℕ, _+_, _*_, _≤_, _<_}
+use Prim.Native.Nat.{ℕ, _+_, _<_}
 use native.Mathlib.Omega.{arith}
-use lib.Dec.{T}
 use lib.Ieee.{Float, binary32, neg, add, sub, mul, div, le, round, ofBits, fits}
-use Rattle.floatlaws.specs.Value.{unit, unit-pos, hi, lo, both-sides, Num}
+use Rattle.floatlaws.specs.Value.{unit-pos, hi, lo, both-sides, Num}
 use Rattle.floatlaws.specs.Order.{Le, of-le, to-le, sides, le-trans, neg-num, neg-anti, hi-neg, lo-neg}
 use Rattle.floatlaws.specs.Near.{above, under}
 use Rattle.floatlaws.specs.Ops.{add-rounds, sub-rounds}
 use Rattle.floatlaws.specs.Mono.{mul-mono, mul-mono', mul-anti'}
-use Rattle.floatlaws.specs.Finite.{Fin, num, neg-fin, mul-num, between}
+use Rattle.floatlaws.specs.Finite.{Fin, num, neg-fin, mul-num}
 use Rattle.floatlaws.specs.Const.{Const, const, isConst}
-use Rattle.floatlaws.specs.Interval.{In, within, point, none, plain, add-in, sub-in, div-in}
+use Rattle.floatlaws.specs.Interval.{In, within, point, none, add-in, sub-in, div-in}
 use Rattle.float.specs.Select.{abs}
 use Rattle.float.proofs.Select.{abs-sides, abs-num}
-use Rattle.color.specs.declared.Lab.{Lab}
 use Rattle.color.specs.Color.{whole, fraction}
 use Rattle.color.specs.Palette.{paletteLab}
 use Rattle.stats.specs.declared.ChannelStats.{ChannelStats}
@@ -26,8 +23,8 @@ use Rattle.stats.specs.Arithmetic.{_⊕_, _⊖_, _⊗_, _⊘_}
 use Rattle.stats.specs.Noise.{lumaLlr}
 use Rattle.stats.specs.Margin.{darkClear, lightClear}
 use Rattle.guarantee.proofs.Range.{Level, Sigma, Tame, to-T, of-T}
-use Rattle.guarantee.proofs.Luma.{Lightness, zero-is, two-is, llr-in, llr-falls}
-use Rattle.guarantee.proofs.Sigma.{Scale, Any, wider}
+use Rattle.guarantee.proofs.Luma.{Lightness, two-is, llr-in, llr-falls}
+use Rattle.guarantee.proofs.Sigma.{wider}
 use Rattle.guarantee.proofs.Half.{Close, scale-plain, halved, half-hi, half-lo}
 use Rattle.guarantee.proofs.Weight.{Weight, leastWeight}
 

@@ -1,5 +1,6 @@
--- What scoring leaves, place for place: each turn of its loops writes the places of one module or of one chroma entry and keeps those of the earlier ones. Assumes nothing.
-use mathlib.Core.Path.{_≡_, refl, sym, ap, _∙_}
+-- The chroma scores that scoring leaves, by their places in the chroma list, cells and ring modules alike: each turn of its loops writes the places of one entry and keeps those of the earlier ones.
+-- Assumes nothing.
+use mathlib.Core.Path.{_≡_, refl, sym, _∙_}
 use mathlib.Core.Logic.{⊎-elim}
 use mathlib.Core.Bool.{Bool, true, false, cond}
 use mathlib.Core.List.{List}
@@ -8,41 +9,18 @@ use native.Mathlib.Nat.{eq-or-lt-of-le, suc-mul, mul-le-mul-right, le-trans, le-
 use native.Mathlib.Omega.{arith}
 use borrow.Author.Tests.{lt-ltb, le-ltb}
 use lib.Dec.{ltb, eqb}
-use lib.IntN.{ℤ}
-use lib.ListN.{length, getD, set, length-set, replicate}
+use lib.ListN.{length, getD, length-set}
 use lib.Seq.{getD-set-same, getD-set-other}
 use lib.Ieee.{Float, nan}
 use Rattle.loops.proofs.Laws.{forUp-to}
-use Rattle.limits.specs.Limits.{badHues}
 use Rattle.limits.specs.Chroma.{chromaOn, symbolBits, chromaEntries}
 use Rattle.color.specs.declared.Linear.{Linear}
-use Rattle.color.specs.declared.Lab.{Lab}
-use Rattle.color.specs.Color.{whole, linearToLab}
+use Rattle.color.specs.Color.{linearToLab}
 use Rattle.modulate.specs.declared.Cell.{Cell}
 use Rattle.modulate.specs.declared.Cell.the-variants.{Unmasked, At}
 use Rattle.stats.specs.declared.ChannelStats.{ChannelStats}
 use Rattle.stats.specs.Noise.{reliability}
-use Rattle.demod.specs.Score.{Sheet, sheet, lumaScore, putColour, writeModule, writeModules, bitScores, chromaScore, putScore, putScores, writeEntry, writeCell, writeCells, writeRing, writeRings, ringChroma, chromaWritten}
-
--- ---- the luma scores
-
-module _ (n : ChannelStats) (palette : List Float) (hues : ℕ) (colour : ℕ → Linear) (luma : List Float) where
-  -- i modules are scored
-  pub record Scored (i : ℕ) (s : Sheet) : Type 0 where
-    pub long : length (s .luma) ≡ length luma
-    pub done : (j : ℕ) → j < i → getD (s .luma) j nan ≡ lumaScore n palette hues (colour j)
-
-  next : (i : ℕ) (s : Sheet) → i < length luma → Scored i s → Scored (suc i) (writeModule n palette hues colour i s)
-  unfolding writeModule
-  next i s h p =
-      record {
-        long = length-set (s .luma) i _ ∙ p .long;
-        done = λ j q. ⊎-elim (λ (e : j ≡ i). rw e (getD-set-same (s .luma) i (lumaScore n palette hues (colour i)) nan (omega (arith, p .long)))) (λ (u : j < i). getD-set-other (s .luma) i j _ nan (λ e. omega arith) ∙ p .done j u) (eq-or-lt-of-le (let z : j ≤ i = omega arith in z));
-      }
-
-  pub scored : (m : ℕ) (colours : List Float) → m ≤ length luma → Scored m (writeModules n palette hues colour m (sheet luma colours))
-  scored m colours h =
-      forUp-to Scored (writeModule n palette hues colour) m 0 (sheet luma colours) (omega arith) (record { long = refl; done = λ j q. absurd (omega arith) }) (λ i q r s p. next i s (omega arith) p)
+use Rattle.demod.specs.Score.{bitScores, chromaScore, putScore, putScores, writeEntry, writeCell, writeCells, writeRing, writeRings, ringChroma, chromaWritten}
 
 -- ---- the chroma scores
 

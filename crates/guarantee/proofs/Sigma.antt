@@ -1,38 +1,33 @@
 -- `sigma_ab_at` of a record inside the margin is a number from 0.5 to 2,000, at every L up to 2^21 in magnitude: the pooled sigma, or d + fl(fl(m) × t) with t from 0 to 1 and m the difference of two
 -- sigmas. Below the dark level's sigma d it goes by at most fl(m), which is that difference and a part in 2^24 of it. Assumes nothing.
-use mathlib.Core.Path.{_≡_, refl, sym, ap, _∙_, subst}
+use mathlib.Core.Path.{_≡_, refl}
 use mathlib.Core.Logic.{_⊎_, inl, inr, ⊎-elim}
 use mathlib.Core.Bool.{Bool, true, false, cond, _||_}
 use Prim.Native.Nat.{ℕ, zero, suc, _+_, _-_, _*_, _^_, _≤_, _<_}
-use native.Mathlib.Nat.{mul-one, mul-le-mul-right, mul-le-mul-left, mul-comm, zero-mul, le-trans, le-of-eq}
+use native.Mathlib.Nat.{mul-le-mul-left, mul-comm, zero-mul}
 use native.Mathlib.Omega.{arith}
-use lib.Dec.{T}
-use lib.Ieee.{Float, binary32, neg, add, sub, mul, div, le, round}
+use lib.Ieee.{Float, binary32, neg, add, sub, mul, le, round}
 use Rattle.floatlaws.specs.Value.{unit, limit, hi, lo, Num, one-side}
 use Rattle.floatlaws.specs.Order.{Le, of-le, sides, le-trans as trans}
 use Rattle.floatlaws.specs.Near.{near, Rounds, above}
-use Rattle.floatlaws.specs.Error.{Kept, near-kept}
+use Rattle.floatlaws.specs.Error.{near-kept}
 use Rattle.floatlaws.specs.Ops.{add-rounds, sub-rounds, mul-rounds, mul-swap}
-use Rattle.floatlaws.specs.Finite.{Fin, num, neg-fin, fin-under, div-num}
+use Rattle.floatlaws.specs.Finite.{Fin, num, fin-under, div-num}
 use Rattle.floatlaws.specs.Const.{Const, const, isConst}
-use Rattle.floatlaws.specs.Interval.{In, within, point, none, in-pos, add-in, sub-in, mul-in-signed}
-use Rattle.float.specs.Select.{max, clamp}
+use Rattle.floatlaws.specs.Interval.{In, within, none, in-pos, add-in, sub-in, mul-in-signed}
+use Rattle.float.specs.Select.{max}
 use Rattle.float.proofs.Select.{max-num, max-right, max-le, clamp-num, clamp-range}
 use Rattle.color.specs.Color.{whole, fraction}
 use Rattle.color.proofs.Rises.{fin-of-fraction}
 use Rattle.stats.specs.declared.ChannelStats.{ChannelStats}
 use Rattle.stats.specs.Arithmetic.{_⊕_, _⊖_, _⊗_, _⊘_}
 use Rattle.stats.specs.Noise.{between, sigmaAbAt}
-use Rattle.guarantee.proofs.Range.{Sigma, LevelSigma, Level, Tame, to-T, least-sigma, most-sigma}
-use Rattle.guarantee.proofs.Luma.{zero-is}
+use Rattle.stats.proofs.Reliable.{zero-is, one-is}
+use Rattle.guarantee.proofs.Range.{Sigma, LevelSigma, Tame, least-sigma, most-sigma}
 
 pub half-is : Const binary32 (fraction 1 2) 1 0 2
 unfolding fraction round isConst
 half-is = const binary32 (fraction 1 2) 1 0 2 tt
-
-pub one-is : Const binary32 (whole 1) 1 0 1
-unfolding fraction round isConst
-one-is = const binary32 (whole 1) 1 0 1 tt
 
 two-thousand : Const binary32 (whole 2000) 2000 0 1
 unfolding fraction round isConst

@@ -1,9 +1,8 @@
 -- Inside the margin, a sample within half a sigma of a palette colour has a weight of at least 0.9931 (3F7E3C08): its distance from that colour is at most 1/4 + 1/4 + 1/4, the smallest distance is no
 -- larger, and each step from the distance to the weight keeps the order. Assumes nothing.
-use mathlib.Core.Path.{_≡_, refl, sym, ap, _∙_}
-use mathlib.Core.Bool.{Bool, true, false, not, _&&_}
+use mathlib.Core.Bool.{false, not, _&&_}
 use mathlib.Core.List.{List}
-use Prim.Native.Nat.{ℕ, _+_, _*_, _≤_, _<_, zero-le}
+use Prim.Native.Nat.{ℕ, _*_, _<_, zero-le}
 use native.Mathlib.Omega.{arith}
 use lib.Dec.{T}
 use lib.Ieee.{Float, inf, binary32, neg, add, sub, mul, div, le, round, ofBits, fits}
@@ -11,27 +10,25 @@ use lib.Ieee.Fits.{add-fits}
 use lib.Ieee.Positive.{positive}
 use lib.Ieee.Scale.{finite}
 use Rattle.loops.proofs.Laws.{forUp-to}
-use Rattle.floatlaws.specs.Value.{hi, lo, negative, Num}
-use Rattle.floatlaws.specs.Order.{Le, of-le, sides, le-trans, hi-neg, lo-neg}
+use Rattle.floatlaws.specs.Value.{negative}
+use Rattle.floatlaws.specs.Order.{sides, le-trans, hi-neg, lo-neg}
 use Rattle.floatlaws.specs.Ops.{div-neg}
 use Rattle.floatlaws.specs.Mono.{div-mono}
-use Rattle.floatlaws.specs.Finite.{Fin, num, neg-fin, div-num}
+use Rattle.floatlaws.specs.Finite.{num, neg-fin, div-num}
 use Rattle.floatlaws.specs.Const.{Const, const, isConst}
 use Rattle.floatlaws.specs.Interval.{In, within, point, add-in, sub-in, mul-in, div-in}
-use Rattle.float.specs.Select.{min}
 use Rattle.float.specs.Root.{sqrtOf}
 use Rattle.float.proofs.Select.{Least, least-start, least-step}
 use Rattle.float.proofs.Roots.{sqrt-in}
 use Rattle.color.specs.declared.Lab.{Lab}
 use Rattle.color.specs.Color.{whole, fraction}
 use Rattle.color.specs.Palette.{paletteLab}
-use Rattle.color.proofs.Rises.{fin-of-fraction}
 use Rattle.stats.specs.declared.ChannelStats.{ChannelStats}
-use Rattle.stats.specs.Arithmetic.{_⊕_, _⊖_, _⊗_, _⊘_, squared}
+use Rattle.stats.specs.Arithmetic.{_⊕_, _⊖_, _⊘_, squared}
 use Rattle.stats.specs.Noise.{sigmaAbAt, distance, closer, nearest, weight, reliability}
+use Rattle.stats.proofs.Reliable.{zero-is, one-is}
 use Rattle.guarantee.proofs.Range.{Tame}
-use Rattle.guarantee.proofs.Luma.{zero-is}
-use Rattle.guarantee.proofs.Sigma.{Scale, Any, one-is, wider, sigma-in}
+use Rattle.guarantee.proofs.Sigma.{Scale, Any, wider, sigma-in}
 use Rattle.guarantee.proofs.Half.{Close, scale-above, square-in, ratio-square}
 
 -- ---- from the distance to the weight

@@ -1,7 +1,7 @@
 -- Document 01's table of worked examples: antt computes every row at once. Assumes nothing.
 use mathlib.Core.Path.{_≡_, refl}
-use mathlib.Core.List.{List, map}
-use lib.Ieee.{Float, add, sub, mul, div, neg, lt, le, eq, isNan, round, ofBits}
+use mathlib.Core.List.{map}
+use lib.Ieee.{add, sub, mul, div, neg, lt, le, eq, isNan, round, ofBits}
 use Rattle.loops.specs.Loops.{turns, forUp}
 use Rattle.limits.specs.Chroma.{halvings, log2}
 use Rattle.floatlaws.specs.Value.{mag}

@@ -5,7 +5,7 @@ use mathlib.Core.List.{List, _++_, map}
 use Prim.Native.Nat.{ℕ, _+_, _-_, _*_}
 use lib.Dec.{eqb, leb}
 use lib.IntN.{ℤ}
-use lib.ListN.{length, getD, take}
+use lib.ListN.{length, take}
 use lib.Ieee.{Float}
 use Rattle.limits.specs.Chroma.{chromaOn, ringModules, chromaLength}
 use Rattle.color.specs.declared.Lab.{Lab}

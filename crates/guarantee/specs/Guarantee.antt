@@ -1,12 +1,11 @@
 -- The read guarantee (document 01, demand 3): two cards of one layout, palette, mask, model and noise record, drawn from any bits, whose calls are accepted and whose corrected colours lie within half a
 -- sigma of a drawn colour, are read as they were drawn, so they are read as equal exactly when they were drawn from equal bits. `proofs/Guarantee.antt` proves it. Definitions only.
 use mathlib.Core.Path.{_≡_}
-use mathlib.Core.Bool.{true, false}
-use mathlib.Core.List.{List}
+use mathlib.Core.Bool.{true}
 use Prim.Native.Nat.{ℕ, _+_, _<_}
 use lib.Dec.{T}
 use lib.ListN.{length, getD}
-use lib.Ieee.{Float, nan, binary32, fits}
+use lib.Ieee.{nan, binary32, fits}
 use Rattle.limits.specs.Chroma.{chromaOn}
 use Rattle.modulate.specs.declared.Outcome.the-variants as outcome
 use Rattle.stats.specs.declared.Verdict.the-variants as verdict

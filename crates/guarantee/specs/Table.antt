@@ -1,5 +1,4 @@
 -- Document 01's worked examples, "Proved, as one table": each row has what the definitions give and what the document says. `proofs/Worked.antt` computes them. Definitions only.
-use mathlib.Core.Bool.{Bool, true, false}
 use mathlib.Core.List.{List, [], _∷_}
 use Prim.Native.Nat.{ℕ}
 use lib.Ieee.{Float, neg}

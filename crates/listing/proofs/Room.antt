@@ -1,4 +1,5 @@
--- Where there is room, what is written is the list itself and the rest is kept; and a listing has room in LISTING_ROOM bytes, since a number below ten to the k has at most k digits. Assumes nothing.
+-- Where there is room, what is written is the list itself and the rest is kept; and a listing has room in LISTING_ROOM bytes,
+-- since a number below ten to the k has at most k digits. Assumes nothing.
 use mathlib.Core.Path.{_≡_, refl, sym, ap, _∙_}
 use mathlib.Core.Bool.{Bool, true, false}
 use mathlib.Core.List.{List, [], _∷_, _++_}

@@ -1,5 +1,5 @@
 -- The two returns of a public call: the number of the sentence that refuses it, and what an accepted call gives. Assumes nothing.
-use mathlib.Core.Path.{_≡_, refl, sym, ap, _∙_}
+use mathlib.Core.Path.{_≡_, ap, _∙_}
 use mathlib.Core.Bool.{Bool, true, false}
 use mathlib.Core.List.{List}
 use Prim.Native.Nat.{ℕ}
@@ -10,7 +10,6 @@ use Rattle.stats.specs.declared.ChannelStats.{ChannelStats}
 use Rattle.stats.specs.declared.Figure.the-variants as figure
 use Rattle.stats.specs.declared.Noise.the-variants as noise
 use Rattle.stats.specs.declared.Likelihoods.the-variants as likelihoods
-use Rattle.stats.specs.declared.Verdict.{Verdict}
 use Rattle.stats.specs.declared.Verdict.the-variants as verdict
 use Rattle.stats.specs.Calls.{figureOf, noiseOf, verdictOf, filled, turnedAway, yesOrNo}
 

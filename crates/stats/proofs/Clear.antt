@@ -1,13 +1,11 @@
 -- The margin check, taken apart: it says yes exactly where each clause of document 01's sentence holds, at every colour and hue. Each clause is a test of every element, and such a test holds where no
 -- element fails it. Assumes nothing.
-use mathlib.Core.Path.{_≡_, refl, sym, ap, _∙_}
-use mathlib.Core.Bool.{Bool, true, false, not, _&&_, _||_}
+use mathlib.Core.Path.{_≡_, refl, sym}
+use mathlib.Core.Bool.{Bool, true, false, not}
 use mathlib.Core.List.{List}
-use Prim.Native.Nat.{ℕ, _+_, _*_, _≤_, _<_}
-use native.Mathlib.Omega.{arith}
-use lib.Dec.{eqb}
+use Prim.Native.Nat.{ℕ, _+_, _*_, _<_}
 use borrow.Author.Tests.{ne-eqb}
-use lib.Ieee.{Float, neg, lt, le}
+use lib.Ieee.{Float, lt}
 use Rattle.loops.specs.Loops.{anyUp}
 use Rattle.loops.proofs.Laws.{anyUp-false}
 use Rattle.limits.specs.Chroma.{chromaOn}

@@ -1,6 +1,6 @@
 -- What an accepted call of the noise record knows: each sentence, where it does not hold. Assumes nothing.
-use mathlib.Core.Path.{_≡_, refl, sym, ap, _∙_}
-use mathlib.Core.Bool.{Bool, true, false}
+use mathlib.Core.Path.{_≡_, refl, sym, _∙_}
+use mathlib.Core.Bool.{false}
 use mathlib.Core.List.{List}
 use Prim.Native.Nat.{ℕ, _+_, _*_, _≤_}
 use native.Mathlib.Omega.{arith}
@@ -8,11 +8,11 @@ use borrow.Author.Tests.{ltb-false}
 use lib.Dec.{ltb}
 use lib.ListN.{length}
 use lib.Ieee.{Float}
-use Rattle.sentences.specs.Sentences.{Sentence, refusal, at, sound, fresh}
+use Rattle.sentences.specs.Sentences.{refusal, at, sound, fresh}
 use Rattle.sentences.proofs.Laws.{none-holds, neither}
 use Rattle.color.specs.Palette.{paletteLen}
 use Rattle.stats.specs.declared.ChannelStats.{ChannelStats}
-use Rattle.stats.specs.Calls.{shortPalette, shortLikelihoods, badSigmas, badNumbers, recordSentences, paletteSentences, sentencesOf, likelihoodSentences}
+use Rattle.stats.specs.Calls.{shortPalette, shortLikelihoods, paletteSentences, sentencesOf, likelihoodSentences}
 
 -- 5
 pub palette-long : (palette : List Float) (hues : ℕ) → shortPalette palette hues ≡ false → paletteLen hues ≤ length palette

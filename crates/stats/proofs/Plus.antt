@@ -1,22 +1,21 @@
 -- Numbers that are not below zero, infinity included (`Plus`): squares are, and their sums, quotients and roots stay so. A NaN aside, that is all that `reliability` ever holds. Assumes nothing.
-use mathlib.Core.Path.{_≡_, refl, sym, ap, _∙_}
+use mathlib.Core.Path.{_≡_, refl, ap, _∙_}
 use mathlib.Core.Logic.{_⊎_, inl, inr}
-use mathlib.Core.Bool.{Bool, true, false, cond, _||_}
-use Prim.Native.Nat.{ℕ, zero, suc, _+_, _-_, _*_, _≤_, _<_}
+use mathlib.Core.Bool.{Bool, true, false}
+use Prim.Native.Nat.{ℕ, _+_, _-_, _*_, _<_}
 use native.Mathlib.Nat.{lt-irrefl, lt-of-lt-of-le, le-of-eq, mul-pos, zero-mul}
 use native.Mathlib.Omega.{arith}
-use lib.IntN.{ℤ, pos}
-use lib.Dec.{T, eqb·suc-zero}
-use lib.Ieee.{Float, nan, inf, fin, binary32, up, down, unlike, round, add, mul, div, lt, isNan, fits}
+use lib.Dec.{T}
+use lib.Ieee.{Float, nan, inf, fin, binary32, up, down, unlike, round, add, mul, isNan, fits}
 use lib.Ieee.Fits.{down-pos}
 use lib.Ieee.Scale.{finite}
 use Rattle.floatlaws.specs.Value.{mag, hi, lo, unit, Num, overflow-pos}
 use Rattle.floatlaws.specs.Near.{near, near-zero, round-num, lo-round, Rounds}
 use Rattle.floatlaws.specs.Finite.{Fin, num, add-num, div-num}
-use Rattle.floatlaws.specs.Ops.{mag-pos, add-rounds, div-rounds}
+use Rattle.floatlaws.specs.Ops.{add-rounds, div-rounds}
 use Rattle.float.specs.Root.{sqrtOf}
 use Rattle.float.proofs.Roots.{sqrt-num}
-use Rattle.stats.specs.Arithmetic.{_⊕_, _⊗_, _⊘_, squared}
+use Rattle.stats.specs.Arithmetic.{_⊕_, _⊘_, squared}
 
 pub record Plus (x : Float) : Type 0 where
   pub num : Num binary32 x

@@ -1,13 +1,13 @@
 -- The range of a noise record that passes sentences 8 and 9, and of its `luma_llr`: at a lightness up to 2^36 in magnitude, as every colour that the stage accepts has it, each step of the formula is finite up to the product, the divisor is finite and
 -- above zero, so the quotient is a number, and the clamp holds it to ±20. Assumes nothing.
-use mathlib.Core.Path.{_≡_, refl, sym, ap, _∙_, subst}
+use mathlib.Core.Path.{_≡_, refl, sym, subst}
 use mathlib.Core.Bool.{Bool, true, false, not, _&&_}
 use Prim.Native.Nat.{ℕ, _^_, _<_}
 use native.Mathlib.Omega.{arith}
 use lib.Dec.{T}
-use lib.Ieee.{Float, nan, inf, fin, binary32, neg, add, sub, mul, div, lt, le, eq, round, fits, isNan}
+use lib.Ieee.{Float, nan, inf, fin, binary32, neg, add, sub, mul, lt, le, eq, round, fits, isNan}
 use Rattle.sentences.proofs.Laws.{neither}
-use Rattle.floatlaws.specs.Value.{hi, mag, Num}
+use Rattle.floatlaws.specs.Value.{hi, Num}
 use Rattle.floatlaws.specs.Order.{Le, of-le, of-not-lt}
 use Rattle.floatlaws.specs.Finite.{Fin, num, neg-fin, mul-num, div-num}
 use Rattle.floatlaws.specs.Const.{Const, const, isConst}
@@ -17,7 +17,7 @@ use Rattle.float.proofs.Select.{clamp-num, clamp-range}
 use Rattle.color.specs.Color.{whole, fraction}
 use Rattle.color.proofs.Bounded.{Within}
 use Rattle.stats.specs.declared.ChannelStats.{ChannelStats}
-use Rattle.stats.specs.Arithmetic.{_⊕_, _⊖_, _⊗_, _⊘_}
+use Rattle.stats.specs.Arithmetic.{_⊕_, _⊖_, _⊗_}
 use Rattle.stats.specs.Noise.{lumaLlr}
 use Rattle.stats.specs.Calls.{wildFigure, badNoiseNumbers, badLevelSigma, badSigmas}
 use Rattle.stats.proofs.Tests.{both}

@@ -1,8 +1,8 @@
 -- `reliability` is a number from 0 to 1, for every record, sample and palette: the smallest distance starts at +∞ and `min` passes over a NaN, so it is never below zero and never a NaN,
 -- and 1 divided by 1 and more is at most 1. Assumes nothing.
-use mathlib.Core.Path.{_≡_, refl, sym, ap, _∙_, subst}
+use mathlib.Core.Path.{_≡_, sym, _∙_, subst}
 use mathlib.Core.List.{List}
-use mathlib.Core.Logic.{_⊎_, inl, inr}
+use mathlib.Core.Logic.{inl, inr}
 use mathlib.Core.Bool.{false, not}
 use Prim.Native.Nat.{ℕ, _+_, _*_, _≤_, _<_, zero-le}
 use native.Mathlib.Nat.{mul-one, one-mul, zero-mul, mul-le-mul-left, le-of-eq, le-trans}
@@ -11,10 +11,10 @@ use lib.Dec.{T}
 use lib.Ieee.{Float, inf, binary32, round, fits, isNan}
 use lib.Ieee.Fits.{add-fits, div-fits}
 use Rattle.loops.proofs.Laws.{forUp-to}
-use Rattle.floatlaws.specs.Value.{unit, unit-pos, mag, hi, lo, Num}
+use Rattle.floatlaws.specs.Value.{unit, unit-pos, hi, lo, Num}
 use Rattle.floatlaws.specs.Order.{Le, sides}
 use Rattle.floatlaws.specs.Near.{above, under}
-use Rattle.floatlaws.specs.Finite.{Fin, num, add-num, div-num'}
+use Rattle.floatlaws.specs.Finite.{num, add-num, div-num'}
 use Rattle.floatlaws.specs.Ops.{add-rounds, div-rounds}
 use Rattle.floatlaws.specs.Const.{Const, const, isConst}
 use Rattle.floatlaws.specs.Interval.{In, within}
@@ -25,7 +25,7 @@ use Rattle.color.specs.Palette.{paletteLab}
 use Rattle.stats.specs.declared.ChannelStats.{ChannelStats}
 use Rattle.stats.specs.Arithmetic.{_⊕_, _⊖_, _⊘_, squared}
 use Rattle.stats.specs.Noise.{sigmaAbAt, distance, closer, nearest, weight, reliability}
-use Rattle.stats.proofs.Plus.{Plus, Plain, infinite, square, square-plain, add-plus, add-plain, div-plus, sqrt-plus}
+use Rattle.stats.proofs.Plus.{Plus, Plain, square, square-plain, add-plus, add-plain, div-plus, sqrt-plus}
 
 pub zero-is : Const binary32 (whole 0) 0 0 1
 unfolding fraction round isConst

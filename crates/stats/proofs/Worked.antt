@@ -1,7 +1,7 @@
 -- Document 01's worked values of the noise record, computed by antt. Assumes nothing.
 use mathlib.Core.Path.{_≡_, refl}
 use Prim.Native.Nat.{ℕ}
-use lib.Ieee.{Float, neg, add, sub, mul, div, lt, le, eq, isNan, round}
+use lib.Ieee.{neg, add, sub, mul, div, lt, le, eq, isNan, round}
 use Rattle.float.specs.Select.{max, clamp}
 use Rattle.color.specs.Color.{whole, fraction}
 use Rattle.stats.specs.declared.ChannelStats.{ChannelStats}

@@ -1,5 +1,5 @@
 -- The public calls of the noise record: which sentences of document 01 each can meet, in checking order, and what it answers. Definitions only.
-use mathlib.Core.Bool.{Bool, true, false, not, cond, _||_, _&&_}
+use mathlib.Core.Bool.{Bool, not, cond, _||_, _&&_}
 use mathlib.Core.List.{List, [], _∷_}
 use Prim.Native.Nat.{ℕ, _^_}
 use lib.Dec.{ltb}

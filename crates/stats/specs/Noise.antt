@@ -1,5 +1,5 @@
 -- `ChannelStats` of demod.rs: what each method computes, for every float. The operations stand in the Rust's order. Definitions only.
-use mathlib.Core.Bool.{Bool, false, cond, _||_}
+use mathlib.Core.Bool.{false, cond, _||_}
 use mathlib.Core.List.{List}
 use Prim.Native.Nat.{ℕ, _*_}
 use lib.ListN.{set}

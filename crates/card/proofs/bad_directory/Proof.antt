@@ -31,7 +31,8 @@ module _ (s : List ℕ) (pairs k at : ℕ) (r : Bool) (e : r ≡ startsElsewhere
   unfolding badDirectory
   elsewhere inv h t = or-here (anyUp 0 pairs (misplacedAt pairs s)) true _ (out-any inv h same t) refl
 
-  goes : LeftAny (misplacedAt pairs s) pairs k (anyUp 0 pairs (misplacedAt pairs s)) → k < pairs → r ≡ false → LeftAny (misplacedAt pairs s) pairs (k + 1) (anyUp 0 pairs (misplacedAt pairs s))
+  goes : LeftAny (misplacedAt pairs s) pairs k (anyUp 0 pairs (misplacedAt pairs s)) → k < pairs → r ≡ false →
+      LeftAny (misplacedAt pairs s) pairs (k + 1) (anyUp 0 pairs (misplacedAt pairs s))
   goes inv h t = turn-any inv h same t
 
 module _ (s : List ℕ) (pairs k at : ℕ) (f : at ≡ startOf pairs s k) (l : k ≤ pairs) where
@@ -42,7 +43,9 @@ module _ (s : List ℕ) (pairs k at : ℕ) (f : at ≡ startOf pairs s k) (l : k
       or-past (anyUp 0 pairs (misplacedAt pairs s)) false _ _ (done-any inv h) refl (ap (λ (n : ℕ). not (eqb n (length s))) (f ∙ ap (startOf pairs s) d))
 
 abbrev Inv-loop : tie.InvT-loop
-Inv-loop file pairs at₀ k₀ at k = (k ≤ pairs) × (at ≤ 64 + k * 4294967296) × (at ≡ startOf pairs file k) × LeftAny (misplacedAt pairs file) pairs k (anyUp 0 pairs (misplacedAt pairs file))
+Inv-loop file pairs at₀ k₀ at k =
+    (k ≤ pairs) × (at ≤ 64 + k * 4294967296) × (at ≡ startOf pairs file k) ×
+    LeftAny (misplacedAt pairs file) pairs k (anyUp 0 pairs (misplacedAt pairs file))
 
 abbrev μ-loop : tie.MeasureT-loop
 μ-loop file pairs at₀ k₀ at k = pairs - k

@@ -10,7 +10,8 @@ use borrow.Author.Needs.{needs}
 use Rattle.card.proofs.card_of.Statement.{statement}
 use Rattle.card.proofs.card_of.Tie as tie
 
-made : (s : List ℕ) (pairs p : ℕ) (t : Settings) (r m l : Section) → t ≡ settingsAt s (8 * pairs) → p ≡ offsetOf s 1 → r ≡ sectionOf s 2 32 → m ≡ sectionOf s 3 16 → l ≡ sectionOf s 4 16 →
+made : (s : List ℕ) (pairs p : ℕ) (t : Settings) (r m l : Section) → t ≡ settingsAt s (8 * pairs) → p ≡ offsetOf s 1 →
+    r ≡ sectionOf s 2 32 → m ≡ sectionOf s 3 16 → l ≡ sectionOf s 4 16 →
     _≡_ {A = Card} (record { settings = t; palette = p; references = r; modules = m; cells = l }) (cardOf pairs s)
 unfolding cardOf
 made s pairs p t r m l a b c d e = cc

@@ -21,10 +21,10 @@ module _ (n : ℕ) where
   no-nan h = subst (λ (b : Bool). T (not b)) (sym (nanBits-above binary32 n ∙ le-ltb 0x7f800000 (n % 0x80000000) h)) tt
 
 returns : tie.Need-returns
-returns c = a-nan _ (c .if1 .taken)
+returns c = search (a-nan)
 
 float-from-bits-result : tie.Need-float-from-bits-result
-float-from-bits-result c = no-nan _ (c .if1 .left)
+float-from-bits-result c = search (no-nan)
 
 pub f32-of-spec : {M : Type 1} → statement M
 f32-of-spec = tie.close (tie.spec returns float-from-bits-result (λ c. search needs))

@@ -1,23 +1,24 @@
 -- `card::open` meets its contract: a malformed file is refused, any other is what it holds. Assumes nothing.
-use mathlib.Core.Path.{_≡_}
+use mathlib.Core.Path.{_≡_, ap}
 use mathlib.Core.List.{List}
 use Prim.Native.Nat.{ℕ}
 use mathlib.Core.Bool.{Bool, true, false}
+use Rattle.sentences.specs.Sentences.{refusal, decided}
 use Rattle.card.specs.declared.Card.{Card}
 use Rattle.card.specs.declared.Opened.the-variants.{Refused, Accepted}
-use Rattle.card.specs.File.{malformed, cardOf, opened}
+use Rattle.card.specs.File.{malformed, cardOf, said, opened}
 use borrow.Author.Needs.{needs}
 use Rattle.card.proofs.open.Statement.{statement}
 use Rattle.card.proofs.open.Tie as tie
 
 module _ (s : List ℕ) (pairs : ℕ) (r : Bool) (e : r ≡ malformed pairs s) where
-  refused : r ≡ true → Refused 1 ≡ opened pairs s
-  unfolding opened
-  refused t = cc
+  refused : r ≡ true → said (Refused 1) ≡ opened pairs s
+  unfolding opened refusal decided
+  refused t = rw (← e, t)
 
-  accepted : (k : Card) → r ≡ false → k ≡ cardOf pairs s → Accepted k ≡ opened pairs s
-  unfolding opened
-  accepted k t f = cc
+  accepted : (k : Card) → r ≡ false → k ≡ cardOf pairs s → said (Accepted k) ≡ opened pairs s
+  unfolding opened refusal decided
+  accepted k t f = rw (← e, t) (ap (λ (c : Card). said (Accepted c)) f)
 
 returns : tie.Need-returns
 returns c = search (refused)

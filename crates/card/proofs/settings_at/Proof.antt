@@ -10,7 +10,8 @@ use borrow.Author.Needs.{needs}
 use Rattle.card.proofs.settings_at.Statement.{statement}
 use Rattle.card.proofs.settings_at.Tie as tie
 
-made : (s : List ℕ) (at a b c d e g : ℕ) → a ≡ u16At s at → b ≡ getD s (at + 2) 0 → c ≡ getD s (at + 3) 0 → d ≡ getD s (at + 4) 0 → e ≡ getD s (at + 5) 0 → g ≡ u16At s (at + 6) →
+made : (s : List ℕ) (at a b c d e g : ℕ) → a ≡ u16At s at → b ≡ getD s (at + 2) 0 → c ≡ getD s (at + 3) 0 →
+    d ≡ getD s (at + 4) 0 → e ≡ getD s (at + 5) 0 → g ≡ u16At s (at + 6) →
     _≡_ {A = Settings} (record { side = a; version = b; hues = c; size = d; mask = e % 8; grid = g }) (settingsAt s at)
 unfolding settingsAt
 made s at a b c d e g p q r t u v = cc

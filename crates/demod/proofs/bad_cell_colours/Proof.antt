@@ -1,10 +1,10 @@
 -- `bad_cell_colours` meets its contract: what is left from i on says the same. Assumes nothing.
-use mathlib.Core.Path.{_≡_, refl, sym, ap, _∙_}
-use mathlib.Core.Bool.{Bool, true, false, not}
+use mathlib.Core.Path.{_≡_}
+use mathlib.Core.Bool.{Bool}
 use borrow.Author.Needs.{needs}
 use Prim.Native.Nat.{ℕ, _-_}
 use lib.ListN.{length}
-use Rattle.loops.proofs.Laws.{Left, LeftAny, loops}
+use Rattle.loops.proofs.Laws.{LeftAny, loops}
 use Rattle.color.specs.declared.Linear.{Linear}
 use Rattle.color.specs.Palette.{wildLinear}
 use Rattle.demod.specs.Score.{cellColour}

@@ -1,6 +1,5 @@
 -- `centre` meets its contract: a coordinate that is an f32 value is cast as it is. Assumes nothing.
-use mathlib.Core.Path.{_≡_, refl, sym, ap, _∙_}
-use borrow.Author.Needs.{needs}
+use mathlib.Core.Path.{_≡_}
 use lib.IntN.{ℤ}
 use lib.Ieee.{binary32, add, ofInt, ofBits}
 use mir.Syntax.{w32}

@@ -1,8 +1,8 @@
 -- `centre_at` meets its contract: the coordinate is read as it stands. Assumes nothing.
-use mathlib.Core.Path.{_≡_, refl, sym, ap, _∙_}
-use Prim.Native.Nat.{ℕ, _^_, _<_}
+use mathlib.Core.Path.{_≡_}
+use Prim.Native.Nat.{_^_, _<_}
 use borrow.Author.Needs.{needs, sfits-of}
-use lib.IntN.{ℤ, pos}
+use lib.IntN.{ℤ}
 use lib.Signed.{mag}
 use lib.Dec.{T}
 use lib.Ieee.{Float, binary32, inFloat}

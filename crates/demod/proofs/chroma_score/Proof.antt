@@ -1,5 +1,4 @@
 -- `chroma_score` meets its contract: weighed, and held. Assumes nothing.
-use mathlib.Core.Path.{_≡_, refl, sym, ap, _∙_}
 use borrow.Author.Needs.{needs}
 use Rattle.demod.specs.Score.{chromaScore}
 use Rattle.demod.proofs.Literals.{n20}

@@ -1,7 +1,7 @@
 -- `put_scores` meets its contract: what is left from b on gives the same. Assumes nothing.
-use mathlib.Core.Path.{_≡_, refl, sym, ap, _∙_}
+use mathlib.Core.Path.{_≡_}
 use borrow.Author.Needs.{needs}
-use Prim.Native.Nat.{ℕ, _-_}
+use Prim.Native.Nat.{_-_}
 use lib.ListN.{length}
 use Rattle.loops.proofs.Laws.{Left, loops}
 use Rattle.demod.specs.Score.{putScore, putScores}

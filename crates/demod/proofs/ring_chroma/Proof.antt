@@ -1,12 +1,10 @@
 -- `ring_chroma` meets its contract: at cell size 1 the ring modules' entries, else nothing. Assumes nothing.
-use mathlib.Core.Path.{_≡_, refl, sym, ap, _∙_}
-use mathlib.Core.Bool.{Bool, true, false, not}
+use mathlib.Core.Path.{_≡_}
 use borrow.Author.Needs.{needs}
 use mathlib.Core.List.{List}
 use Prim.Native.Nat.{ℕ, _+_, _-_, _*_, _≤_}
 use native.Mathlib.Nat.{mul-comm}
 use borrow.Author.Tests.{eq-eqb, ne-eqb}
-use lib.Dec.{eqb}
 use lib.Ieee.{Float}
 use Rattle.limits.specs.Chroma.{symbolBits, ringModules, chromaEntries, chromaLength}
 use Rattle.color.specs.declared.Linear.{Linear}

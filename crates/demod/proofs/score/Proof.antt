@@ -1,5 +1,5 @@
 -- `score` meets its contract: a refused call gives its number and writes nothing; an accepted one writes the modules and then the chroma list. Assumes nothing.
-use mathlib.Core.Path.{_≡_, refl, sym, ap, _∙_}
+use mathlib.Core.Path.{_≡_, ap, _∙_}
 use borrow.Author.Needs.{needs}
 use mathlib.Core.List.{List}
 use Prim.Native.Nat.{ℕ}

@@ -1,6 +1,6 @@
 -- `short_chroma` meets its contract: the length of the chroma list is compared. Assumes nothing.
-use mathlib.Core.Path.{_≡_, refl, sym, ap, _∙_}
-use mathlib.Core.Bool.{Bool, true, false, not}
+use mathlib.Core.Path.{_≡_}
+use mathlib.Core.Bool.{Bool}
 use borrow.Author.Needs.{needs}
 use Prim.Native.Nat.{ℕ}
 use lib.Dec.{ltb}

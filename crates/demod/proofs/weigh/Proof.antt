@@ -1,5 +1,5 @@
 -- `weigh` meets its contract: one product. Assumes nothing.
-use mathlib.Core.Path.{_≡_, refl, sym, ap, _∙_}
+use mathlib.Core.Path.{refl}
 use Rattle.demod.specs.Score.{weighed}
 use Rattle.demod.proofs.weigh.Statement.{statement}
 use Rattle.demod.proofs.weigh.Tie as tie

@@ -1,9 +1,9 @@
 -- `write_cells` meets its contract: what is left from i on gives the same. Assumes nothing.
-use mathlib.Core.Path.{_≡_, refl, sym, ap, _∙_}
+use mathlib.Core.Path.{_≡_}
 use borrow.Author.Needs.{needs}
 use Prim.Native.Nat.{ℕ, _+_, _-_, _*_, _≤_, _<_}
 use lib.ListN.{length}
-use Rattle.loops.proofs.Laws.{Left, LeftAny, loops}
+use Rattle.loops.proofs.Laws.{Left, loops}
 use Rattle.limits.specs.Chroma.{symbolBits}
 use Rattle.demod.specs.Score.{cellColour, writeCell, writeCells}
 use Rattle.demod.proofs.Chroma.{entry-of}

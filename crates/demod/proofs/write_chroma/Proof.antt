@@ -1,5 +1,5 @@
 -- `write_chroma` meets its contract: with chroma on the cells' entries and then the ring's, else nothing. Assumes nothing.
-use mathlib.Core.Path.{_≡_, refl, sym, ap, _∙_}
+use mathlib.Core.Path.{_≡_}
 use mathlib.Core.Bool.{Bool, true, false, cond}
 use borrow.Author.Needs.{needs}
 use mathlib.Core.List.{List}
@@ -9,7 +9,7 @@ use native.Mathlib.Omega.{arith}
 use lib.Dec.{eqb}
 use lib.ListN.{length}
 use lib.Ieee.{Float}
-use Rattle.limits.specs.Chroma.{symbolBits, chromaOn, ringModules, chromaEntries, chromaLength}
+use Rattle.limits.specs.Chroma.{symbolBits, chromaOn, chromaEntries, chromaLength}
 use Rattle.color.specs.declared.Linear.{Linear}
 use Rattle.stats.specs.declared.ChannelStats.{ChannelStats}
 use Rattle.demod.specs.Score.{writeCells, ringChroma, chromaWritten}

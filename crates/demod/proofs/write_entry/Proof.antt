@@ -1,5 +1,5 @@
 -- `write_entry` meets its contract: likelihoods, bit scores and weight of one colour, put at its entry. Assumes nothing.
-use mathlib.Core.Path.{_≡_, refl, sym, ap, _∙_}
+use mathlib.Core.Path.{_≡_}
 use borrow.Author.Needs.{needs}
 use Rattle.demod.proofs.Chroma.{few, short, room, bits-room, entry-in, entry}
 use native.Mathlib.Omega.{arith}

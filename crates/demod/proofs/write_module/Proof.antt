@@ -1,5 +1,5 @@
 -- `write_module` meets its contract: the score and the colour of one module. Assumes nothing.
-use mathlib.Core.Path.{_≡_, refl, sym, ap, _∙_}
+use mathlib.Core.Path.{_≡_}
 use borrow.Author.Needs.{needs}
 use mathlib.Core.List.{List}
 use Prim.Native.Nat.{ℕ}
@@ -7,7 +7,7 @@ use lib.ListN.{set}
 use lib.Ieee.{Float}
 use Rattle.color.specs.declared.Linear.{Linear}
 use Rattle.stats.specs.declared.ChannelStats.{ChannelStats}
-use Rattle.demod.specs.Score.{Sheet, sheet, lumaScore, putColour, writeModule}
+use Rattle.demod.specs.Score.{sheet, lumaScore, putColour, writeModule}
 use Rattle.demod.proofs.write_module.Statement.{statement}
 use Rattle.demod.proofs.write_module.Tie as tie
 

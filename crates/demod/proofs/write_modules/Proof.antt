@@ -1,9 +1,9 @@
 -- `write_modules` meets its contract: what is left from i on gives the same. Assumes nothing.
-use mathlib.Core.Path.{_≡_, refl, sym, ap, _∙_}
+use mathlib.Core.Path.{_≡_}
 use borrow.Author.Needs.{needs}
-use Prim.Native.Nat.{ℕ, _-_}
+use Prim.Native.Nat.{_-_}
 use lib.ListN.{length}
-use Rattle.loops.proofs.Laws.{Left, LeftAny, loops}
+use Rattle.loops.proofs.Laws.{Left, loops}
 use Rattle.demod.specs.Score.{sheet, moduleColour, writeModule, writeModules}
 use Rattle.demod.proofs.Places.{exact-at}
 use Rattle.demod.proofs.write_modules.Statement.{statement}

@@ -11,7 +11,9 @@ use Rattle.listing.proofs.chroma_lines.Statement.{statement}
 use Rattle.listing.proofs.chroma_lines.Tie as tie
 
 abbrev Inv-loop : tie.InvT-loop
-Inv-loop out₀ at places scores bits next₀ i₀ out next i = (length out ≡ length out₀) × Left (lineAt (chromaLineAt scores bits)) places i (text next out) (written (linesBelow (chromaLineAt scores bits) places) (text at out₀))
+Inv-loop out₀ at places scores bits next₀ i₀ out next i =
+    (length out ≡ length out₀) × Left (lineAt (chromaLineAt scores bits)) places i (text next out)
+    (written (linesBelow (chromaLineAt scores bits) places) (text at out₀))
 
 abbrev μ-loop : tie.MeasureT-loop
 μ-loop out₀ at places scores bits next₀ i₀ out next i = places - i

@@ -23,7 +23,9 @@ module _ (xs ys : List ℤ) (scores : List Float) (bits : List ℕ) (i : ℕ) (t
   reading e fx fy = rw (toZ-ofZ (sfits-of {w = w32} {z = getD xs i (pos 0)} fx), toZ-ofZ (sfits-of {w = w32} {z = getD ys i (pos 0)} fy)) at e
 
 abbrev Inv-loop : tie.InvT-loop
-Inv-loop out₀ at modules xs ys scores bits next₀ i₀ out next i = (length out ≡ length out₀) × Left (lineAt (lumaLineAt xs ys scores bits)) modules i (text next out) (written (linesBelow (lumaLineAt xs ys scores bits) modules) (text at out₀))
+Inv-loop out₀ at modules xs ys scores bits next₀ i₀ out next i =
+    (length out ≡ length out₀) × Left (lineAt (lumaLineAt xs ys scores bits)) modules i (text next out)
+    (written (linesBelow (lumaLineAt xs ys scores bits) modules) (text at out₀))
 
 abbrev μ-loop : tie.MeasureT-loop
 μ-loop out₀ at modules xs ys scores bits next₀ i₀ out next i = modules - i

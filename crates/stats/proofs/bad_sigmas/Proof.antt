@@ -1,6 +1,5 @@
 -- `bad_sigmas` meets its contract: it tests what sentence 9 names, in its order. Assumes nothing.
-use mathlib.Core.Path.{_≡_, refl, sym, ap, _∙_}
-use mathlib.Core.Bool.{Bool, true, false, not}
+use mathlib.Core.Path.{_≡_, ap}
 use borrow.Author.Needs.{needs}
 use lib.Ieee.{Float, lt, binary32, ofBits}
 use Rattle.color.specs.Color.{fraction}

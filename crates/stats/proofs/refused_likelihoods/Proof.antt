@@ -1,6 +1,6 @@
 -- `refused_likelihoods` meets its contract: the sentences in their order, one return for each. Assumes nothing.
-use mathlib.Core.Path.{_≡_, refl, sym, ap, _∙_}
-use mathlib.Core.Bool.{Bool, true, false, not}
+use mathlib.Core.Path.{_≡_, sym, _∙_}
+use mathlib.Core.Bool.{Bool, false}
 use borrow.Author.Needs.{needs}
 use Rattle.sentences.proofs.Laws.{sentences}
 use mathlib.Core.List.{List}

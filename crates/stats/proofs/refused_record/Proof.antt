@@ -1,6 +1,4 @@
 -- `refused_record` meets its contract: the sentences in their order, one return for each. Assumes nothing.
-use mathlib.Core.Path.{_≡_, refl, sym, ap, _∙_}
-use mathlib.Core.Bool.{Bool, true, false, not}
 use borrow.Author.Needs.{needs}
 use Rattle.sentences.proofs.Laws.{sentences}
 use Rattle.stats.specs.Calls.{recordSentences}

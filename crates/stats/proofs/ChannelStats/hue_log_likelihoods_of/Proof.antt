@@ -1,6 +1,6 @@
 -- `ChannelStats::hue_log_likelihoods_of` meets its contract: the likelihoods over the sample's own denominator. Assumes nothing.
 use borrow.Author.Needs.{needs}
-use mathlib.Core.Path.{_≡_, refl, sym, ap, _∙_}
+use mathlib.Core.Path.{_≡_}
 use mathlib.Core.List.{List}
 use Prim.Native.Nat.{ℕ}
 use lib.Ieee.{Float}

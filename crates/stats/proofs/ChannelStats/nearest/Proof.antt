@@ -1,9 +1,7 @@
 -- `nearest` meets its contract: what is left from i on gives the same. Assumes nothing.
-use mathlib.Core.Path.{_≡_, refl, sym, ap, _∙_}
+use mathlib.Core.Path.{_≡_, refl, ap}
 use borrow.Author.Needs.{needs}
-use Prim.Native.Nat.{ℕ, _*_, _-_}
-use lib.Ieee.{Float, inf, div, binary32, ofBits}
-use mathlib.Core.Bool.{false}
+use Prim.Native.Nat.{_*_, _-_}
 use Rattle.loops.proofs.Laws.{Left, loops}
 use Rattle.stats.specs.Noise.{closer, nearest}
 use Rattle.stats.proofs.Literals.{infinite}

@@ -1,6 +1,5 @@
 -- `ChannelStats::reliability_of` meets its contract: the weight of the nearest colour's distance. Assumes nothing.
 use borrow.Author.Needs.{needs}
-use mathlib.Core.Path.{_≡_, refl, sym, ap, _∙_}
 use Rattle.stats.specs.Noise.{reliability}
 use Rattle.stats.proofs.ChannelStats.reliability_of.Statement.{statement}
 use Rattle.stats.proofs.ChannelStats.reliability_of.Tie as tie

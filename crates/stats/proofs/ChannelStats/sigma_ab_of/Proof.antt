@@ -1,6 +1,6 @@
 -- `ChannelStats::sigma_ab_of` meets its contract: each return has tested what the definition tests. Assumes nothing.
-use mathlib.Core.Path.{_≡_, refl, sym, ap, _∙_}
-use mathlib.Core.Bool.{Bool, true, false, not}
+use mathlib.Core.Path.{_≡_}
+use mathlib.Core.Bool.{true, false}
 use borrow.Author.Needs.{needs}
 use lib.Ieee.{Float, le, binary32, ofBits}
 use Rattle.stats.specs.declared.ChannelStats.{ChannelStats}

@@ -1,5 +1,5 @@
 -- `apart` meets its contract: near its own hue, and then far from the others. Assumes nothing.
-use mathlib.Core.Path.{_≡_, refl, sym, ap, _∙_}
+use mathlib.Core.Path.{_≡_}
 use mathlib.Core.Bool.{Bool, true, false, not}
 use mathlib.Core.List.{List}
 use borrow.Author.Needs.{needs}

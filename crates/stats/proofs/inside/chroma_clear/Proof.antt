@@ -1,6 +1,4 @@
 -- `chroma_clear` meets its contract: with chroma off nothing is asked. Assumes nothing.
-use mathlib.Core.Path.{_≡_, refl, sym, ap, _∙_}
-use mathlib.Core.Bool.{Bool, true, false, not}
 use borrow.Author.Needs.{needs}
 use Rattle.sentences.proofs.Laws.{ors}
 use Rattle.stats.proofs.Tests.{flip}

@@ -1,10 +1,10 @@
 -- `colours_fit` meets its contract: what is left from i on says the same. Assumes nothing.
-use mathlib.Core.Path.{_≡_, refl, sym, ap, _∙_}
+use mathlib.Core.Path.{_≡_}
 use borrow.Author.Needs.{needs}
-use Prim.Native.Nat.{ℕ, _*_, _-_}
+use Prim.Native.Nat.{_*_, _-_}
 use Rattle.loops.proofs.Laws.{LeftAny, loops}
 use Rattle.stats.proofs.Tests.{everies}
-use Rattle.stats.specs.Margin.{failsAt, colourFits, coloursFit}
+use Rattle.stats.specs.Margin.{failsAt, colourFits}
 use Rattle.stats.proofs.inside.colours_fit.Statement.{statement}
 use Rattle.stats.proofs.inside.colours_fit.Tie as tie
 

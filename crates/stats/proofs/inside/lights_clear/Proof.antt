@@ -1,10 +1,9 @@
 -- `lights_clear` meets its contract: what is left from h on says the same. Assumes nothing.
-use mathlib.Core.Path.{_≡_, refl, sym, ap, _∙_}
 use borrow.Author.Needs.{needs}
-use Prim.Native.Nat.{ℕ, _*_, _-_}
+use Prim.Native.Nat.{_-_}
 use Rattle.loops.proofs.Laws.{LeftAny, loops}
 use Rattle.stats.proofs.Tests.{everies}
-use Rattle.stats.specs.Margin.{failsAt, lightClear, lightsClear}
+use Rattle.stats.specs.Margin.{failsAt, lightClear}
 use Rattle.stats.proofs.inside.lights_clear.Statement.{statement}
 use Rattle.stats.proofs.inside.lights_clear.Tie as tie
 

@@ -1,6 +1,6 @@
 -- `other_far` meets its contract: the own hue is passed over. Assumes nothing.
-use mathlib.Core.Path.{_≡_, refl, sym, ap, _∙_}
-use mathlib.Core.Bool.{Bool, true, false, not}
+use mathlib.Core.Path.{_≡_}
+use mathlib.Core.Bool.{Bool, true}
 use mathlib.Core.List.{List}
 use borrow.Author.Needs.{needs}
 use Prim.Native.Nat.{ℕ}

@@ -1,7 +1,5 @@
 -- `sigmas_fit` meets its contract: it tests each sigma, in the definition's order. Assumes nothing.
-use mathlib.Core.Path.{_≡_, refl, sym, ap, _∙_}
-use mathlib.Core.Bool.{Bool, true, false, not}
-use borrow.Author.Needs.{needs}
+use mathlib.Core.Path.{_≡_, ap}
 use lib.Ieee.{Float, le, binary32, ofBits}
 use Rattle.color.specs.Color.{whole}
 use Rattle.stats.specs.Margin.{sigmasFit}

@@ -1,0 +1,210 @@
+-- The columns: each reference's three numbers stand at its place, and no later one is written over them. So the lists of the columns are those of
+-- the references, a mark lying in a list's range exactly where the reference counts for it. Assumes nothing.
+use mathlib.Core.Path.{_≡_, refl, sym, ap, _∙_}
+use mathlib.Core.Logic.{_≢_}
+use mathlib.Core.Bool.{Bool, true, false, cond, not, _&&_}
+use mathlib.Core.List.{List}
+use Prim.Native.Nat.{ℕ, suc, _+_, _*_, _≤_, _<_}
+use native.Mathlib.Decide.{ℕ-discrete}
+use native.Mathlib.Omega.{arith}
+use lib.ListN.{length, getD, set, drop, length-set}
+use lib.Dec.{ltb}
+use borrow.Author.Tests.{lt-ltb, le-ltb}
+use Rattle.stats.specs.declared.ChannelStats.{ChannelStats}
+use Rattle.stats.specs.Noise.{nominal}
+use lib.Seq.{getD-set-same, getD-set-other, getD-drop}
+use lib.Ieee.{Float, nan, le, lt, eq, ofBits}
+use Rattle.color.specs.declared.Lab.{Lab}
+use Rattle.illum.specs.declared.IlluminationModel.{IlluminationModel}
+use Rattle.measure.specs.Measure.{picked, sameLevel, atLevel, isLight, colourful, nominalLab, lightnessAt, errorAt, forLevel, forLevelChroma, levelOf, errorsOf, levelErrorsOf, recordOf, measuredOf, measured}
+use Rattle.measure.specs.Columns.{m0, m1, m2, m3, m4, m5, m6, markOf, markFor, markAt, marked, notedAt, Noted, pickedIn, levelIn, recordIn}
+use Rattle.measure.proofs.Lists.{picked-same, picked-two}
+
+-- ---- three writes at x < y < z
+module _ (s : List Float) (x y z : ℕ) (a b c : Float) where
+  abbrev three : List Float
+  three = set (set (set s x a) y b) z c
+
+  at-other : (j : ℕ) → j ≢ x → j ≢ y → j ≢ z → getD three j nan ≡ getD s j nan
+  at-other j p q r = getD-set-other (set (set s x a) y b) z j c nan r ∙ getD-set-other (set s x a) y j b nan q ∙ getD-set-other s x j a nan p
+
+  module _ (h : x < y) (k : y < z) (l : z < length s) where
+    at-x : getD three x nan ≡ a
+    at-x =
+        getD-set-other (set (set s x a) y b) z x c nan (λ q. omega arith) ∙ getD-set-other (set s x a) y x b nan (λ q. omega arith) ∙ getD-set-same s x a nan (omega arith)
+
+    at-y : getD three y nan ≡ b
+    at-y = getD-set-other (set (set s x a) y b) z y c nan (λ q. omega arith) ∙ getD-set-same (set s x a) y b nan (omega (arith, length-set s x a))
+
+    at-z : getD three z nan ≡ c
+    at-z = getD-set-same (set (set s x a) y b) z c nan (omega (arith, length-set s x a, length-set (set s x a) y b))
+
+module _ {m : IlluminationModel} {palette flat : List Float} {n : ℕ} where
+  pub note-begin : (s : List Float) → Noted m palette flat n 0 s
+  note-begin s = record { l = λ j h. absurd (omega arith); e = λ j h. absurd (omega arith); mark = λ j h. absurd (omega arith) }
+
+  module _ {i : ℕ} {s : List Float} (inv : Noted m palette flat n i s) (h : i < n) (l : length s ≡ 4 * n) where
+    module _ (a b c : Float) where
+      abbrev after : List Float
+      after = three s (n + i) (2 * n + i) (3 * n + i) a b c
+
+      kept : (j : ℕ) → j ≢ n + i → j ≢ 2 * n + i → j ≢ 3 * n + i → (v : Float) → getD s j nan ≡ v → getD after j nan ≡ v
+      kept j p q r v e = at-other s (n + i) (2 * n + i) (3 * n + i) a b c j p q r ∙ e
+
+      l-at : a ≡ lightnessAt m flat i → (j : ℕ) → Dec (j ≡ i) → j < i + 1 → getD after (n + j) nan ≡ lightnessAt m flat j
+      l-at ea j (yes q) k = rw q (at-x s (n + i) (2 * n + i) (3 * n + i) a b c (omega arith) (omega arith) (omega arith) ∙ ea)
+      l-at ea j (no q) k = kept (n + j) (λ e. q (omega arith)) (λ e. omega arith) (λ e. omega arith) _ (inv .l j (omega arith))
+
+      e-at : b ≡ errorAt m flat i → (j : ℕ) → Dec (j ≡ i) → j < i + 1 → getD after (2 * n + j) nan ≡ errorAt m flat j
+      e-at eb j (yes q) k = rw q (at-y s (n + i) (2 * n + i) (3 * n + i) a b c (omega arith) (omega arith) (omega arith) ∙ eb)
+      e-at eb j (no q) k = kept (2 * n + j) (λ e. omega arith) (λ e. q (omega arith)) (λ e. omega arith) _ (inv .e j (omega arith))
+
+      mark-at : c ≡ markAt palette flat i → (j : ℕ) → Dec (j ≡ i) → j < i + 1 → getD after (3 * n + j) nan ≡ markAt palette flat j
+      mark-at ec j (yes q) k = rw q (at-z s (n + i) (2 * n + i) (3 * n + i) a b c (omega arith) (omega arith) (omega arith) ∙ ec)
+      mark-at ec j (no q) k = kept (3 * n + j) (λ e. omega arith) (λ e. omega arith) (λ e. q (omega arith)) _ (inv .mark j (omega arith))
+
+    written : Noted m palette flat n (i + 1) (notedAt m palette flat n i s)
+    unfolding notedAt
+    written =
+        let a = lightnessAt m flat i in
+        let b = errorAt m flat i in
+        let c = markAt palette flat i in
+        record {
+          l = λ j k. l-at a b c refl j (ℕ-discrete j i) k;
+          e = λ j k. e-at a b c refl j (ℕ-discrete j i) k;
+          mark = λ j k. mark-at a b c refl j (ℕ-discrete j i) k;
+        }
+
+    pub note-turn : {s′ : List Float} → s′ ≡ notedAt m palette flat n i s → Noted m palette flat n (i + 1) s′
+    note-turn e = rw e written
+
+  pub note-done : {i : ℕ} {s : List Float} → Noted m palette flat n i s → n ≤ i → Noted m palette flat n n s
+  note-done inv h = record { l = λ j k. inv .l j (omega arith); e = λ j k. inv .e j (omega arith); mark = λ j k. inv .mark j (omega arith) }
+
+-- ---- a mark lies in a list's range exactly where the reference counts for the list
+
+level-mark : (light a b c : Bool) → cond light (marked m5 m6 (markOf a b c)) (marked m1 m2 (markOf a b c)) ≡ (a && sameLevel light b)
+unfolding marked markOf ofBits le lt eq
+level-mark true true true true = refl
+level-mark true true true false = refl
+level-mark true true false true = refl
+level-mark true true false false = refl
+level-mark true false true true = refl
+level-mark true false true false = refl
+level-mark true false false true = refl
+level-mark true false false false = refl
+level-mark false true true true = refl
+level-mark false true true false = refl
+level-mark false true false true = refl
+level-mark false true false false = refl
+level-mark false false true true = refl
+level-mark false false true false = refl
+level-mark false false false true = refl
+level-mark false false false false = refl
+
+colour-mark : (a b c : Bool) → marked m2 m5 (markOf a b c) ≡ c
+unfolding marked markOf ofBits le lt eq
+colour-mark true true true = refl
+colour-mark true true false = refl
+colour-mark true false true = refl
+colour-mark true false false = refl
+colour-mark false true true = refl
+colour-mark false true false = refl
+colour-mark false false true = refl
+colour-mark false false false = refl
+
+level-colour-mark : (light a b c : Bool) → cond light (marked m4 m5 (markOf a b c)) (marked m2 m3 (markOf a b c)) ≡ (c && sameLevel light b)
+unfolding marked markOf ofBits le lt eq
+level-colour-mark true true true true = refl
+level-colour-mark true true true false = refl
+level-colour-mark true true false true = refl
+level-colour-mark true true false false = refl
+level-colour-mark true false true true = refl
+level-colour-mark true false true false = refl
+level-colour-mark true false false true = refl
+level-colour-mark true false false false = refl
+level-colour-mark false true true true = refl
+level-colour-mark false true true false = refl
+level-colour-mark false true false true = refl
+level-colour-mark false true false false = refl
+level-colour-mark false false true true = refl
+level-colour-mark false false true false = refl
+level-colour-mark false false false true = refl
+level-colour-mark false false false false = refl
+
+-- ---- the lists of the columns
+
+module _ (palette : List Float) (nominal : Lab) where
+  dark-counts : marked m1 m2 (markFor palette nominal) ≡ forLevel false palette nominal
+  unfolding markFor forLevel
+  dark-counts = level-mark false (atLevel palette nominal) (isLight palette nominal) (colourful nominal)
+
+  light-counts : marked m5 m6 (markFor palette nominal) ≡ forLevel true palette nominal
+  unfolding markFor forLevel
+  light-counts = level-mark true (atLevel palette nominal) (isLight palette nominal) (colourful nominal)
+
+  colour-counts : marked m2 m5 (markFor palette nominal) ≡ colourful nominal
+  unfolding markFor
+  colour-counts = colour-mark (atLevel palette nominal) (isLight palette nominal) (colourful nominal)
+
+  dark-colour-counts : marked m2 m3 (markFor palette nominal) ≡ forLevelChroma false palette nominal
+  unfolding markFor forLevelChroma
+  dark-colour-counts = level-colour-mark false (atLevel palette nominal) (isLight palette nominal) (colourful nominal)
+
+  light-colour-counts : marked m4 m5 (markFor palette nominal) ≡ forLevelChroma true palette nominal
+  unfolding markFor forLevelChroma
+  light-colour-counts = level-colour-mark true (atLevel palette nominal) (isLight palette nominal) (colourful nominal)
+
+  -- a reference of the dark level is none of the light one
+  one-level : forLevel false palette nominal ≡ true → forLevel true palette nominal ≡ false
+  unfolding forLevel
+  one-level = go (atLevel palette nominal) (isLight palette nominal)
+    where
+      go : (a b : Bool) → (a && sameLevel false b) ≡ true → (a && sameLevel true b) ≡ false
+      go true true e = sym e
+      go true false e = refl
+      go false b e = refl
+
+module _ {m : IlluminationModel} {palette flat : List Float} {n : ℕ} {s : List Float} (inv : Noted m palette flat n n s) where
+  spot : (a j : ℕ) → n + (a + j) ≡ n + a + j
+  spot a j = omega arith
+
+  read : (a j b : ℕ) (v : Float) → n + a ≡ b → getD s (b + j) nan ≡ v → getD (drop n s) (a + j) nan ≡ v
+  read a j b v e h = getD-drop n s (a + j) nan ∙ ap (λ (k : ℕ). getD s k nan) (spot a j ∙ ap (λ (k : ℕ). k + j) e) ∙ h
+
+  module _ (at b : ℕ) (e : n + at ≡ b) (f : ℕ → Float) (reads : (j : ℕ) → j < n → getD s (b + j) nan ≡ f j) (lo hi : Float) (q : ℕ → Bool)
+      (counts : (j : ℕ) → marked lo hi (markAt palette flat j) ≡ q j) where
+    same-list : pickedIn n at lo hi (drop n s) ≡ picked n 0 q f
+    same-list =
+        picked-same n 0 _ q _ f (λ j a k. ap (marked lo hi) (read (2 * n) j (3 * n) _ (omega arith) (inv .mark j (omega arith))) ∙ counts j)
+        (λ j a k. read at j b _ e (reads j (omega arith)))
+
+  level-list : (light : Bool) → levelIn light n (drop n s) ≡ levelOf light m palette flat n
+  level-list true = same-list 0 n (omega arith) (lightnessAt m flat) (inv .l) m5 m6 _ (λ j. light-counts palette (nominalLab flat j))
+  level-list false = same-list 0 n (omega arith) (lightnessAt m flat) (inv .l) m1 m2 _ (λ j. dark-counts palette (nominalLab flat j))
+
+  error-list : (lo hi : Float) (q : ℕ → Bool) → ((j : ℕ) → marked lo hi (markAt palette flat j) ≡ q j) → pickedIn n n lo hi (drop n s) ≡ picked n 0 q (errorAt m flat)
+  error-list lo hi q counts = same-list n (2 * n) (omega arith) (errorAt m flat) (inv .e) lo hi q counts
+
+  -- the two levels' lists fit in one column
+  pub levels-fit : length (levelIn false n (drop n s)) + length (levelIn true n (drop n s)) ≤ n
+  levels-fit = rw (level-list false, level-list true) (picked-two n 0 _ _ _ _ (λ j. one-level palette (nominalLab flat j)))
+
+  pub columns-record : recordIn palette n (drop n s) ≡ measuredOf m palette flat n
+  unfolding recordIn measuredOf
+  columns-record =
+      rw (
+        level-list false,
+        level-list true,
+        error-list m2 m5 _ (λ j. colour-counts palette (nominalLab flat j)),
+        error-list m2 m3 _ (λ j. dark-colour-counts palette (nominalLab flat j)),
+        error-list m4 m5 _ (λ j. light-colour-counts palette (nominalLab flat j)),
+      )
+
+  pub enough : {r : ChannelStats} → 8 ≤ n → r ≡ recordIn palette n (drop n s) → r ≡ measured m palette flat n
+  unfolding measured
+  enough h e = rw (le-ltb n 8 h) (e ∙ columns-record)
+
+pub too-few : (m : IlluminationModel) (palette flat : List Float) (n : ℕ) (r : ChannelStats) → n < 8 → r ≡ nominal palette → r ≡ measured m palette flat n
+unfolding measured
+too-few m palette flat n r h e = rw (lt-ltb n 8 h) e

@@ -1,0 +1,120 @@
+-- How the lists stand in the scratch, four columns of n: room for one list, the corrected lightness, the chroma error and the mark of each
+-- reference. Definitions only; `Measure` says what is right.
+use mathlib.Core.Path.{_≡_}
+use mathlib.Core.Bool.{Bool, true, false, cond, _&&_}
+use mathlib.Core.List.{List, _++_, map}
+use Prim.Native.Nat.{ℕ, _+_, _*_, _<_}
+use lib.ListN.{length, getD, set}
+use lib.Ieee.{Float, nan, binary32, ofBits, le}
+use Rattle.color.specs.declared.Lab.{Lab}
+use Rattle.order.specs.Median.{medianOf}
+use Rattle.order.specs.Deviation.{deviation}
+use Rattle.illum.specs.declared.IlluminationModel.{IlluminationModel}
+use Rattle.measure.specs.declared.Level.{Level}
+use Rattle.measure.specs.declared.Form.{Form}
+use Rattle.measure.specs.declared.Form.the-variants.{Plain, Less, Apart, LessApart}
+use Rattle.stats.specs.declared.ChannelStats.{ChannelStats}
+use Rattle.measure.specs.Measure.{figuresOf, recordOf, less, isLight, atLevel, colourful, nominalLab, lightnessAt, errorAt, picked}
+
+-- ---- marks: which lists a reference counts for. From 1 to 2 dark lightness, 5 to 6 light lightness, 2 to 5 chroma, 2 to 3 dark chroma, 4 to 5 light chroma.
+
+-- the marks are the code's 0.0 to 6.0
+abbrev pub m0 : Float
+m0 = ofBits binary32 0
+
+abbrev pub m1 : Float
+m1 = ofBits binary32 0x3f80_0000
+
+abbrev pub m2 : Float
+m2 = ofBits binary32 0x4000_0000
+
+abbrev pub m3 : Float
+m3 = ofBits binary32 0x4040_0000
+
+abbrev pub m4 : Float
+m4 = ofBits binary32 0x4080_0000
+
+abbrev pub m5 : Float
+m5 = ofBits binary32 0x40a0_0000
+
+abbrev pub m6 : Float
+m6 = ofBits binary32 0x40c0_0000
+
+unfoldable pub markOf : Bool → Bool → Bool → Float
+markOf true false false = m1
+markOf true false true = m2
+markOf false false true = m3
+markOf false true true = m4
+markOf true true true = m5
+markOf true true false = m6
+markOf false true false = m0
+markOf false false false = m0
+
+unfoldable pub markFor : List Float → Lab → Float
+markFor palette nominal = markOf (atLevel palette nominal) (isLight palette nominal) (colourful nominal)
+
+abbrev pub markAt : List Float → List Float → ℕ → Float
+markAt palette flat i = markFor palette (nominalLab flat i)
+
+-- a mark from lo to hi
+unfoldable pub marked : Float → Float → Float → Bool
+marked lo hi mark = le lo mark && le mark hi
+
+-- ---- what is written of reference i of n
+
+unfoldable pub notedAt : IlluminationModel → List Float → List Float → ℕ → ℕ → List Float → List Float
+notedAt m palette flat n i s =
+    set (set (set s (n + i) (lightnessAt m flat i)) (2 * n + i) (errorAt m flat i)) (3 * n + i) (markAt palette flat i)
+
+-- the columns of k references are written
+pub record Noted (m : IlluminationModel) (palette flat : List Float) (n k : ℕ) (s : List Float) : Type 0 where
+  pub l : (j : ℕ) → j < k → getD s (n + j) nan ≡ lightnessAt m flat j
+  pub e : (j : ℕ) → j < k → getD s (2 * n + j) nan ≡ errorAt m flat j
+  pub mark : (j : ℕ) → j < k → getD s (3 * n + j) nan ≡ markAt palette flat j
+
+-- ---- the list of a column's elements whose mark is from lo to hi. t has the three columns after the first, and `column` is where one starts.
+
+abbrev pub pickedIn : ℕ → ℕ → Float → Float → List Float → List Float
+pickedIn n column lo hi t = picked n 0 (λ i. marked lo hi (getD t (2 * n + i) nan)) (λ i. getD t (column + i) nan)
+
+abbrev pub levelIn : Bool → ℕ → List Float → List Float
+levelIn true n t = pickedIn n 0 m5 m6 t
+levelIn false n t = pickedIn n 0 m1 m2 t
+
+-- the record of the columns' lists
+unfoldable pub figuresIn : ℕ → Float → Float → List Float → ChannelStats
+figuresIn n l0 l1 t =
+    figuresOf n l0 l1 (levelIn false n t) (levelIn true n t) (pickedIn n n m2 m5 t) (pickedIn n n m2 m3 t) (pickedIn n n m4 m5 t)
+
+unfoldable pub recordIn : List Float → ℕ → List Float → ChannelStats
+recordIn palette n t =
+    recordOf palette n (levelIn false n t) (levelIn true n t) (pickedIn n n m2 m5 t) (pickedIn n n m2 m3 t) (pickedIn n n m4 m5 t)
+
+-- how many a level has, and their median
+abbrev pub levelled : List Float → Level
+levelled xs = record { count = length xs; l = medianOf xs }
+
+-- ---- the form in which an element is listed
+
+unfoldable pub formed : Form → Float → Float
+formed Plain v = v
+formed (Less l) v = less l v
+formed (Apart m) v = deviation m v
+formed (LessApart l m) v = deviation m (less l v)
+
+-- the lightnesses of the dark level in one form, then those of the light level in another
+abbrev pub levelsIn : Form → Form → ℕ → List Float → List Float
+levelsIn dark light n t = map (formed dark) (levelIn false n t) ++ map (formed light) (levelIn true n t)
+
+-- ---- one element listed, k being listed before
+
+pub record Listed : Type 0 where
+  pub s : List Float
+  pub k : ℕ
+
+abbrev pub listed : List Float → ℕ → Listed
+listed s k = record { s = s; k = k }
+
+unfoldable pub listAt : ℕ → ℕ → Float → Float → Form → ℕ → ℕ → List Float → Listed
+listAt n column lo hi form i k s =
+    cond (marked lo hi (getD s (3 * n + i) nan)) (listed (set s k (formed form (getD s (n + column + i) nan))) (k + 1)) (listed s k)

@@ -1,0 +1,3 @@
+-- What the contracts of `measure` cite: `Measure`, the record and the calls; `Columns`, how the lists stand in the scratch.
+pub mod Measure
+pub mod Columns

@@ -1,0 +1,491 @@
+// The noise record of a capture, measured from references of known colour (demod.rs, `measure`): the median lightness of
+// each level, the luma noise about them, and the chroma noise of the colourful references.
+//
+// References are flat floats, eight each: x, y, the observed colour, the nominal colour.
+//
+//     let mut scratch = [0.0f32; 1024];
+//     match measure::measure_flat(&flat, 21, model, &palette, hues, &mut scratch) { .. }      // up to 256 references
+ghost use mathlib.Core.Path.{_≡_};
+ghost use mathlib.Core.Bool.{true, false};
+ghost use mathlib.Core.List.{_++_, map};
+ghost use Prim.Native.Nat.{_+_, _*_, _<_, _≤_};
+ghost use lib.ListN.{length, getD, take, drop};
+ghost use lib.Ieee.{nan};
+ghost use Rattle.sentences.specs.Sentences.{refusal};
+ghost use Rattle.color.specs.Color.{whole};
+ghost use Rattle.color.specs.Palette.{paletteLen};
+ghost use Rattle.order.specs.Median.{medianOf};
+ghost use Rattle.order.specs.Deviation.{sigmaOf};
+ghost use Rattle.measure.specs.Measure as spec;
+ghost use Rattle.measure.specs.Measure.{final, request, flatRequest};
+ghost use Rattle.measure.specs.Columns as column;
+use color::Lab;
+use color::Linear;
+use color::palette::level_l;
+use illum::IlluminationModel;
+use stats::ChannelStats;
+use stats::Noise;
+
+// ---- one reference
+
+// The observed colour of reference i, corrected by the model.
+fn corrected_at(model: IlluminationModel, flat: &[f32], i: usize) -> Linear
+    requires { ⌜ 8 * i + 8 ≤ length (now flat) ⌝ }
+    ensures { λ r. ⌜ r ≡ spec.correctedAt model (now (flat .entry)) i ⌝ }
+{
+    let m = illum::corrected(
+        model,
+        flat[8 * i],
+        flat[8 * i + 1],
+        references::observed_at(flat, i),
+    );
+    m.colour
+}
+
+// Its Lab.
+fn corrected_lab(model: IlluminationModel, flat: &[f32], i: usize) -> Lab
+    requires { ⌜ 8 * i + 8 ≤ length (now flat) ⌝ }
+    ensures { λ r. ⌜ r ≡ spec.correctedLab model (now (flat .entry)) i ⌝ }
+{
+    color::linear_to_lab(corrected_at(model, flat, i))
+}
+
+// The Lab of the nominal colour of reference i.
+fn nominal_lab(flat: &[f32], i: usize) -> Lab
+    requires { ⌜ 8 * i + 8 ≤ length (now flat) ⌝ }
+    ensures { λ r. ⌜ r ≡ spec.nominalLab (now (flat .entry)) i ⌝ }
+{
+    color::linear_to_lab(references::nominal_at(flat, i))
+}
+
+// The lightness between the palette's two levels.
+fn middle(palette: &[f32]) -> f32
+    requires { ⌜ 2 ≤ length (now palette) ⌝ }
+    ensures { λ r. ⌜ r ≡ spec.middle (now (palette .entry)) ⌝ }
+{
+    (level_l(palette, 0) + level_l(palette, 1)) / 2.0
+}
+
+// Whether a nominal colour is of the light level.
+fn is_light(palette: &[f32], nominal: Lab) -> bool
+    requires { ⌜ 2 ≤ length (now palette) ⌝ }
+    ensures { λ r. ⌜ r ≡ spec.isLight (now (palette .entry)) nominal ⌝ }
+{
+    nominal.l >= middle(palette)
+}
+
+// The lightness of its level.
+fn level_at(palette: &[f32], nominal: Lab) -> f32
+    requires { ⌜ 2 ≤ length (now palette) ⌝ }
+    ensures { λ r. ⌜ r ≡ spec.levelAt (now (palette .entry)) nominal ⌝ }
+{
+    if is_light(palette, nominal) {
+        return level_l(palette, 1);
+    }
+    level_l(palette, 0)
+}
+
+// Whether its lightness is at most 12 from that of its level.
+fn at_level(palette: &[f32], nominal: Lab) -> bool
+    requires { ⌜ 2 ≤ length (now palette) ⌝ }
+    ensures { λ r. ⌜ r ≡ spec.atLevel (now (palette .entry)) nominal ⌝ }
+{
+    float::abs(nominal.l - level_at(palette, nominal)) <= 12.0
+}
+
+// Whether it says anything about chroma noise: white and black would report a hue error that is only a lightness error.
+fn colourful(nominal: Lab) -> bool
+    ensures { λ r. ⌜ r ≡ spec.colourful nominal ⌝ }
+{
+    nominal.chroma() > 20.0
+}
+
+// ---- the columns of the scratch: room for one list, the corrected lightness, the chroma error and the mark of each reference
+
+// The mark of a reference: from 1 to 2 its lightness counts for the dark level, from 5 to 6 for the light one; from 2 to 5 its
+// chroma error counts, up to 3 for the dark level and from 4 on for the light one.
+fn mark_of(near: bool, light: bool, colourful: bool) -> f32
+    ensures { λ r. ⌜ r ≡ column.markOf near light colourful ⌝ }
+{
+    if near {
+        if light {
+            if colourful {
+                return 5.0;
+            }
+            return 6.0;
+        }
+        if colourful {
+            return 2.0;
+        }
+        return 1.0;
+    }
+    if colourful {
+        if light {
+            return 4.0;
+        }
+        return 3.0;
+    }
+    0.0
+}
+
+fn mark_for(palette: &[f32], nominal: Lab) -> f32
+    requires { ⌜ 2 ≤ length (now palette) ⌝ }
+    ensures { λ r. ⌜ r ≡ column.markFor (now (palette .entry)) nominal ⌝ }
+{
+    let near = at_level(palette, nominal);
+    let light = is_light(palette, nominal);
+    mark_of(near, light, colourful(nominal))
+}
+
+// Writes the three numbers of reference i of n.
+fn note_at(
+    model: IlluminationModel,
+    palette: &[f32],
+    flat: &[f32],
+    n: usize,
+    i: usize,
+    s: &mut [f32],
+)
+    requires { ⌜ (n ≤ 16384) × (i < n) × (8 * n ≤ length (now flat)) × (2 ≤ length (now palette)) × (length (now s) ≡ 4 * n) ⌝ }
+    ensures { λ _. ⌜ now (s .exit) ≡ column.notedAt model (now (palette .entry)) (now (flat .entry)) n i (now (s .entry)) ⌝ }
+{
+    let corrected = corrected_lab(model, flat, i);
+    let nominal = nominal_lab(flat, i);
+    s[n + i] = corrected.l;
+    s[2 * n + i] = corrected.ab_distance(nominal);
+    s[3 * n + i] = mark_for(palette, nominal);
+}
+
+// Writes them of all n.
+fn note(model: IlluminationModel, palette: &[f32], flat: &[f32], n: usize, s: &mut [f32])
+    requires { ⌜ (n ≤ 16384) × (8 * n ≤ length (now flat)) × (2 ≤ length (now palette)) × (length (now s) ≡ 4 * n) ⌝ }
+    ensures { λ _. ⌜ column.Noted model (now (palette .entry)) (now (flat .entry)) n n (now (s .exit)) ⌝ }
+{
+    for i in 0..n {
+        note_at(model, palette, flat, n, i, s);
+    }
+}
+
+// ---- the lists
+
+// The form in which a number is listed: as it is, less l, as its distance from m, as that of what is less l.
+enum Form {
+    Plain,
+    Less(f32),
+    Apart(f32),
+    LessApart(f32, f32),
+}
+
+fn formed(form: Form, v: f32) -> f32
+    ensures { λ r. ⌜ r ≡ column.formed form v ⌝ }
+{
+    match form {
+        Form::Plain => v,
+        Form::Less(l) => v - l,
+        Form::Apart(m) => float::abs(v - m),
+        Form::LessApart(l, m) => float::abs(v - l - m),
+    }
+}
+
+// Whether a mark is from lo to hi.
+fn marked(lo: f32, hi: f32, mark: f32) -> bool
+    ensures { λ r. ⌜ r ≡ column.marked lo hi mark ⌝ }
+{
+    if lo <= mark {
+        return mark <= hi;
+    }
+    false
+}
+
+// Lists the number of reference i in a column, where its mark is from lo to hi: k were listed before, and one more may be after.
+fn list_at(
+    s: &mut [f32],
+    n: usize,
+    at: usize,
+    lo: f32,
+    hi: f32,
+    form: Form,
+    i: usize,
+    k: usize,
+) -> usize
+    requires { ⌜ (n ≤ 16384) × (i < n) × (at ≤ n) × (k ≤ n) × (length (now s) ≡ 4 * n) × (column.marked lo hi (getD (now s) (3 * n + i) nan) ≡ true → k < n) ⌝ }
+    ensures { λ r. ⌜ column.listed (now (s .exit)) r ≡ column.listAt n at lo hi form i k (now (s .entry)) ⌝ }
+{
+    if marked(lo, hi, s[3 * n + i]) {
+        s[k] = formed(form, s[n + at + i]);
+        return k + 1;
+    }
+    k
+}
+
+// Lists the numbers of a column whose mark is from lo to hi after the first k of s, and says how many are listed then.
+fn list(s: &mut [f32], n: usize, at: usize, lo: f32, hi: f32, form: Form, k: usize) -> usize
+    requires { ⌜ (n ≤ 16384) × (at ≤ n) × (length (now s) ≡ 4 * n) × (k + length (column.pickedIn n at lo hi (drop n (now s))) ≤ n) ⌝ }
+    ensures { λ r. ⌜ (take r (now (s .exit)) ≡ take k (now (s .entry)) ++ map (column.formed form) (column.pickedIn n at lo hi (drop n (now (s .entry))))) × (r ≡ k + length (column.pickedIn n at lo hi (drop n (now (s .entry))))) × (r ≤ n) × (drop n (now (s .exit)) ≡ drop n (now (s .entry))) ⌝ }
+{
+    let mut r = k;
+    for i in 0..n {
+        r = list_at(s, n, at, lo, hi, form, i, r);
+    }
+    r
+}
+
+// The median of the first k of s, the list.
+fn median_of(s: &mut [f32], n: usize, k: usize) -> f32
+    requires { ⌜ (k ≤ n) × (length (now s) ≡ 4 * n) ⌝ }
+    ensures { λ r. ⌜ (r ≡ medianOf (take k (now (s .entry)))) × (drop n (now (s .exit)) ≡ drop n (now (s .entry))) ⌝ }
+{
+    order::median(&mut s[..k])
+}
+
+// Lists the lightnesses of the dark level in one form, then those of the light level in another, and says how many they are.
+fn list_levels(s: &mut [f32], n: usize, dark: Form, light: Form) -> usize
+    requires { ⌜ (n ≤ 16384) × (length (now s) ≡ 4 * n) × (length (column.levelIn false n (drop n (now s))) + length (column.levelIn true n (drop n (now s))) ≤ n) ⌝ }
+    ensures { λ r. ⌜ (take r (now (s .exit)) ≡ column.levelsIn dark light n (drop n (now (s .entry)))) × (r ≤ n) × (drop n (now (s .exit)) ≡ drop n (now (s .entry))) ⌝ }
+{
+    let k = list(s, n, 0, 1.0, 2.0, dark, 0);
+    list(s, n, 0, 5.0, 6.0, light, k)
+}
+
+// The luma noise about the levels' medians l0 and l1: the scaled median absolute deviation, at least 0.75.
+fn luma_sigma(s: &mut [f32], n: usize, l0: f32, l1: f32) -> f32
+    requires { ⌜ (n ≤ 16384) × (length (now s) ≡ 4 * n) × (length (column.levelIn false n (drop n (now s))) + length (column.levelIn true n (drop n (now s))) ≤ n) ⌝ }
+    ensures { λ r. ⌜ (r ≡ spec.lumaSigma l0 l1 (column.levelIn false n (drop n (now (s .entry)))) (column.levelIn true n (drop n (now (s .entry))))) × (drop n (now (s .exit)) ≡ drop n (now (s .entry))) ⌝ }
+{
+    let k = list_levels(s, n, Form::Less(l0), Form::Less(l1));
+    let m = median_of(s, n, k);
+    let j = list_levels(s, n, Form::LessApart(l0, m), Form::LessApart(l1, m));
+    float::max(1.4826 * median_of(s, n, j), 0.75)
+}
+
+// The chroma noise of the references whose mark is from lo to hi, at least 0.75; `other` where there are fewer than `least`.
+fn chroma_sigma(s: &mut [f32], n: usize, lo: f32, hi: f32, least: usize, other: f32) -> f32
+    requires { ⌜ (n ≤ 16384) × (length (now s) ≡ 4 * n) ⌝ }
+    ensures { λ r. ⌜ (r ≡ spec.chromaSigma least other (column.pickedIn n n lo hi (drop n (now (s .entry))))) × (drop n (now (s .exit)) ≡ drop n (now (s .entry))) ⌝ }
+{
+    let k = list(s, n, n, lo, hi, Form::Plain, 0);
+    if k < least {
+        return other;
+    }
+    let m = median_of(s, n, k);
+    let j = list(s, n, n, lo, hi, Form::Apart(m), 0);
+    float::max(1.4826 * median_of(s, n, j), 0.75)
+}
+
+// ---- the record
+
+// How many references count for a level, and their median lightness.
+struct Level {
+    count: usize,
+    l: f32,
+}
+
+// The level whose references are marked from lo to hi.
+fn level_of(s: &mut [f32], n: usize, lo: f32, hi: f32) -> Level
+    requires { ⌜ (n ≤ 16384) × (length (now s) ≡ 4 * n) ⌝ }
+    ensures { λ r. ⌜ (r ≡ column.levelled (column.pickedIn n 0 lo hi (drop n (now (s .entry))))) × (drop n (now (s .exit)) ≡ drop n (now (s .entry))) ⌝ }
+{
+    let count = list(s, n, 0, lo, hi, Form::Plain, 0);
+    let l = median_of(s, n, count);
+    Level { count, l }
+}
+
+// The record of the levels' medians and the columns.
+fn figures_of(s: &mut [f32], n: usize, l0: f32, l1: f32) -> ChannelStats
+    requires { ⌜ (n ≤ 16384) × (length (now s) ≡ 4 * n) × (length (column.levelIn false n (drop n (now s))) + length (column.levelIn true n (drop n (now s))) ≤ n) ⌝ }
+    ensures { λ r. ⌜ r ≡ column.figuresIn n l0 l1 (drop n (now (s .entry))) ⌝ }
+{
+    let sigma_l = luma_sigma(s, n, l0, l1);
+    let sigma_ab = chroma_sigma(s, n, 2.0, 5.0, 1, 0.75);
+    let sigma_ab_dark = chroma_sigma(s, n, 2.0, 3.0, 8, 0.0);
+    let sigma_ab_light = chroma_sigma(s, n, 4.0, 5.0, 8, 0.0);
+    ChannelStats {
+        l0,
+        l1,
+        sigma_l,
+        sigma_ab,
+        sigma_ab_dark,
+        sigma_ab_light,
+        samples: n as u32,
+    }
+}
+
+// The record of the columns; `nominal` with fewer than 3 of a level.
+fn record_of(palette: &[f32], n: usize, s: &mut [f32]) -> ChannelStats
+    requires { ⌜ (n ≤ 16384) × (2 ≤ length (now palette)) × (length (now s) ≡ 4 * n) × (length (column.levelIn false n (drop n (now s))) + length (column.levelIn true n (drop n (now s))) ≤ n) ⌝ }
+    ensures { λ r. ⌜ r ≡ column.recordIn (now (palette .entry)) n (drop n (now (s .entry))) ⌝ }
+{
+    let dark = level_of(s, n, 1.0, 2.0);
+    let light = level_of(s, n, 5.0, 6.0);
+    if dark.count < 3 {
+        return ChannelStats::nominal_of(palette);
+    }
+    if light.count < 3 {
+        return ChannelStats::nominal_of(palette);
+    }
+    figures_of(s, n, dark.l, light.l)
+}
+
+// Core: the record of n references that the sentences let pass; `nominal` of fewer than 8. The numbers in s are of no use after.
+pub fn measured(
+    model: IlluminationModel,
+    palette: &[f32],
+    flat: &[f32],
+    n: usize,
+    s: &mut [f32],
+) -> ChannelStats
+    requires { ⌜ (n ≤ 16384) × (8 * n ≤ length (now flat)) × (2 ≤ length (now palette)) × (length (now s) ≡ 4 * n) ⌝ }
+    ensures { λ r. ⌜ r ≡ spec.measured model (now (palette .entry)) (now (flat .entry)) n ⌝ }
+{
+    if n < 8 {
+        return ChannelStats::nominal_of(palette);
+    }
+    note(model, palette, flat, n, s);
+    record_of(palette, n, s)
+}
+
+// ---- the sentences
+
+// Sentence 5: the palette or the scratch is too short.
+fn too_short(palette: &[f32], hues: usize, lent: usize, n: usize) -> bool
+    ensures { λ r. ⌜ r ≡ spec.tooShort false (now (palette .entry)) hues lent n ⌝ }
+{
+    if stats::short_palette(palette, hues) {
+        return true;
+    }
+    references::short_scratch(lent, n)
+}
+
+// Sentence 8: a colour of a reference or a number of the palette is wild.
+fn wild_numbers(flat: &[f32], n: usize, palette: &[f32], hues: usize) -> bool
+    requires { ⌜ (8 * n ≤ length (now flat)) × (paletteLen hues ≤ length (now palette)) ⌝ }
+    ensures { λ r. ⌜ r ≡ spec.wildNumbers (now (flat .entry)) n (now (palette .entry)) hues ⌝ }
+{
+    if references::wild_colours(flat, n) {
+        return true;
+    }
+    color::palette::wild_palette(palette, hues)
+}
+
+// The corrected colour of reference i is wild.
+fn wild_corrected_at(model: IlluminationModel, flat: &[f32], i: usize) -> bool
+    requires { ⌜ 8 * i + 8 ≤ length (now flat) ⌝ }
+    ensures { λ r. ⌜ r ≡ spec.wildCorrectedAt model (now (flat .entry)) i ⌝ }
+{
+    color::palette::wild_linear(corrected_at(model, flat, i))
+}
+
+// That of one of n references is.
+fn wild_corrected(model: IlluminationModel, flat: &[f32], n: usize) -> bool
+    requires { ⌜ 8 * n ≤ length (now flat) ⌝ }
+    ensures { λ r. ⌜ r ≡ spec.wildCorrected model (now (flat .entry)) n ⌝ }
+{
+    for i in 0..n {
+        if wild_corrected_at(model, flat, i) {
+            return true;
+        }
+    }
+    false
+}
+
+// Sentence 12; fewer than 8 references are not corrected.
+fn bad_corrected(model: IlluminationModel, flat: &[f32], n: usize) -> bool
+    requires { ⌜ 8 * n ≤ length (now flat) ⌝ }
+    ensures { λ r. ⌜ r ≡ spec.badCorrected model (now (flat .entry)) n ⌝ }
+{
+    if 8 <= n {
+        return wild_corrected(model, flat, n);
+    }
+    false
+}
+
+// The number of the first sentence that holds, or 0.
+fn refused(
+    flat: &[f32],
+    n: usize,
+    side: usize,
+    model: IlluminationModel,
+    palette: &[f32],
+    hues: usize,
+    lent: usize,
+) -> u32
+    requires { ⌜ (n ≤ 16384 → 8 * n ≤ length (now flat)) ⌝ }
+    ensures { λ r. ⌜ r ≡ refusal (spec.sentencesFor (now (flat .entry)) false n side model (now (palette .entry)) hues lent) ⌝ }
+{
+    if limits::bad_side(side) {
+        return 2;
+    }
+    if limits::bad_hues(hues) {
+        return 3;
+    }
+    if too_short(palette, hues, lent, n) {
+        return 5;
+    }
+    if references::too_many(n) {
+        return 6;
+    }
+    if references::bad_positions(side, flat, n) {
+        return 7;
+    }
+    if wild_numbers(flat, n, palette, hues) {
+        return 8;
+    }
+    if illum::bad_model(model) {
+        return 10;
+    }
+    if bad_corrected(model, flat, n) {
+        return 12;
+    }
+    0
+}
+
+// ---- the calls
+
+// Core: measures n references, which stand in flat where there are no more than 16,384 of them. Refused by 2, 3, 5 (the palette
+// or scratch too short), 6, 7, 8, 10 and 12.
+pub fn measure_counted(
+    flat: &[f32],
+    n: usize,
+    side: usize,
+    model: IlluminationModel,
+    palette: &[f32],
+    hues: usize,
+    scratch: &mut [f32],
+) -> Noise
+    requires { ⌜ (n ≤ 16384 → 8 * n ≤ length (now flat)) ⌝ }
+    ensures { λ r. ⌜ final r (now (scratch .exit)) ≡ spec.measureOf (request (now (flat .entry)) false n side model (now (palette .entry)) hues (now (scratch .entry))) ⌝ }
+{
+    let number = refused(flat, n, side, model, palette, hues, scratch.len());
+    if number != 0 {
+        return Noise::Refused(number);
+    }
+    let r = measured(model, palette, flat, n, &mut scratch[..4 * n]);
+    references::clear(scratch, 4 * n);
+    Noise::Record(r)
+}
+
+// Measures the noise record from references in flat floats, eight each, for a card of this side, corrected by the model. With
+// fewer than 8 references, or fewer than 3 of a level, it is `nominal`. Scratch of 4 × references is all zero afterwards, and
+// its tail stays. Refused by 2, 3, 5 (flat no multiple of eight long, the palette or scratch too short), 6, 7, 8, 10 and 12;
+// scratch is untouched then.
+pub fn measure_flat(
+    flat: &[f32],
+    side: usize,
+    model: IlluminationModel,
+    palette: &[f32],
+    hues: usize,
+    scratch: &mut [f32],
+) -> Noise
+    ensures { λ r. ⌜ final r (now (scratch .exit)) ≡ spec.measureOf (flatRequest (now (flat .entry)) side model (now (palette .entry)) hues (now (scratch .entry))) ⌝ }
+{
+    if flat.len() % 8 == 0 {
+        return measure_counted(flat, flat.len() / 8, side, model, palette, hues, scratch);
+    }
+    if limits::bad_side(side) {
+        return Noise::Refused(2);
+    }
+    if limits::bad_hues(hues) {
+        return Noise::Refused(3);
+    }
+    Noise::Refused(5)
+}

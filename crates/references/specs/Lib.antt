@@ -1,0 +1,2 @@
+-- What the contracts of `references` cite.
+pub mod References
