@@ -17,7 +17,7 @@ use Rattle.illum.proofs.Passes.{unit-four-passes, unit-nine-passes}
 use Rattle.fit.specs.References.{allLive, liveCount}
 use Rattle.fit.specs.Residual.{residualsOf, limitOf, rejectAbove}
 use Rattle.fit.specs.Fit.{withCounts, passOf, ran, concluded, droppedOf, refitted, firstPass, fitted, termsFor, Request, sentencesOf, turnedAway, done, fitOf}
-use Rattle.fit.proofs.Accepted.{accepted}
+use Rattle.fit.proofs.Accepted.{Accepted, accepted}
 use Rattle.fit.proofs.Counts.{each-counted}
 use Rattle.fit.proofs.Shape.{pass-alike, pass-finite, counts-apart, counts-pass, alike-passes}
 
@@ -98,3 +98,13 @@ by-number q (suc k) e = refused-sound (q .n) k noModel
 pub fit-sound : (q : Request) → Sound (q .n) (fitOf q .answer)
 unfolding fitOf
 fit-sound q = by-number q (refusal (sentencesOf q)) refl
+
+-- an accepted fit: none of the sentences 2 to 8 holds
+zero-number : (q : Request) (k : ℕ) → decided k (turnedAway q) (done q) .answer .number ≡ 0 → k ≡ 0
+unfolding decided
+zero-number q zero e = refl
+zero-number q (suc k) e = e
+
+pub fit-accepted : (q : Request) → fitOf q .answer .number ≡ 0 → Accepted (q .flat) (q .n) (q .side) (length (q .scratch))
+unfolding fitOf
+fit-accepted q e = accepted (q .flat) (q .cut) (q .n) (q .side) (length (q .scratch)) (refusal (sentencesOf q)) refl (zero-number q (refusal (sentencesOf q)) e)

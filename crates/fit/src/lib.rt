@@ -17,7 +17,7 @@ ghost use Rattle.fit.specs.Residual.{residualsOf};
 ghost use Rattle.fit.specs.Fit as spec;
 ghost use Rattle.fit.specs.Fit.{final, request, flatRequest, ran, dropped};
 
-pub mod once;
+mod once;
 mod refs;
 mod residual;
 

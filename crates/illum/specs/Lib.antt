@@ -2,3 +2,4 @@
 pub mod Surface
 pub mod Correct
 pub mod Refusals
+pub mod Examples
