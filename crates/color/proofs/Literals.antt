@@ -5,6 +5,7 @@ use mathlib.Core.Path.{_≡_, refl}
 use Prim.Native.Nat.{_^_}
 use lib.Ieee.{binary32, ofBits, round, div}
 use Rattle.color.specs.Color.{fraction}
+use Rattle.color.proofs.Numbers.{n0, n1, n3}
 
 pub d4-2126 : ofBits binary32 0x3e59b3d0 ≡ fraction 2126 (10 ^ 4)
 unfolding ofBits round fraction
@@ -102,18 +103,6 @@ pub white-z : ofBits binary32 0x3f8b5ec8 ≡ fraction 108883 (10 ^ 5)
 unfolding ofBits round fraction
 white-z = refl
 
-pub w-0 : ofBits binary32 0x00000000 ≡ fraction 0 1
-unfolding ofBits round fraction
-w-0 = refl
-
-pub w-1 : ofBits binary32 0x3f800000 ≡ fraction 1 1
-unfolding ofBits round fraction
-w-1 = refl
-
-pub w-3 : ofBits binary32 0x40400000 ≡ fraction 3 1
-unfolding ofBits round fraction
-w-3 = refl
-
 pub w-16 : ofBits binary32 0x41800000 ≡ fraction 16 1
 unfolding ofBits round fraction
 w-16 = refl
@@ -150,4 +139,4 @@ pub q-6-29 : div binary32 (ofBits binary32 0x40c00000) (ofBits binary32 0x41e800
 unfolding ofBits div round fraction
 q-6-29 = refl
 
-pub ruleset literals = (d4-2126, d4-7152, d4-722, d4-1, d7-4124564, d7-3575761, d7-1804375, d7-2126729, d7-7151522, d7-721750, d7-193339, d7-1191920, d7-9503041, d7-32404542, d7-15371385, d7-4985314, d7-9692660, d7-18760108, d7-415560, d7-556434, d7-2040259, d7-10572252, white-x, white-z, w-0, w-1, w-3, w-16, w-116, w-200, w-500, w-1048576, q-216-24389, q-841-108, q-4-29, q-6-29)
+pub ruleset literals = (d4-2126, d4-7152, d4-722, d4-1, d7-4124564, d7-3575761, d7-1804375, d7-2126729, d7-7151522, d7-721750, d7-193339, d7-1191920, d7-9503041, d7-32404542, d7-15371385, d7-4985314, d7-9692660, d7-18760108, d7-415560, d7-556434, d7-2040259, d7-10572252, white-x, white-z, n0, n1, n3, w-16, w-116, w-200, w-500, w-1048576, q-216-24389, q-841-108, q-4-29, q-6-29)

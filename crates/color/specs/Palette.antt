@@ -5,13 +5,11 @@ use mathlib.Core.List.{List, [], _∷_}
 use lib.ListN.{getD}
 use lib.Ieee.{Float, nan, neg, le}
 use Rattle.loops.specs.Loops.{anyUp}
-use Rattle.limits.specs.Limits.{badHues}
-use Rattle.sentences.specs.Sentences.{_when_, refusal, decided}
+use Rattle.sentences.specs.Sentences.{refusal, decided}
+use Rattle.answers.specs.Answers.{Said, answered, huesOnly}
 use Rattle.color.specs.declared.Linear.{Linear}
 use Rattle.color.specs.declared.Lab.{Lab}
 use Rattle.color.specs.declared.palette.Ab.{Ab}
-use Rattle.color.specs.declared.palette.Number.{Number}
-use Rattle.color.specs.declared.palette.Number.the-variants as number
 use Rattle.color.specs.declared.palette.Flag.{Flag}
 use Rattle.color.specs.declared.palette.Flag.the-variants as flag
 use Rattle.color.specs.Color.{linear, lab, whole}
@@ -42,14 +40,7 @@ linearAt colours i = linear (getD colours (3 * i) nan) (getD colours (3 * i + 1)
 
 -- ---- answers
 
--- document 01's number of a call that takes nothing but a hue count to refuse
-unfoldable pub hueRefusal : ℕ → ℕ
-hueRefusal hues = refusal ((3 when badHues hues) ∷ [])
-
--- An answer by document 01's number n and the value: `Refused n`, or `Is` of the value where n is 0, the call being accepted.
-abbrev pub answered : ℕ → ℕ → Number
-answered n v = decided n number.Refused (number.Is v)
-
+-- yes or no by document 01's number n: `Refused n`, or `Is` of the value where n is 0, the call being accepted
 abbrev pub flagged : ℕ → Bool → Flag
 flagged n b = decided n flag.Refused (flag.Is b)
 
@@ -57,14 +48,14 @@ flagged n b = decided n flag.Refused (flag.Is b)
 unfoldable pub indexOf : Bool → ℕ → ℕ → ℕ
 indexOf l h hues = cond l hues 0 + h % hues
 
-abbrev pub index : Bool → ℕ → ℕ → Number
-index l h hues = answered (hueRefusal hues) (indexOf l h hues)
+abbrev pub index : Bool → ℕ → ℕ → Said
+index l h hues = answered (huesOnly hues) (indexOf l h hues)
 
-abbrev pub len : ℕ → Number
-len hues = answered (hueRefusal hues) (2 * hues)
+abbrev pub len : ℕ → Said
+len hues = answered (huesOnly hues) (2 * hues)
 
 abbrev pub isEmpty : ℕ → Flag
-isEmpty hues = flagged (hueRefusal hues) false
+isEmpty hues = flagged (refusal (huesOnly hues)) false
 
 -- ---- sentence 8, of numbers
 

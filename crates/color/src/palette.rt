@@ -4,21 +4,17 @@
 ghost use mathlib.Core.Path.{_≡_};
 ghost use Prim.Native.Nat.{_+_, _*_, _<_, _≤_};
 ghost use lib.ListN.{length};
+ghost use Rattle.answers.specs.Answers.{said};
 ghost use Rattle.color.specs.Palette as spec;
 use super::Lab;
 use super::Linear;
+use answers::Number;
 
 // A hue's point in the plane of a and b.
 #[repr(C)]
 pub struct Ab {
     pub a: f32,
     pub b: f32,
-}
-
-// What a call that answers a number gives: the refusal, or the number.
-pub enum Number {
-    Refused(u32),
-    Is(usize),
 }
 
 // What a call that answers yes or no gives.
@@ -29,7 +25,7 @@ pub enum Flag {
 
 // How many colours a palette has: two levels of each hue. Refused: 3.
 pub fn len(hues: usize) -> Number
-    ensures { λ r. ⌜ r ≡ spec.len hues ⌝ }
+    ensures { λ r. ⌜ said r ≡ spec.len hues ⌝ }
 {
     if limits::bad_hues(hues) {
         return Number::Refused(3);
@@ -49,7 +45,7 @@ pub fn is_empty(hues: usize) -> Flag
 
 // The place of a colour by its level and its hue, any hue being taken by its remainder. Refused: 3.
 pub fn index(l: bool, h: usize, hues: usize) -> Number
-    ensures { λ r. ⌜ r ≡ spec.index l h hues ⌝ }
+    ensures { λ r. ⌜ said r ≡ spec.index l h hues ⌝ }
 {
     if limits::bad_hues(hues) {
         return Number::Refused(3);

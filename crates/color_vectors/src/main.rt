@@ -1,10 +1,10 @@
 // Replays the stored answers of the crate `color`: each component of each answer, every bit.
+use answers::Number;
 use color::Lab;
 use color::Linear;
 use color::Srgb8;
 use color::Xyz;
 use color::palette::Flag;
-use color::palette::Number;
 use vectors::Compared;
 use vectors::Tally;
 

@@ -7,13 +7,12 @@ use Prim.Native.Nat.{ℕ, _<_}
 use lib.ListN.{length, take}
 use lib.Ieee.{Float}
 use Rattle.limits.specs.Chroma.{chromaOn}
-use Rattle.modulate.specs.declared.Outcome.{Outcome}
-use Rattle.modulate.specs.declared.Outcome.the-variants as outcome
-use Rattle.modulate.specs.Score.{ended, unmaskLumaOf}
+use Rattle.answers.specs.declared.Outcome.{Outcome}
+use Rattle.answers.specs.declared.Outcome.the-variants as outcome
+use Rattle.answers.specs.Answers.{ended}
+use Rattle.modulate.specs.Score.{unmaskLumaOf}
 use Rattle.modulate.specs.Read.{readListOf}
 use Rattle.demod.specs.Call as scoring
-use Rattle.refine.specs.declared.Outcome as refineOutcome
-use Rattle.refine.specs.declared.Outcome.the-variants as refined
 use Rattle.refine.specs.Calls as refinement
 use Rattle.guarantee.specs.Card.{Setting, Card, modules, chromaScores, drawnCard, toScore, refinedCard, unmaskedCard, lumaRead, chromaRead, Accepted, bitsDrawn, bitsRead}
 use Rattle.guarantee.specs.Guarantee.{Singles, InMargin, NearModule, NearCell}
@@ -21,7 +20,7 @@ use Rattle.guarantee.proofs.Guarantee.{read-as-drawn}
 
 -- `score`, `add_local_luma`, `unmask_luma` and `read_list` twice: e, f, g, h and k are what their contracts say
 module _ (s : Setting) (c : Card) (r : Outcome) (luma colours chroma : List Float) (e : scoring.final r luma colours chroma ≡ scoring.scoredOf (toScore s c))
-    (r₂ : refineOutcome.Outcome) (luma₂ scratch : List Float) (f : refinement.final r₂ luma₂ scratch ≡ refinement.refineOf (refinement.request luma (s .side) (s .hues) (s .xs) (s .ys) (s .grid) colours (s .palette) (s .noise) (c .scratch)))
+    (r₂ : Outcome) (luma₂ scratch : List Float) (f : refinement.final r₂ luma₂ scratch ≡ refinement.refineOf (refinement.request luma (s .side) (s .hues) (s .xs) (s .ys) (s .grid) colours (s .palette) (s .noise) (c .scratch)))
     (r₃ : Outcome) (luma₃ : List Float) (g : ended r₃ luma₃ ≡ unmaskLumaOf luma₂ (s .side) (s .xs) (s .ys) (s .grid) (s .mask))
     (r₄ : Outcome) (bits : List ℕ) (h : ended r₄ bits ≡ readListOf luma₃ (c .lumaBits)) (r₅ : Outcome) (chromaBits : List ℕ) (k : ended r₅ chromaBits ≡ readListOf chroma (c .chromaBits)) where
   refine-is : refinement.final r₂ luma₂ scratch ≡ refinedCard s c
@@ -41,7 +40,7 @@ module _ (s : Setting) (c : Card) (r : Outcome) (luma colours chroma : List Floa
   unfolding bitsRead
   joined = ap (λ x. take (modules s) (x .list) ++ take (chromaScores s) chromaBits) luma-is ∙ ap (λ x. take (modules s) (lumaRead s c .list) ++ take (chromaScores s) (x .list)) chroma-is
 
-  module _ (p : r ≡ outcome.Done) (q : r₂ ≡ refined.Done) (u : r₃ ≡ outcome.Done) (v : r₄ ≡ outcome.Done) (w : r₅ ≡ outcome.Done) where
+  module _ (p : r ≡ outcome.Done) (q : r₂ ≡ outcome.Done) (u : r₃ ≡ outcome.Done) (v : r₄ ≡ outcome.Done) (w : r₅ ≡ outcome.Done) where
     pub all-done : Accepted s c
     all-done =
         record {

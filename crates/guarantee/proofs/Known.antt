@@ -11,15 +11,16 @@ use lib.ListN.{length, getD}
 use lib.Ieee.{Float, nan}
 use Rattle.sentences.specs.Sentences.{refusal, decided, at, sound, fresh}
 use Rattle.color.specs.Color.{whole}
-use Rattle.modulate.specs.declared.Outcome.the-variants as outcome
+use Rattle.answers.specs.declared.Outcome.the-variants as outcome
 use Rattle.modulate.specs.Gray.{chromaSymbolToHue}
 use Rattle.modulate.specs.Mask.{chromaMaskApply}
 use Rattle.modulate.specs.Draw.{gridLevel, ringLevel, cellHue, ringHue, levelAt, hueAt, entriesOf}
 use Rattle.modulate.specs.Score.{unmasked, unmaskSentences, unmaskLumaOf}
 use Rattle.modulate.specs.Read.{reads, readAt, readList, readSentences, readListOf}
 use Rattle.modulate.proofs.Symbols.{bit-lt}
-use Rattle.modulate.proofs.Written.{Reached, reached}
-use Rattle.modulate.proofs.Answers.{list-done, none-of}
+use Rattle.lists.proofs.Laws.{Reached, reached}
+use Rattle.answers.specs.Answers.{outcomeNumber}
+use Rattle.answers.proofs.Answers.{list-done, none-of}
 use Rattle.modulate.proofs.Accepted.{IsDrawn, drawn-done}
 use Rattle.limits.specs.Chroma.{chromaOn}
 use Rattle.stats.specs.Margin.{inMargin}
@@ -55,12 +56,12 @@ module _ (scores : List Float) (bits : List ℕ) (done : readListOf scores bits 
 
 -- ---- refinement's number
 
-refine-by : (q : refinement.Request) (n : ℕ) → refinement.numberOf (decided n (refinement.turnedAway q) (refinement.finalOf (refinement.refinedOf q)) .answer) ≡ n
+refine-by : (q : refinement.Request) (n : ℕ) → outcomeNumber (decided n (refinement.turnedAway q) (refinement.finalOf (refinement.refinedOf q)) .answer) ≡ n
 unfolding decided
 refine-by q zero = refl
 refine-by q (suc n) = refl
 
-refine-number : (q : refinement.Request) → refinement.numberOf (refinement.refineOf q .answer) ≡ refusal (refinement.sentencesOf q)
+refine-number : (q : refinement.Request) → outcomeNumber (refinement.refineOf q .answer) ≡ refusal (refinement.sentencesOf q)
 unfolding refinement.refineOf
 refine-number q = refine-by q (refusal (refinement.sentencesOf q))
 
@@ -98,7 +99,7 @@ module _ (s : Setting) (c : Card) (R : Readable s c) where
 
   -- refinement
   refine-zero : 0 ≡ refusal (refinement.sentencesOf (toRefine s c))
-  refine-zero = sym (ap refinement.numberOf (R .accepted .refinement)) ∙ refine-number (toRefine s c)
+  refine-zero = sym (ap outcomeNumber (R .accepted .refinement)) ∙ refine-number (toRefine s c)
 
   pub refined-is : refinement.finalOf (refinement.refinedOf (toRefine s c)) ≡ refinedCard s c
   refined-is = refining.at-done (toRefine s c) 0 refine-zero refl

@@ -26,7 +26,7 @@ use Rattle.modulate.specs.declared.Cell.{Cell}
 use Rattle.modulate.specs.Score.{bitOfHue, bitLlr}
 use Rattle.modulate.specs.Read.{reads}
 use Rattle.modulate.proofs.Decided.{Leads, for-zero, for-one, bit-lt, read-zero, read-one}
-use Rattle.modulate.proofs.Written.{reached}
+use Rattle.lists.proofs.Laws.{reached}
 use Rattle.stats.specs.declared.ChannelStats.{ChannelStats}
 use Rattle.stats.specs.Arithmetic.{_⊖_, _⊗_}
 use Rattle.stats.specs.Noise.{sigmaAbAt, denominator, hueLogLikelihood, putLikelihood, hueLogLikelihoods}

@@ -16,7 +16,7 @@ use Rattle.modulate.specs.Draw.{isOne, bitOf, levelAt}
 use Rattle.modulate.specs.Score.{unmaskAt, unmasked}
 use Rattle.modulate.specs.Read.{reads}
 use Rattle.modulate.proofs.ReadBack.{Says, read-grid, read-ring-luma}
-use Rattle.modulate.proofs.Written.{Reached, reached}
+use Rattle.lists.proofs.Laws.{Reached, reached}
 use Rattle.demod.specs.Score.{lumaScore}
 use Rattle.demod.specs.Call.{moduleColours}
 use Rattle.refine.specs.Refine.{sure, levelsOf, gridOf, refined}

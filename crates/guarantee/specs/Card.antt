@@ -11,17 +11,17 @@ use Rattle.limits.specs.Chroma.{chromaOn, ringModules, chromaLength}
 use Rattle.color.specs.declared.Lab.{Lab}
 use Rattle.color.specs.Color.{linearToLab}
 use Rattle.color.specs.Palette.{paletteLab}
-use Rattle.modulate.specs.declared.Outcome.the-variants as outcome
+use Rattle.answers.specs.declared.Outcome.the-variants as outcome
 use Rattle.modulate.specs.Draw as drawing
 use Rattle.modulate.specs.Draw.{Drawn, drawOf, isOne, bitOf}
-use Rattle.modulate.specs.Score.{Ended, unmaskLumaOf}
+use Rattle.answers.specs.Answers.{Ended}
+use Rattle.modulate.specs.Score.{unmaskLumaOf}
 use Rattle.modulate.specs.Read.{readListOf}
 use Rattle.illum.specs.declared.IlluminationModel.{IlluminationModel}
 use Rattle.stats.specs.declared.ChannelStats.{ChannelStats}
 use Rattle.demod.specs.Score.{moduleColour, cellColour}
 use Rattle.demod.specs.Call as scoring
 use Rattle.demod.specs.Call.{scoredOf}
-use Rattle.refine.specs.declared.Outcome.the-variants as refined
 use Rattle.refine.specs.Calls as refinement
 use Rattle.refine.specs.Calls.{refineOf}
 
@@ -99,7 +99,7 @@ chromaRead s c = readListOf (scoredCard s c .chroma) (c .chromaBits)
 -- "It is accepted when none of these calls .. is refused"
 pub record Accepted (s : Setting) (c : Card) : Type 0 where
   pub scoring : scoredCard s c .answer ≡ outcome.Done
-  pub refinement : refinedCard s c .answer ≡ refined.Done
+  pub refinement : refinedCard s c .answer ≡ outcome.Done
   pub unmasking : unmaskedCard s c .answer ≡ outcome.Done
   pub luma : lumaRead s c .answer ≡ outcome.Done
   pub chroma : chromaRead s c .answer ≡ outcome.Done

@@ -7,7 +7,7 @@ use lib.Dec.{T}
 use lib.ListN.{length, getD}
 use lib.Ieee.{nan, binary32, fits}
 use Rattle.limits.specs.Chroma.{chromaOn}
-use Rattle.modulate.specs.declared.Outcome.the-variants as outcome
+use Rattle.answers.specs.declared.Outcome.the-variants as outcome
 use Rattle.stats.specs.declared.Verdict.the-variants as verdict
 use Rattle.stats.specs.Calls.{marginAnswer}
 use Rattle.guarantee.specs.Within.{halfSigma}

@@ -11,11 +11,11 @@ use Rattle.places.specs.Places.{badPlaces}
 use Rattle.limits.specs.Limits.{badHues, badCells}
 use Rattle.limits.specs.Chroma.{chromaOn}
 use Rattle.limits.proofs.Laws.{side-in, cell-size-in, counts-in}
-use Rattle.modulate.specs.declared.Outcome.the-variants.{Refused, Done}
-use Rattle.modulate.specs.Answer.{outcomeNumber}
+use Rattle.answers.specs.declared.Outcome.the-variants.{Refused, Done}
+use Rattle.answers.specs.Answers.{outcomeNumber}
 use Rattle.modulate.specs.Draw.{Card, notDrawn, drawn, levelAt, levelAtOf, hueAt, hueAtOf, entriesOf, drawnHues, levelsOf, huesOf, badPositions, drawSentences, drawOf}
-use Rattle.modulate.proofs.Answers.{none-of}
-use Rattle.modulate.proofs.Written.{reached}
+use Rattle.answers.proofs.Answers.{none-of}
+use Rattle.lists.proofs.Laws.{reached}
 use Rattle.modulate.proofs.Lengths.{DrawLengths, draw-lengths, bits-long, hues-long}
 
 -- no sentence holds

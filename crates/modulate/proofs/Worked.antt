@@ -11,10 +11,11 @@ use Rattle.limits.specs.Chroma.{halvings, log2}
 use Rattle.sentences.specs.Sentences.{refusal, decided}
 use Rattle.modulate.specs.declared.Cell.{Cell}
 use Rattle.modulate.specs.declared.Cell.the-variants.{Unmasked, At}
-use Rattle.modulate.specs.declared.Outcome.the-variants.{Done}
+use Rattle.answers.specs.declared.Outcome.the-variants.{Done}
 use Rattle.modulate.specs.Gray.{gray, hueToChromaSymbol}
 use Rattle.modulate.specs.Mask.{chromaRotation, chromaMaskRemove}
-use Rattle.modulate.specs.Score.{Ended, ended, unmaskedHue, symbolBit, bitOfHue, bettered, bitLlr, badCellOf, badScoreLengths, llrSentences, chromaBitLlrsOf}
+use Rattle.answers.specs.Answers.{Ended, ended}
+use Rattle.modulate.specs.Score.{unmaskedHue, symbolBit, bitOfHue, bettered, bitLlr, badCellOf, badScoreLengths, llrSentences, chromaBitLlrsOf}
 
 -- a whole number, and one below zero
 unfoldable pub plus : ℕ → Float

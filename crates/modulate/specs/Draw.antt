@@ -10,12 +10,13 @@ use Rattle.sentences.specs.Sentences.{Sentence, _when_, refusal, decided}
 use Rattle.places.specs.Places.{badPlaces}
 use Rattle.limits.specs.Limits.{badSide, badHues, badCellSize, badCounts, badCells}
 use Rattle.limits.specs.Chroma.{log2, chromaOn, symbolBits, ringModules, chromaEntries, chromaLength}
-use Rattle.modulate.specs.declared.Outcome.{Outcome}
-use Rattle.modulate.specs.declared.Outcome.the-variants.{Refused, Done}
-use Rattle.modulate.specs.Answer.{outcomeNumber}
+use Rattle.answers.specs.declared.Outcome.{Outcome}
+use Rattle.answers.specs.declared.Outcome.the-variants.{Refused, Done}
+use Rattle.answers.specs.Answers.{outcomeNumber}
 use Rattle.modulate.specs.Gray.{chromaSymbolToHue}
 use Rattle.modulate.specs.Mask.{lumaMask, chromaMaskApply}
-use Rattle.modulate.specs.Score.{replaced, coordinate}
+use Rattle.lists.specs.Lists.{replaced}
+use Rattle.modulate.specs.Score.{coordinate}
 
 -- ---- one element
 

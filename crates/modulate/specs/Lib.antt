@@ -1,6 +1,5 @@
 pub mod Gray
 pub mod Mask
-pub mod Answer
 pub mod Score
 pub mod Read
 pub mod Draw

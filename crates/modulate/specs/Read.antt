@@ -7,7 +7,8 @@ use lib.IntN.{pos}
 use lib.ListN.{length, getD}
 use lib.Ieee.{Float, nan, fin, lt}
 use Rattle.sentences.specs.Sentences.{Sentence, _when_}
-use Rattle.modulate.specs.Score.{replaced, Ended, writtenOr}
+use Rattle.answers.specs.Answers.{Ended, writtenOr}
+use Rattle.lists.specs.Lists.{replaced}
 
 -- "a score below zero is 1 and any other, NaN included, is 0"
 unfoldable pub reads : Float → ℕ

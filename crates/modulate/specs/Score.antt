@@ -8,6 +8,7 @@ use lib.ListN.{length, getD, set}
 use lib.Ieee.{Float, nan, inf, neg, binary32, sub}
 use Rattle.float.specs.Select.{max}
 use Rattle.loops.specs.Loops.{forUp}
+use Rattle.lists.specs.Lists.{replaced}
 use Rattle.sentences.specs.Sentences.{Sentence, _when_, refusal, decided}
 use Rattle.places.specs.Places.{badPlaces}
 use Rattle.limits.specs.Limits.{badSide, badHues, badModules, badCell}
@@ -15,33 +16,9 @@ use Rattle.limits.specs.Chroma.{log2}
 use Rattle.modulate.specs.declared.Cell.{Cell}
 use Rattle.modulate.specs.declared.Cell.the-variants.{Unmasked, At}
 use Rattle.modulate.specs.declared.Best.{Best}
-use Rattle.modulate.specs.declared.Outcome.{Outcome}
-use Rattle.modulate.specs.declared.Outcome.the-variants.{Refused, Done}
-use Rattle.modulate.specs.Answer.{outcomeNumber}
+use Rattle.answers.specs.Answers.{Ended, writtenOr}
 use Rattle.modulate.specs.Gray.{hueToChromaSymbol}
 use Rattle.modulate.specs.Mask as mask
-
--- ---- lists that a call writes: entry i becomes f i of what it was, d standing for what lies past the end
-
-abbrev pub replaceAt : {A : Type 0} → A → (ℕ → A → A) → ℕ → List A → List A
-replaceAt d f i l = set l i (f i (getD l i d))
-
--- the first n entries, and no others
-abbrev pub replaced : {A : Type 0} → A → ℕ → (ℕ → A → A) → List A → List A
-replaced d n f l = forUp 0 n (replaceAt d f) l
-
--- what a call gives back that writes one list: document 01's number, its answer, and the list
-pub record Ended (A : Type 0) : Type 0 where
-  pub number : ℕ
-  pub answer : Outcome
-  pub list : List A
-
-abbrev pub ended : {A : Type 0} → Outcome → List A → Ended A
-ended r l = record { number = outcomeNumber r; answer = r; list = l }
-
--- where a sentence holds, its number and the list as it was; else done, and the list as it was written
-abbrev pub writtenOr : {A : Type 0} → List Sentence → List A → List A → Ended A
-writtenOr ss before after = decided (refusal ss) (λ n. ended (Refused n) before) (ended Done after)
 
 -- ---- bit scores
 

@@ -11,28 +11,18 @@ ghost use lib.IntN.{pos};
 ghost use lib.ListN.{length, getD};
 ghost use lib.Ieee.{inf, nan};
 ghost use Rattle.sentences.specs.Sentences.{refusal};
+ghost use Rattle.lists.specs.Lists.{replaceAt, replaced};
 ghost use Rattle.places.specs.Places.{misplacedAt, badPlaces};
 ghost use Rattle.limits.specs.Limits.{badHues, badCell};
 ghost use Rattle.limits.specs.Chroma.{log2, symbolBits, chromaEntries};
 ghost use Rattle.modulate.specs.Gray as gray_code;
 ghost use Rattle.modulate.specs.Mask as masks;
-ghost use Rattle.modulate.specs.Answer.{said, answered, huesOnly, huesAndCell};
+ghost use Rattle.answers.specs.Answers.{said, answered, huesOnly, huesAndCell, ended};
 ghost use Rattle.modulate.specs.Score as scores;
-ghost use Rattle.modulate.specs.Score.{ended};
 ghost use Rattle.modulate.specs.Read as reading;
 ghost use Rattle.modulate.specs.Draw as drawing;
-
-// The answer of a call that gives a number.
-pub enum Number {
-    Refused(u32),
-    Is(usize),
-}
-
-// The answer of a call that writes what it is lent.
-pub enum Outcome {
-    Refused(u32),
-    Done,
-}
+use answers::Number;
+use answers::Outcome;
 
 // Where a chroma entry is drawn: a ring module, on which no mask lies, or a cell of the grid, by its coordinates.
 pub enum Cell {
@@ -327,7 +317,7 @@ fn masked_at(mask: u8, side: usize, xs: &[i32], ys: &[i32], grid: usize, i: usiz
 
 fn unmask_at(mask: u8, side: usize, xs: &[i32], ys: &[i32], grid: usize, i: usize, luma: &mut [f32])
     requires { ⌜ (side ≤ 1024) × (i < grid) × (i < length (now xs)) × (length (now xs) ≡ length (now ys)) × (misplacedAt side grid (now xs) (now ys) i ≡ false) × (i < length (now luma)) ⌝ }
-    ensures { λ _. ⌜ now (luma .exit) ≡ scores.replaceAt nan (scores.unmaskAt mask (now (xs .entry)) (now (ys .entry))) i (now (luma .entry)) ⌝ }
+    ensures { λ _. ⌜ now (luma .exit) ≡ replaceAt nan (scores.unmaskAt mask (now (xs .entry)) (now (ys .entry))) i (now (luma .entry)) ⌝ }
 {
     if masked_at(mask, side, xs, ys, grid, i) {
         luma[i] = -luma[i];
@@ -573,7 +563,7 @@ fn draw_entries(
     drawn: &mut [usize],
 )
     requires { ⌜ (0 < hues) × (hues ≤ 16) × (symbolBits hues ≤ 4) × (modules + symbolBits hues * count ≤ length (now bits)) × (length (now cxs) ≡ length (now cys)) × (count ≤ length (now drawn)) ⌝ }
-    ensures { λ _. ⌜ now (drawn .exit) ≡ scores.replaced 0 count (drawing.hueAtOf (now (bits .entry)) hues modules (now (cxs .entry)) (now (cys .entry))) (now (drawn .entry)) ⌝ }
+    ensures { λ _. ⌜ now (drawn .exit) ≡ replaced 0 count (drawing.hueAtOf (now (bits .entry)) hues modules (now (cxs .entry)) (now (cys .entry))) (now (drawn .entry)) ⌝ }
 {
     for j in 0..count {
         drawn[j] = hue_at(bits, hues, modules, cxs, cys, j);

@@ -1,8 +1,8 @@
 // Replays the stored answers of the crate `modulate`: the answer of each call, and every slice that it leaves behind,
 // every bit.
+use answers::Number;
+use answers::outcome_number;
 use modulate::Cell;
-use modulate::Number;
-use modulate::Outcome;
 use vectors::Compared;
 use vectors::Tally;
 
@@ -30,14 +30,6 @@ fn put_number(got: &mut [u64], n: Number) -> usize {
             vectors::put(got, second, v as u64)
         }
         Number::Refused(r) => vectors::put(got, 0, r as u64),
-    }
-}
-
-// 0, or the refusal's number.
-fn put_outcome(got: &mut [u64], o: Outcome) -> usize {
-    match o {
-        Outcome::Done => vectors::put(got, 0, 0),
-        Outcome::Refused(r) => vectors::put(got, 0, r as u64),
     }
 }
 
@@ -130,7 +122,7 @@ fn cell(row: &[u64], at: usize) -> Cell {
 
 fn bit_llrs_in(ll: &[f32], place: Cell, hues: usize, out: &mut [f32], got: &mut [u64]) -> usize {
     let outcome = modulate::chroma_bit_llrs(ll, place, hues, out);
-    let to_out = put_outcome(got, outcome);
+    let to_out = vectors::put(got, 0, outcome_number(outcome) as u64);
     vectors::store_f32(out, got, to_out)
 }
 
@@ -156,7 +148,7 @@ fn unmask_luma_in(
     got: &mut [u64],
 ) -> usize {
     let outcome = modulate::unmask_luma(luma, side, xs, ys, grid, mask);
-    let to_luma = put_outcome(got, outcome);
+    let to_luma = vectors::put(got, 0, outcome_number(outcome) as u64);
     vectors::store_f32(luma, got, to_luma)
 }
 
@@ -180,7 +172,7 @@ fn unmask_luma(row: &[u64], got: &mut [u64]) -> usize {
 
 fn read_list_in(scores: &[f32], bits: &mut [u8], got: &mut [u64]) -> usize {
     let outcome = modulate::read_list(scores, bits);
-    let to_bits = put_outcome(got, outcome);
+    let to_bits = vectors::put(got, 0, outcome_number(outcome) as u64);
     vectors::store_u8(bits, got, to_bits)
 }
 
@@ -228,7 +220,7 @@ fn draw_in(
         levels,
         drawn,
     );
-    let to_levels = put_outcome(got, outcome);
+    let to_levels = vectors::put(got, 0, outcome_number(outcome) as u64);
     let to_drawn = vectors::store_u8(levels, got, to_levels);
     vectors::store_usize(drawn, got, to_drawn)
 }

@@ -1,7 +1,6 @@
 -- The two returns of a public call: the number of the sentence that refuses it, and what an accepted call gives. Assumes nothing.
 use mathlib.Core.Path.{_≡_, ap, _∙_}
 use mathlib.Core.Bool.{Bool, true, false}
-use mathlib.Core.List.{List}
 use Prim.Native.Nat.{ℕ}
 use lib.Ieee.{Float}
 use Rattle.sentences.specs.Sentences.{decided}
@@ -9,9 +8,8 @@ use Rattle.sentences.proofs.Laws.{refuses, accepts}
 use Rattle.stats.specs.declared.ChannelStats.{ChannelStats}
 use Rattle.stats.specs.declared.Figure.the-variants as figure
 use Rattle.stats.specs.declared.Noise.the-variants as noise
-use Rattle.stats.specs.declared.Likelihoods.the-variants as likelihoods
 use Rattle.stats.specs.declared.Verdict.the-variants as verdict
-use Rattle.stats.specs.Calls.{figureOf, noiseOf, verdictOf, filled, turnedAway, yesOrNo}
+use Rattle.stats.specs.Calls.{figureOf, noiseOf, verdictOf, yesOrNo}
 
 -- refused by number
 module _ (n m : ℕ) (e : n ≡ m) (z : n ≡ 0 → ⊥) where
@@ -41,11 +39,3 @@ pub no : (r b : Bool) → r ≡ b → r ≡ false → verdict.No ≡ yesOrNo b
 no r b e t = rw (← e, t)
 
 pub ruleset answers = (no-figure, no-noise, no-verdict, given, value, noted, yes, no)
-
--- a call that is lent room
-module _ (n m : ℕ) (out lent : List Float) (e : n ≡ m) where
-  pub left : (after : List Float) → (n ≡ 0 → ⊥) → out ≡ lent → filled (likelihoods.Refused n) out ≡ decided m (turnedAway lent) (filled likelihoods.Written after)
-  left after z h = rw h (refuses (turnedAway lent) (filled likelihoods.Written after) n m z e)
-
-  pub written : (after : List Float) → n ≡ 0 → out ≡ after → filled likelihoods.Written out ≡ decided m (turnedAway lent) (filled likelihoods.Written after)
-  written after z h = ap (filled likelihoods.Written) h ∙ accepts (turnedAway lent) (filled likelihoods.Written after) n m z e

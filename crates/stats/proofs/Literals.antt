@@ -5,26 +5,6 @@ use Prim.Native.Nat.{_^_}
 use lib.Ieee.{inf, binary32, ofBits, round, div}
 use Rattle.color.specs.Color.{fraction}
 
-pub n0 : ofBits binary32 0 ≡ fraction 0 1
-unfolding ofBits round fraction
-n0 = refl
-
-pub n1 : ofBits binary32 0x3f80_0000 ≡ fraction 1 1
-unfolding ofBits round fraction
-n1 = refl
-
-pub n2 : ofBits binary32 0x4000_0000 ≡ fraction 2 1
-unfolding ofBits round fraction
-n2 = refl
-
-pub n3 : ofBits binary32 0x4040_0000 ≡ fraction 3 1
-unfolding ofBits round fraction
-n3 = refl
-
-pub n4 : ofBits binary32 0x4080_0000 ≡ fraction 4 1
-unfolding ofBits round fraction
-n4 = refl
-
 pub n6 : ofBits binary32 0x40c0_0000 ≡ fraction 6 1
 unfolding ofBits round fraction
 n6 = refl
@@ -32,10 +12,6 @@ n6 = refl
 pub n13 : ofBits binary32 0x4150_0000 ≡ fraction 13 1
 unfolding ofBits round fraction
 n13 = refl
-
-pub n20 : ofBits binary32 0x41a0_0000 ≡ fraction 20 1
-unfolding ofBits round fraction
-n20 = refl
 
 pub n256 : ofBits binary32 0x4380_0000 ≡ fraction 256 1
 unfolding ofBits round fraction
@@ -48,10 +24,6 @@ n1000 = refl
 pub thousandth : ofBits binary32 0x3a83_126f ≡ fraction 1 1000
 unfolding ofBits round fraction
 thousandth = refl
-
-pub three-quarters : ofBits binary32 0x3f40_0000 ≡ fraction 75 100
-unfolding ofBits round fraction
-three-quarters = refl
 
 pub most : ofBits binary32 0x5380_0000 ≡ fraction (2 ^ 40) 1
 unfolding ofBits round fraction

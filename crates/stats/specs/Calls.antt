@@ -7,6 +7,7 @@ use lib.ListN.{length}
 use lib.Ieee.{Float, neg, lt, le, eq}
 use Rattle.sentences.specs.Sentences.{Sentence, _when_, refusal, decided}
 use Rattle.limits.specs.Limits.{badHues}
+use Rattle.answers.specs.Answers.{Ended, writtenOr}
 use Rattle.color.specs.declared.Lab.{Lab}
 use Rattle.color.specs.Color.{whole, fraction}
 use Rattle.color.specs.Palette.{paletteLen, wildPalette}
@@ -15,8 +16,6 @@ use Rattle.stats.specs.declared.Figure.{Figure}
 use Rattle.stats.specs.declared.Figure.the-variants as figure
 use Rattle.stats.specs.declared.Noise.{Noise}
 use Rattle.stats.specs.declared.Noise.the-variants as noise
-use Rattle.stats.specs.declared.Likelihoods.{Likelihoods}
-use Rattle.stats.specs.declared.Likelihoods.the-variants as likelihoods
 use Rattle.stats.specs.declared.Verdict.{Verdict}
 use Rattle.stats.specs.declared.Verdict.the-variants as verdict
 use Rattle.stats.specs.Noise.{sigmaAbAt, lumaLlr, reliability, hueLogLikelihoods, nominal}
@@ -103,18 +102,6 @@ yesOrNo b = cond b verdict.Yes verdict.No
 abbrev pub verdictOf : ℕ → Bool → Verdict
 verdictOf n b = decided n verdict.Refused (yesOrNo b)
 
--- an answer with the room that was lent
-pub record Filled : Type 0 where
-  pub answer : Likelihoods
-  pub out : List Float
-
-abbrev pub filled : Likelihoods → List Float → Filled
-filled r out = record { answer = r; out = out }
-
--- refused by sentence n: the room is as it was
-abbrev pub turnedAway : List Float → ℕ → Filled
-turnedAway out n = filled (likelihoods.Refused n) out
-
 abbrev pub sigmaAbAnswer : ChannelStats → Float → Figure
 sigmaAbAnswer n l = figureOf (refusal (recordSentences n)) (sigmaAbAt n l)
 
@@ -124,10 +111,9 @@ lumaLlrAnswer n l = figureOf (refusal (recordSentences n)) (lumaLlr n l)
 abbrev pub reliabilityAnswer : ChannelStats → Lab → List Float → ℕ → Figure
 reliabilityAnswer n sample palette hues = figureOf (refusal (sentencesOf n palette hues)) (reliability n sample palette hues)
 
-abbrev pub likelihoodsAnswer : ChannelStats → Lab → List Float → ℕ → List Float → Filled
+abbrev pub likelihoodsAnswer : ChannelStats → Lab → List Float → ℕ → List Float → Ended Float
 likelihoodsAnswer n sample palette hues out =
-    decided (refusal (likelihoodSentences n palette hues out)) (turnedAway out)
-    (filled likelihoods.Written (hueLogLikelihoods n sample palette hues out))
+    writtenOr (likelihoodSentences n palette hues out) out (hueLogLikelihoods n sample palette hues out)
 
 abbrev pub nominalAnswer : List Float → ℕ → Noise
 nominalAnswer palette hues = noiseOf (refusal (paletteSentences palette hues)) (nominal palette)

@@ -6,9 +6,11 @@ ghost use mathlib.Core.Path.{_≡_};
 ghost use Prim.Native.Nat.{_+_, _*_, _<_, _≤_};
 ghost use lib.ListN.{length};
 ghost use Rattle.sentences.specs.Sentences.{refusal};
+ghost use Rattle.answers.specs.Answers.{ended};
 ghost use Rattle.color.specs.Palette.{paletteLen};
 ghost use Rattle.stats.specs.Noise as spec;
 ghost use Rattle.stats.specs.Calls as call;
+use answers::Outcome;
 use color::Lab;
 use color::palette::hue_ab;
 use color::palette::level_l;
@@ -43,12 +45,6 @@ pub enum Figure {
 pub enum Noise {
     Refused(u32),
     Record(ChannelStats),
-}
-
-// What `hue_log_likelihoods` answers beside the likelihoods that it writes.
-pub enum Likelihoods {
-    Refused(u32),
-    Written,
 }
 
 // What the margin check answers.
@@ -402,15 +398,15 @@ impl ChannelStats {
         palette: &[f32],
         hues: usize,
         out: &mut [f32],
-    ) -> Likelihoods
-        ensures { λ r. ⌜ call.filled r (now (out .exit)) ≡ call.likelihoodsAnswer self sample (now (palette .entry)) hues (now (out .entry)) ⌝ }
+    ) -> Outcome
+        ensures { λ r. ⌜ ended r (now (out .exit)) ≡ call.likelihoodsAnswer self sample (now (palette .entry)) hues (now (out .entry)) ⌝ }
     {
         let n = refused_likelihoods(self, palette, hues, out);
         if n != 0 {
-            return Likelihoods::Refused(n);
+            return Outcome::Refused(n);
         }
         self.hue_log_likelihoods_of(sample, palette, hues, out);
-        Likelihoods::Written
+        Outcome::Done
     }
 
     // The record to fall back on where too little can be measured: the palette's own levels, sigmas 6,

@@ -11,7 +11,8 @@ use Rattle.limits.specs.Limits.{badHues}
 use Rattle.limits.proofs.Laws.{hues-in}
 use mathlib.Core.Bool.{false}
 use Rattle.modulate.specs.declared.Cell.{Cell}
-use Rattle.modulate.specs.Score.{replaceAt, replaced, bitLlr, bitLlrAt, chromaBitLlrs}
+use Rattle.lists.specs.Lists.{replaceAt, replaced}
+use Rattle.modulate.specs.Score.{bitLlr, bitLlrAt, chromaBitLlrs}
 use Rattle.modulate.proofs.bit_llrs.Statement.{statement}
 use Rattle.modulate.proofs.bit_llrs.Tie as tie
 

@@ -5,7 +5,7 @@ use Prim.Native.Nat.{ℕ}
 use Rattle.modulate.specs.Gray.{chromaSymbolToHue}
 use Rattle.modulate.specs.Mask.{chromaMaskApply}
 use Rattle.modulate.specs.Draw.{cellHue}
-use Rattle.modulate.proofs.Answers.{number-refused, number-given, cell-hues-some, cell-hues-few}
+use Rattle.answers.proofs.Answers.{number-refused, number-given, cell-hues-some, cell-hues-few}
 use Rattle.modulate.proofs.cell_hue.Statement.{statement}
 use Rattle.modulate.proofs.cell_hue.Tie as tie
 

@@ -13,9 +13,10 @@ use Rattle.sentences.proofs.Laws.{neither}
 use Rattle.limits.specs.Limits.{badHues}
 use Rattle.limits.specs.Chroma.{log2}
 use Rattle.modulate.specs.declared.Cell.{Cell}
-use Rattle.modulate.specs.declared.Outcome.the-variants.{Refused, Done}
-use Rattle.modulate.specs.Score.{ended, chromaBitLlrs, badScoreLengths, llrSentences, chromaBitLlrsOf}
-use Rattle.modulate.proofs.Answers.{none-of, list-kept, list-written}
+use Rattle.answers.specs.declared.Outcome.the-variants.{Refused, Done}
+use Rattle.answers.specs.Answers.{ended}
+use Rattle.modulate.specs.Score.{chromaBitLlrs, badScoreLengths, llrSentences, chromaBitLlrsOf}
+use Rattle.answers.proofs.Answers.{none-of, list-kept, list-written}
 use Rattle.modulate.proofs.chroma_bit_llrs.Statement.{statement}
 use Rattle.modulate.proofs.chroma_bit_llrs.Tie as tie
 

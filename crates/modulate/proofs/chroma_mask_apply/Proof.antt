@@ -1,6 +1,6 @@
 -- `modulate::chroma_mask_apply` meets its contract: refused by the first sentence that holds, or the hue. Assumes nothing.
 use borrow.Author.Needs.{needs}
-use Rattle.modulate.proofs.Answers.{number-refused, number-given, cell-hues-some, cell-hues-few}
+use Rattle.answers.proofs.Answers.{number-refused, number-given, cell-hues-some, cell-hues-few}
 use Rattle.modulate.proofs.chroma_mask_apply.Statement.{statement}
 use Rattle.modulate.proofs.chroma_mask_apply.Tie as tie
 

@@ -1,6 +1,6 @@
 -- `modulate::chroma_rotation` meets its contract: refused by the first sentence that holds, or the rotation. Assumes nothing.
 use borrow.Author.Needs.{needs}
-use Rattle.modulate.proofs.Answers.{number-refused, number-given, cell-hues-some}
+use Rattle.answers.proofs.Answers.{number-refused, number-given, cell-hues-some}
 use Rattle.modulate.proofs.chroma_rotation.Statement.{statement}
 use Rattle.modulate.proofs.chroma_rotation.Tie as tie
 

@@ -1,6 +1,6 @@
 -- `modulate::chroma_symbol_to_hue` meets its contract: refused by sentence 3, or the hue. Assumes nothing.
 use borrow.Author.Needs.{needs}
-use Rattle.modulate.proofs.Answers.{hues-refused, hues-given, hues-some}
+use Rattle.answers.proofs.Answers.{hues-refused, hues-given, hues-some}
 use Rattle.modulate.proofs.chroma_symbol_to_hue.Statement.{statement}
 use Rattle.modulate.proofs.chroma_symbol_to_hue.Tie as tie
 

@@ -7,7 +7,7 @@ use Prim.Native.Nat.{ℕ, _+_, _≤_}
 use native.Mathlib.Omega.{arith}
 use lib.ListN.{length}
 use Rattle.sentences.specs.Sentences.{refusal}
-use Rattle.modulate.specs.declared.Outcome.the-variants.{Refused, Done}
+use Rattle.answers.specs.declared.Outcome.the-variants.{Refused, Done}
 use Rattle.modulate.specs.Draw.{Card, drawn, levelsOf, huesOf, drawSentences, drawOf}
 use Rattle.modulate.proofs.Accepted.{not-drawn, all-drawn, accepted}
 use Rattle.modulate.proofs.draw.Statement.{statement}

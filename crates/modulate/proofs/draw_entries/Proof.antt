@@ -7,7 +7,7 @@ use native.Mathlib.Nat.{mul-le-mul-left, mul-suc}
 use native.Mathlib.Omega.{arith}
 use lib.ListN.{length, set}
 use Rattle.loops.proofs.Laws.{Left, loops}
-use Rattle.modulate.specs.Score.{replaceAt, replaced}
+use Rattle.lists.specs.Lists.{replaceAt, replaced}
 use Rattle.modulate.specs.Draw.{hueAt, hueAtOf}
 use Rattle.modulate.proofs.draw_entries.Statement.{statement}
 use Rattle.modulate.proofs.draw_entries.Tie as tie

@@ -9,7 +9,7 @@ use lib.ListN.{length}
 use Rattle.limits.specs.Limits.{badHues}
 use Rattle.limits.specs.Chroma.{chromaOn, symbolBits, ringModules, chromaEntries, chromaLength}
 use Rattle.limits.proofs.Laws.{hues-in, symbol-bits-few}
-use Rattle.modulate.specs.Score.{replaced}
+use Rattle.lists.specs.Lists.{replaced}
 use Rattle.modulate.specs.Draw.{hueAtOf, shortBits, shortHues, drawnHues}
 use Rattle.modulate.proofs.Lengths.{bits-long, hues-long}
 use Rattle.modulate.proofs.draw_hues.Statement.{statement}

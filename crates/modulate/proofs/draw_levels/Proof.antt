@@ -8,7 +8,7 @@ use lib.IntN.{ℤ}
 use lib.ListN.{length, set}
 use Rattle.loops.proofs.Laws.{Left, anyUp-false, loops}
 use Rattle.places.specs.Places.{misplacedAt, badPlaces}
-use Rattle.modulate.specs.Score.{replaceAt}
+use Rattle.lists.specs.Lists.{replaceAt}
 use Rattle.modulate.specs.Draw.{levelAt, levelAtOf, drawnLevels}
 use Rattle.modulate.proofs.draw_levels.Statement.{statement}
 use Rattle.modulate.proofs.draw_levels.Tie as tie

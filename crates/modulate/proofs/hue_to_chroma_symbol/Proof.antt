@@ -1,6 +1,6 @@
 -- `modulate::hue_to_chroma_symbol` meets its contract: refused by sentence 3, or the symbol. Assumes nothing.
 use borrow.Author.Needs.{needs}
-use Rattle.modulate.proofs.Answers.{hues-refused, hues-given, hues-some}
+use Rattle.answers.proofs.Answers.{hues-refused, hues-given, hues-some}
 use Rattle.modulate.proofs.hue_to_chroma_symbol.Statement.{statement}
 use Rattle.modulate.proofs.hue_to_chroma_symbol.Tie as tie
 

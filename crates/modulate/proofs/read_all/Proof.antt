@@ -6,7 +6,7 @@ use Prim.Native.Nat.{ℕ, _-_}
 use lib.ListN.{length, getD, set}
 use lib.Ieee.{Float, nan}
 use Rattle.loops.proofs.Laws.{Left, loops}
-use Rattle.modulate.specs.Score.{replaceAt, replaced}
+use Rattle.lists.specs.Lists.{replaceAt, replaced}
 use Rattle.modulate.specs.Read.{reads, readAt, readList}
 use Rattle.modulate.proofs.read_all.Statement.{statement}
 use Rattle.modulate.proofs.read_all.Tie as tie

@@ -10,10 +10,10 @@ use lib.Dec.{ltb}
 use lib.ListN.{length}
 use lib.Ieee.{Float}
 use Rattle.sentences.proofs.Laws.{holds, passed, none}
-use Rattle.modulate.specs.declared.Outcome.the-variants.{Refused, Done}
-use Rattle.modulate.specs.Score.{ended}
+use Rattle.answers.specs.declared.Outcome.the-variants.{Refused, Done}
+use Rattle.answers.specs.Answers.{ended}
 use Rattle.modulate.specs.Read.{readList, readSentences, readListOf}
-use Rattle.modulate.proofs.Answers.{list-kept, list-written}
+use Rattle.answers.proofs.Answers.{list-kept, list-written}
 use Rattle.modulate.proofs.read_list.Statement.{statement}
 use Rattle.modulate.proofs.read_list.Tie as tie
 

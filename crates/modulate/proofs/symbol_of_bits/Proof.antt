@@ -12,7 +12,7 @@ use Rattle.limits.specs.Limits.{badHues}
 use Rattle.limits.specs.Chroma.{log2}
 use Rattle.limits.proofs.Laws.{hues-in}
 use Rattle.modulate.specs.Draw.{symbolAt, symbolSentences}
-use Rattle.modulate.proofs.Answers.{none-of, number-refused, number-given}
+use Rattle.answers.proofs.Answers.{none-of, number-refused, number-given}
 use Rattle.modulate.proofs.symbol_of_bits.Statement.{statement}
 use Rattle.modulate.proofs.symbol_of_bits.Tie as tie
 

@@ -8,7 +8,8 @@ use lib.IntN.{ℤ}
 use lib.ListN.{getD, set}
 use lib.Seq.{set-getD}
 use lib.Ieee.{Float, nan, neg}
-use Rattle.modulate.specs.Score.{replaceAt, maskedAt, unmaskAt}
+use Rattle.lists.specs.Lists.{replaceAt}
+use Rattle.modulate.specs.Score.{maskedAt, unmaskAt}
 use Rattle.modulate.proofs.unmask_at.Statement.{statement}
 use Rattle.modulate.proofs.unmask_at.Tie as tie
 

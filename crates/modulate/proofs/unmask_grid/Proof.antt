@@ -10,7 +10,8 @@ use lib.ListN.{length}
 use lib.Ieee.{nan}
 use Rattle.loops.proofs.Laws.{Left, anyUp-false, loops}
 use Rattle.places.specs.Places.{misplacedAt, badPlaces}
-use Rattle.modulate.specs.Score.{replaceAt, unmaskAt, unmasked}
+use Rattle.lists.specs.Lists.{replaceAt}
+use Rattle.modulate.specs.Score.{unmaskAt, unmasked}
 use Rattle.modulate.proofs.unmask_grid.Statement.{statement}
 use Rattle.modulate.proofs.unmask_grid.Tie as tie
 

@@ -10,9 +10,10 @@ use lib.Ieee.{Float}
 use Rattle.sentences.specs.Sentences.{refusal, at, sound, fresh}
 use Rattle.places.specs.Places.{badPlaces}
 use Rattle.limits.proofs.Laws.{side-in, modules-in}
-use Rattle.modulate.specs.declared.Outcome.the-variants.{Refused, Done}
-use Rattle.modulate.specs.Score.{ended, unmasked, unmaskSentences, unmaskLumaOf}
-use Rattle.modulate.proofs.Answers.{none-of, list-kept, list-written}
+use Rattle.answers.specs.declared.Outcome.the-variants.{Refused, Done}
+use Rattle.answers.specs.Answers.{ended}
+use Rattle.modulate.specs.Score.{unmasked, unmaskSentences, unmaskLumaOf}
+use Rattle.answers.proofs.Answers.{none-of, list-kept, list-written}
 use Rattle.modulate.proofs.Lengths.{luma-lengths}
 use Rattle.modulate.proofs.unmask_luma.Statement.{statement}
 use Rattle.modulate.proofs.unmask_luma.Tie as tie

@@ -1,5 +1,5 @@
 -- `bad_level_sigma` meets its contract: it tests what the definition tests. Assumes nothing.
-use Rattle.stats.proofs.Literals.{n0, three-quarters}
+use Rattle.color.proofs.Numbers.{n0, three-quarters}
 use Rattle.stats.specs.Calls.{badLevelSigma}
 use Rattle.stats.proofs.bad_level_sigma.Statement.{statement}
 use Rattle.stats.proofs.bad_level_sigma.Tie as tie

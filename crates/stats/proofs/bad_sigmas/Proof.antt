@@ -5,7 +5,7 @@ use lib.Ieee.{Float, lt, binary32, ofBits}
 use Rattle.color.specs.Color.{fraction}
 use Rattle.sentences.proofs.Laws.{ors}
 use Rattle.stats.specs.Calls.{badSigmas}
-use Rattle.stats.proofs.Literals.{three-quarters}
+use Rattle.color.proofs.Numbers.{three-quarters}
 use Rattle.stats.proofs.bad_sigmas.Statement.{statement}
 use Rattle.stats.proofs.bad_sigmas.Tie as tie
 

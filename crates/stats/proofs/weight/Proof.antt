@@ -1,5 +1,5 @@
 -- `weight` meets its contract: the operations of the definition, in its order. Assumes nothing.
-use Rattle.stats.proofs.Literals.{n1, n3}
+use Rattle.color.proofs.Numbers.{n1, n3}
 use Rattle.stats.specs.Noise.{weight}
 use borrow.Author.Needs.{needs}
 use Rattle.stats.proofs.weight.Statement.{statement}

@@ -1,5 +1,6 @@
 -- `ChannelStats::between` meets its contract: the operations of the definition, in its order. Assumes nothing.
-use Rattle.stats.proofs.Literals.{n0, n1, thousandth}
+use Rattle.color.proofs.Numbers.{n0, n1}
+use Rattle.stats.proofs.Literals.{thousandth}
 use Rattle.stats.specs.Noise.{between}
 use borrow.Author.Needs.{needs}
 use Rattle.stats.proofs.ChannelStats.between.Statement.{statement}

@@ -1,5 +1,5 @@
 -- `ChannelStats::denominator` meets its contract: the operations of the definition, in its order. Assumes nothing.
-use Rattle.stats.proofs.Literals.{n2}
+use Rattle.color.proofs.Numbers.{n2}
 use Rattle.stats.specs.Noise.{denominator}
 use borrow.Author.Needs.{needs}
 use Rattle.stats.proofs.ChannelStats.denominator.Statement.{statement}

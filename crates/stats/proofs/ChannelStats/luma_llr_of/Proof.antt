@@ -1,5 +1,5 @@
 -- `ChannelStats::luma_llr_of` meets its contract: the operations of the definition, in its order. Assumes nothing.
-use Rattle.stats.proofs.Literals.{n2, n20}
+use Rattle.color.proofs.Numbers.{n2, n20}
 use Rattle.stats.specs.Noise.{lumaLlr}
 use borrow.Author.Needs.{needs}
 use Rattle.stats.proofs.ChannelStats.luma_llr_of.Statement.{statement}

@@ -1,5 +1,6 @@
 -- `ChannelStats::nominal_of` meets its contract: the palette's levels, and constants. Assumes nothing.
-use Rattle.stats.proofs.Literals.{n0, n6}
+use Rattle.color.proofs.Numbers.{n0}
+use Rattle.stats.proofs.Literals.{n6}
 use borrow.Author.Needs.{needs}
 use Rattle.stats.proofs.ChannelStats.nominal_of.Statement.{statement}
 use Rattle.stats.proofs.ChannelStats.nominal_of.Tie as tie

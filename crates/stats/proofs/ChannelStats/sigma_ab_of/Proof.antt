@@ -6,7 +6,7 @@ use lib.Ieee.{Float, le, binary32, ofBits}
 use Rattle.stats.specs.declared.ChannelStats.{ChannelStats}
 use Rattle.stats.specs.Arithmetic.{_⊕_, _⊖_, _⊗_}
 use Rattle.stats.specs.Noise.{between, sigmaAbAt}
-use Rattle.stats.proofs.Literals.{n0}
+use Rattle.color.proofs.Numbers.{n0}
 use Rattle.stats.proofs.ChannelStats.sigma_ab_of.Statement.{statement}
 use Rattle.stats.proofs.ChannelStats.sigma_ab_of.Tie as tie
 

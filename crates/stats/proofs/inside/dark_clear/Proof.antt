@@ -1,5 +1,5 @@
 -- `dark_clear` meets its contract: the score half a sigma up is compared. Assumes nothing.
-use Rattle.stats.proofs.Literals.{n2}
+use Rattle.color.proofs.Numbers.{n2}
 use Rattle.stats.specs.Margin.{darkClear}
 use borrow.Author.Needs.{needs}
 use Rattle.stats.proofs.inside.dark_clear.Statement.{statement}

@@ -11,7 +11,7 @@ use Rattle.color.specs.declared.palette.Ab.{Ab}
 use Rattle.color.specs.Palette.{hueAb}
 use Rattle.stats.specs.Arithmetic.{_⊖_, _⊗_}
 use Rattle.stats.specs.Margin.{far}
-use Rattle.stats.proofs.Literals.{n4}
+use Rattle.color.proofs.Numbers.{n4}
 use Rattle.stats.proofs.inside.far.Statement.{statement}
 use Rattle.stats.proofs.inside.far.Tie as tie
 

@@ -1,5 +1,5 @@
 -- `light_clear` meets its contract: the score half a sigma down is compared. Assumes nothing.
-use Rattle.stats.proofs.Literals.{n2}
+use Rattle.color.proofs.Numbers.{n2}
 use Rattle.stats.specs.Margin.{lightClear}
 use borrow.Author.Needs.{needs}
 use Rattle.stats.proofs.inside.light_clear.Statement.{statement}

@@ -8,11 +8,10 @@ use Rattle.sentences.specs.Sentences.{Sentence, _when_, refusal, decided, at, s
 use Rattle.sentences.proofs.Laws.{refuses, accepts, holds, passed, none, none-holds}
 use Rattle.limits.specs.Limits.{badHues, badCell}
 use Rattle.limits.proofs.Laws.{hues-in}
-use Rattle.modulate.specs.declared.Number.{Number}
-use Rattle.modulate.specs.declared.Number.the-variants as number
-use Rattle.modulate.specs.declared.Outcome.the-variants as outcome
-use Rattle.modulate.specs.Answer.{outcomeNumber, said, answered, huesOnly, huesAndCell}
-use Rattle.modulate.specs.Score.{Ended, ended, writtenOr}
+use Rattle.answers.specs.declared.Number.{Number}
+use Rattle.answers.specs.declared.Number.the-variants as number
+use Rattle.answers.specs.declared.Outcome.the-variants as outcome
+use Rattle.answers.specs.Answers.{outcomeNumber, said, answered, huesOnly, huesAndCell, Ended, ended, writtenOr}
 
 -- where the number is 0, no sentence holds
 pub none-of : (ss : List Sentence) → sound ss ≡ true → (n : ℕ) → n ≡ refusal ss → n ≡ 0 → (m : ℕ) → at m ss ≡ false
