@@ -107,10 +107,11 @@ fn guess_cbrt(a: u64) -> u64
     }
     let y = f64::from_bits(0x553e_f0ff_289d_d796 - h);
     let third = 0.3333333333333333;
-    let y1 = y * (4.0 - (x * y) * (y * y)) * third;
-    let y2 = y1 * (4.0 - (x * y1) * (y1 * y1)) * third;
-    let y3 = y2 * (4.0 - (x * y2) * (y2 * y2)) * third;
-    let g = (x * y3) * (y3 * 65536.0) - 0.49 + 4503599627370496.0;
+    let y1 = (y * third) * (4.0 - (x * y) * (y * y));
+    let y2 = (y1 * third) * (4.0 - (x * y1) * (y1 * y1));
+    let y3 = (y2 * third) * (4.0 - (x * y2) * (y2 * y2));
+    // y3 is a little below the inverse root: with a little more than 2 ^ 16 the whole part is never missed from below
+    let g = (x * y3) * (y3 * 65536.00003) + 4503599627370495.5;
     if g != g {
         return 0;
     }

@@ -7,7 +7,7 @@ use native.Mathlib.Numerals.{add-one}
 use lib.ListN.{length, getD, set, take, drop}
 use lib.Seq.{take-suc, drop-cons, set-append-seam, length-take-le, take-all, take-append-seam, drop-append-seam}
 use lib.Ieee.{Float, nan}
-use Rattle.order.specs.Median.{medianOf, Ordered, ordered, orderedOf}
+use Rattle.order.specs.Median.{medianOf}
 use Rattle.order.specs.Deviation.{written}
 
 -- the first i elements of xs, which has n, are written to the start of s₀
@@ -46,13 +46,13 @@ module _ {xs s₀ : List Float} {n : ℕ} where
 
 pub ruleset fills = (fill-begin, fill-turn, fill-done)
 
--- ---- a median that is found at the start of a longer slice: xs is written there, w is what that leaves, and p is the part as `median` leaves it
+-- ---- a median that is found at the start of a longer slice: xs is written there, w is what that leaves, and p is the part as `median_value` leaves it
 module _ (xs work w p : List Float) (n : ℕ) (r : Float) (hn : n ≡ length xs) (e : w ≡ written xs work) where
   front : take n w ≡ xs
   front = rw (e, hn) (take-append-seam xs (drop (length xs) work))
 
-  pub found : ordered r p ≡ orderedOf (take n w) → r ≡ medianOf xs
-  found h = ap (λ (o : Ordered). o .median) h ∙ ap medianOf front
+  pub found : r ≡ medianOf (take n w) → r ≡ medianOf xs
+  found h = h ∙ ap medianOf front
 
   behind : drop n w ≡ drop n work
   behind = rw (e, hn) (drop-append-seam xs (drop (length xs) work))

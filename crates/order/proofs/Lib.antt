@@ -13,5 +13,7 @@ pub mod Within
 pub mod Sides
 pub mod Chosen
 pub mod Count
+pub mod Tally
+pub mod Only
 pub mod Top
 pub mod Law

@@ -7,10 +7,11 @@ ghost use mathlib.Core.Path.{_≡_};
 ghost use mathlib.Core.List.{map};
 ghost use Prim.Native.Nat.{_+_, _-_, _*_, _/_, _<_, _≤_};
 ghost use lib.ListN.{length, getD, drop};
-ghost use lib.Ieee.{nan, inf, isNan};
+ghost use lib.Ieee.{nan, inf, isNan, lt, ne};
 ghost use Rattle.float.specs.Select.{max};
-ghost use mathlib.Core.Bool.{true, false};
+ghost use mathlib.Core.Bool.{true, false, not};
 ghost use Rattle.order.specs.Median.{swapped, scanUp, scanDown, parted, selected, largest, medianOf, ordered, orderedOf, StopsUp, StopsDown};
+ghost use Rattle.order.specs.Law.{count, tally, Rank, OnlyOne};
 ghost use Rattle.order.specs.Quarters.{AllNumbers, quartersAt, quartersOf};
 ghost use Rattle.order.specs.Deviation.{deviation, written, cleared, spread, madSigma, final, madSigmaOf};
 
@@ -198,6 +199,232 @@ pub fn median(values: &mut [f32]) -> f32
     0.5 * (lower + upper)
 }
 
+// ---- the middle by counting: quicker than selection where nobody asks for the order that it leaves
+
+// 1 where x is below r, else 0.
+fn below(x: f32, r: f32) -> u32
+    ensures { λ n. ⌜ (n ≡ tally (lt x r)) × (n ≤ 1) ⌝ }
+{
+    if x < r { 1 } else { 0 }
+}
+
+// How many values are below r.
+fn count_below(v: &[f32], r: f32) -> u32
+    requires { ⌜ length (now v) ≤ 4096 ⌝ }
+    ensures { λ n. ⌜ n ≡ count (λ y. lt y r) (now (v .entry)) ⌝ }
+{
+    let mut n: u32 = 0;
+    for i in 0..v.len() {
+        n = n + below(v[i], r);
+    }
+    n
+}
+
+// 0 where x is above r, else 1.
+fn upto(x: f32, r: f32) -> u32
+    ensures { λ n. ⌜ (n ≡ tally (not (lt r x))) × (n ≤ 1) ⌝ }
+{
+    if r < x { 0 } else { 1 }
+}
+
+// How many values are not above r.
+fn count_upto(v: &[f32], r: f32) -> u32
+    requires { ⌜ length (now v) ≤ 4096 ⌝ }
+    ensures { λ n. ⌜ n ≡ count (λ y. not (lt r y)) (now (v .entry)) ⌝ }
+{
+    let mut n: u32 = 0;
+    for i in 0..v.len() {
+        n = n + upto(v[i], r);
+    }
+    n
+}
+
+// 1 where x is a NaN, else 0.
+fn odd_one(x: f32) -> u32
+    ensures { λ n. ⌜ (n ≡ tally (ne x x)) × (n ≤ 1) ⌝ }
+{
+    if x != x { 1 } else { 0 }
+}
+
+// How many values are NaNs.
+fn count_nan(v: &[f32]) -> u32
+    requires { ⌜ length (now v) ≤ 4096 ⌝ }
+    ensures { λ n. ⌜ n ≡ count (λ y. ne y y) (now (v .entry)) ⌝ }
+{
+    let mut n: u32 = 0;
+    for i in 0..v.len() {
+        n = n + odd_one(v[i]);
+    }
+    n
+}
+
+// A search for the value at k in order: it lies from `lo` up to but not at `hi`, `at` is a place of `lo`, and so many counts
+// are left to spend.
+struct Bracket {
+    lo: f32,
+    hi: f32,
+    at: usize,
+    tries: u32,
+}
+
+// The search after value i was looked at. Nothing is proved of it but that `at` is a place: who calls it tests what it finds.
+fn narrowed(v: &[f32], k: u32, i: usize, b: Bracket) -> Bracket
+    requires { ⌜ (length (now v) ≤ 4096) × (i < length (now v)) × (b .at < length (now v)) ⌝ }
+    ensures { λ r. ⌜ r .at < length (now (v .entry)) ⌝ }
+{
+    let x = v[i];
+    if b.tries == 0 {
+        return b;
+    }
+    if !(b.lo < x) {
+        return b;
+    }
+    if !(x < b.hi) {
+        return b;
+    }
+    let n = count_below(v, x);
+    if n == k {
+        return Bracket {
+            lo: x,
+            hi: x,
+            at: i,
+            tries: 0,
+        };
+    }
+    if n < k {
+        return Bracket {
+            lo: x,
+            hi: b.hi,
+            at: i,
+            tries: b.tries - 1,
+        };
+    }
+    Bracket {
+        lo: b.lo,
+        hi: x,
+        at: b.at,
+        tries: b.tries - 1,
+    }
+}
+
+// A place where the value at k in order is likely to stand.
+fn place(v: &[f32], k: u32) -> usize
+    requires { ⌜ (length (now v) ≤ 4096) × (0 < length (now v)) ⌝ }
+    ensures { λ r. ⌜ r < length (now (v .entry)) ⌝ }
+{
+    let mut b = Bracket {
+        lo: -1.0f32 / 0.0f32,
+        hi: 1.0f32 / 0.0f32,
+        at: 0,
+        tries: 24,
+    };
+    for i in 0..v.len() {
+        b = narrowed(v, k, i, b);
+    }
+    b.at
+}
+
+// A value that was found, or none.
+struct Found {
+    known: bool,
+    value: f32,
+}
+
+fn none() -> Found
+    ensures { λ r. ⌜ r .known ≡ false ⌝ }
+{
+    Found {
+        known: false,
+        value: 0.0,
+    }
+}
+
+// The value at k in order, where the search finds it: at most k values are below it, and more than k are not above it.
+fn ranked(v: &[f32], k: u32) -> Found
+    requires { ⌜ (length (now v) ≤ 4096) × (0 < length (now v)) ⌝ }
+    ensures { λ r. ⌜ (r .known ≡ true → Rank k (now (v .entry)) (r .value)) ⌝ }
+{
+    let at = place(v, k);
+    let r = v[at];
+    if count_below(v, r) > k {
+        return none();
+    }
+    if count_upto(v, r) <= k {
+        return none();
+    }
+    Found {
+        known: true,
+        value: r,
+    }
+}
+
+// Whether x is finite and not zero, so that no other float is equal to it.
+fn only_one(x: f32) -> bool
+    ensures { λ r. ⌜ (r ≡ true → OnlyOne x) ⌝ }
+{
+    if !(x < 1.0f32 / 0.0f32) {
+        return false;
+    }
+    if !(-1.0f32 / 0.0f32 < x) {
+        return false;
+    }
+    x != 0.0
+}
+
+// The value at k in order, where the search finds it and no other float is equal to it.
+fn sure_rank(v: &[f32], k: u32) -> Found
+    requires { ⌜ (length (now v) ≤ 4096) × (0 < length (now v)) ⌝ }
+    ensures { λ r. ⌜ (r .known ≡ true → Rank k (now (v .entry)) (r .value) × OnlyOne (r .value)) ⌝ }
+{
+    let m = ranked(v, k);
+    if !m.known {
+        return none();
+    }
+    if !only_one(m.value) {
+        return none();
+    }
+    m
+}
+
+// The median of the values, where counting finds it.
+fn counted(v: &[f32]) -> Found
+    ensures { λ r. ⌜ (r .known ≡ true → r .value ≡ medianOf (now (v .entry))) ⌝ }
+{
+    let n = v.len();
+    if n == 0 {
+        return none();
+    }
+    if 4096 < n {
+        return none();
+    }
+    if count_nan(v) != 0 {
+        return none();
+    }
+    let upper = sure_rank(v, (n / 2) as u32);
+    if n % 2 == 1 {
+        return upper;
+    }
+    if !upper.known {
+        return none();
+    }
+    let lower = sure_rank(v, (n / 2 - 1) as u32);
+    Found {
+        known: lower.known,
+        value: 0.5 * (lower.value + upper.value),
+    }
+}
+
+// The median of the values, which are left in some order.
+fn median_value(values: &mut [f32]) -> f32
+    ensures { λ r. ⌜ r ≡ medianOf (now (values .entry)) ⌝ }
+{
+    let m = counted(values);
+    if m.known {
+        return m.value;
+    }
+    median(values)
+}
+
 // ---- the deviation
 
 // Writes the values to the start of `out`.
@@ -237,7 +464,7 @@ fn median_in(values: &[f32], work: &mut [f32]) -> f32
 {
     let n = values.len();
     copy(work, values);
-    median(&mut work[..n])
+    median_value(&mut work[..n])
 }
 
 // The median distance of the values from m, found the same way.
@@ -247,7 +474,7 @@ fn deviation_in(values: &[f32], m: f32, work: &mut [f32]) -> f32
 {
     let n = values.len();
     deviate(work, values, m);
-    median(&mut work[..n])
+    median_value(&mut work[..n])
 }
 
 // Core: 1.4826 times the median distance of the values from their median, and 0 of none. The work is done at the
