@@ -22,7 +22,8 @@ use Rattle.stats.specs.declared.ChannelStats.{ChannelStats}
 use Rattle.stats.specs.Calls.{shortPalette, badNoiseNumbers, badNumbers, badSigmas}
 use Rattle.stats.proofs.Passed.{palette-long}
 use Rattle.demod.specs.Score.{Exact}
-use Rattle.demod.specs.Call.{badModuleLengths, badCellLengths, shortChroma, badLengths, badPositions, badInputs, wildColourAt, wildColours, badCorrected, Request, moduleColours, cellColours, sentencesOf, turnedAway, done, scoredOf, numberOf}
+use Rattle.answers.specs.Answers.{outcomeNumber}
+use Rattle.demod.specs.Call.{badModuleLengths, badCellLengths, shortChroma, badLengths, badPositions, badInputs, wildColourAt, wildColours, badCorrected, Request, moduleColours, cellColours, sentencesOf, turnedAway, done, scoredOf}
 use Rattle.demod.proofs.Places.{exact-xs, exact-ys}
 
 equal : (a b : ℕ) → not (eqb a b) ≡ false → a ≡ b
@@ -158,11 +159,11 @@ module _ (q : Request) where
           }
 
 -- the answer's number is that of the first sentence that holds
-number-of : (q : Request) (n : ℕ) → numberOf (decided n (turnedAway q) (done q) .answer) ≡ n
-unfolding decided numberOf
+number-of : (q : Request) (n : ℕ) → outcomeNumber (decided n (turnedAway q) (done q) .answer) ≡ n
+unfolding decided
 number-of q zero = refl
 number-of q (suc n) = refl
 
-pub number : (q : Request) → numberOf (scoredOf q .answer) ≡ refusal (sentencesOf q)
+pub number : (q : Request) → outcomeNumber (scoredOf q .answer) ≡ refusal (sentencesOf q)
 unfolding scoredOf
 number q = number-of q (refusal (sentencesOf q))

@@ -14,11 +14,11 @@ use Rattle.color.specs.declared.Lab.{Lab}
 use Rattle.color.specs.Color.{linearToLab}
 use Rattle.modulate.specs.declared.Cell.{Cell}
 use Rattle.modulate.specs.Score.{bitLlrAt, chromaBitLlrs}
-use Rattle.modulate.proofs.Written.{Reached, reached}
+use Rattle.lists.proofs.Laws.{Reached, reached}
 use Rattle.stats.specs.declared.ChannelStats.{ChannelStats}
 use Rattle.stats.specs.Noise.{denominator, hueLogLikelihood, putLikelihood, hueLogLikelihoods, reliability}
 use Rattle.demod.specs.Score.{putScores, writeEntry}
-use Rattle.demod.proofs.Literals.{n0}
+use Rattle.color.proofs.Numbers.{n0}
 
 -- each hue's likelihood, and the tail as it was
 pub likelihoods-are : (n : ChannelStats) (lab : Lab) (palette : List Float) (hues : ℕ) (out : List Float) → hues ≤ length out →

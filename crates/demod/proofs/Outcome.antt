@@ -13,9 +13,10 @@ use lib.Ieee.{Float, nan}
 use Rattle.sentences.specs.Sentences.{refusal, at, before}
 use Rattle.limits.specs.Chroma.{chromaOn, symbolBits, ringModules, chromaEntries, chromaLength}
 use Rattle.modulate.specs.declared.Cell.the-variants.{Unmasked, At}
-use Rattle.modulate.specs.declared.Outcome.the-variants.{Refused, Done}
+use Rattle.answers.specs.declared.Outcome.the-variants.{Refused, Done}
+use Rattle.answers.specs.Answers.{outcomeNumber}
 use Rattle.demod.specs.Score.{writeCells, writeRings, ringChroma, chromaWritten}
-use Rattle.demod.specs.Call.{Request, moduleColours, cellColours, sentencesOf, turnedAway, done, writtenModules, writtenChroma, scoredOf, numberOf}
+use Rattle.demod.specs.Call.{Request, moduleColours, cellColours, sentencesOf, turnedAway, done, writtenModules, writtenChroma, scoredOf}
 use Rattle.demod.proofs.Accepted.{Accepted, accepted, number, given, first, turned-away, taken}
 use Rattle.demod.proofs.Written.{Modules, modules-are, Entries, entryScore, place, cells-are, cellOf, rings-are, ring-has, ring-long, ring-below, ring-past}
 
@@ -121,9 +122,8 @@ module _ (q : Request) where
     pub no-chroma : chromaOn (q .hues) ≡ false → writtenChroma q ≡ q .chroma
 
   pub at-done : scoredOf q .answer ≡ Done → IsDone
-  unfolding numberOf
   at-done h =
-      let e : 0 ≡ refusal (sentencesOf q) = sym (ap numberOf h) ∙ number q in
+      let e : 0 ≡ refusal (sentencesOf q) = sym (ap outcomeNumber h) ∙ number q in
       let a = accepted q 0 e refl in
       record {
         fit = a;
@@ -139,7 +139,6 @@ module _ (q : Request) where
     pub earlier : (m : ℕ) → at m (before n (sentencesOf q)) ≡ false
 
   pub at-refused : (n : ℕ) → (n ≡ 0 → ⊥) → scoredOf q .answer ≡ Refused n → IsRefused n
-  unfolding numberOf
   at-refused n z h =
-      let e : n ≡ refusal (sentencesOf q) = sym (ap numberOf h) ∙ number q in
+      let e : n ≡ refusal (sentencesOf q) = sym (ap outcomeNumber h) ∙ number q in
       record { left = sym (turned-away q n e z); holds = given q n e z; earlier = first q n e }

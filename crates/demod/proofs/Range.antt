@@ -16,7 +16,7 @@ use Rattle.color.specs.declared.Linear.{Linear}
 use Rattle.color.specs.Color.{whole, fraction, linearToLab}
 use Rattle.color.specs.Palette.{linearAt, wildLinear}
 use Rattle.color.proofs.Bounded.{lab-within}
-use Rattle.modulate.specs.declared.Outcome.the-variants.{Done}
+use Rattle.answers.specs.declared.Outcome.the-variants.{Done}
 use Rattle.illum.specs.declared.IlluminationModel.{IlluminationModel}
 use Rattle.illum.specs.Correct.{affineRow, mixed}
 use Rattle.stats.specs.declared.ChannelStats.{ChannelStats}

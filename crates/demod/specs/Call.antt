@@ -13,8 +13,8 @@ use Rattle.limits.specs.Limits.{badSide, badHues, badCellSize, badCounts, badCe
 use Rattle.limits.specs.Chroma.{chromaOn, ringModules, chromaLength}
 use Rattle.color.specs.declared.Linear.{Linear}
 use Rattle.color.specs.Palette.{wildLinear, wildIn}
-use Rattle.modulate.specs.declared.Outcome.{Outcome}
-use Rattle.modulate.specs.declared.Outcome.the-variants.{Refused, Done}
+use Rattle.answers.specs.declared.Outcome.{Outcome}
+use Rattle.answers.specs.declared.Outcome.the-variants.{Refused, Done}
 use Rattle.illum.specs.declared.IlluminationModel.{IlluminationModel}
 use Rattle.illum.specs.Refusals.{badModel}
 use Rattle.stats.specs.declared.ChannelStats.{ChannelStats}
@@ -135,8 +135,3 @@ done q = final Done (writtenModules q .luma) (writtenModules q .colours) (writte
 
 unfoldable pub scoredOf : Request → Final
 scoredOf q = decided (refusal (sentencesOf q)) (turnedAway q) (done q)
-
--- document 01's number of an answer: 0 where the call is accepted
-unfoldable pub numberOf : Outcome → ℕ
-numberOf (Refused n) = n
-numberOf Done = 0

@@ -19,6 +19,7 @@ use Rattle.modulate.specs.Score.{chromaBitLlrs}
 use Rattle.illum.specs.declared.IlluminationModel.{IlluminationModel}
 use Rattle.illum.specs.Correct.{corrected}
 use Rattle.stats.specs.declared.ChannelStats.{ChannelStats}
+use Rattle.demod.specs.declared.Spot.{Spot}
 use Rattle.stats.specs.Arithmetic.{_⊕_, _⊗_, _⊘_}
 use Rattle.stats.specs.Noise.{lumaLlr, reliability, hueLogLikelihoods}
 
@@ -45,6 +46,17 @@ moduleColour model xs ys raw i =
 unfoldable pub cellColour : IlluminationModel → ℕ → List ℕ → List ℕ → List Float → ℕ → Linear
 cellColour model size cxs cys raw i =
     corrected model (cellCentre size (getD cxs i 0)) (cellCentre size (getD cys i 0)) (linearAt raw i) .colour
+
+-- module i and cell i as they were observed: where, and which colour
+unfoldable pub moduleSpot : List ℤ → List ℤ → List Float → ℕ → Spot
+moduleSpot xs ys raw i = record { x = centre (getD xs i (pos 0)); y = centre (getD ys i (pos 0)); colour = linearAt raw i }
+
+unfoldable pub cellSpot : ℕ → List ℕ → List ℕ → List Float → ℕ → Spot
+cellSpot size cxs cys raw i = record { x = cellCentre size (getD cxs i 0); y = cellCentre size (getD cys i 0); colour = linearAt raw i }
+
+-- one colour for every entry
+abbrev pub only : Linear → ℕ → Linear
+only c i = c
 
 -- ---- luma
 

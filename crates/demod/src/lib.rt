@@ -13,18 +13,21 @@ ghost use lib.ListN.{length, getD};
 ghost use Rattle.sentences.specs.Sentences.{refusal};
 ghost use Rattle.limits.specs.Limits.{badHues};
 ghost use Rattle.limits.specs.Chroma.{symbolBits, chromaLength, ringModules};
+ghost use Rattle.color.specs.Color.{linearToLab};
 ghost use Rattle.color.specs.Palette.{paletteLen};
 ghost use Rattle.demod.specs.Score as spec;
 ghost use Rattle.demod.specs.Score.{Exact, sheet};
 ghost use Rattle.demod.specs.Call as call;
+use answers::Outcome;
 use color::Linear;
+use color::Xyz;
 use color::linear_to_lab;
+use color::linear_to_xyz;
 use color::palette::linear_at;
 use color::palette::wild_in;
-use color::palette::wild_linear;
+use color::xyz_to_lab;
 use illum::IlluminationModel;
 use modulate::Cell;
-use modulate::Outcome;
 use stats::ChannelStats;
 
 // ---- the corrected colours
@@ -52,14 +55,28 @@ fn cell_centre(size: usize, cx: u16) -> f32
     cx as f32 * size as f32 + size as f32 / 2.0
 }
 
-// Core: the corrected colour of module i.
-pub fn module_colour(
-    model: IlluminationModel,
-    xs: &[i32],
-    ys: &[i32],
-    raw: &[f32],
-    i: usize,
-) -> Linear
+// Where a colour stands, and the colour as it was observed.
+pub struct Spot {
+    pub x: f32,
+    pub y: f32,
+    pub colour: Linear,
+}
+
+// Module i, observed at its centre.
+fn module_spot(xs: &[i32], ys: &[i32], raw: &[f32], i: usize) -> Spot
+    requires { ⌜ (i < length (now xs)) × (i < length (now ys)) × T (inFloat binary32 (getD (now xs) i (pos 0))) × T (inFloat binary32 (getD (now ys) i (pos 0))) × (3 * i + 2 < length (now raw)) ⌝ }
+    ensures { λ r. ⌜ r ≡ spec.moduleSpot (now (xs .entry)) (now (ys .entry)) (now (raw .entry)) i ⌝ }
+{
+    let colour = linear_at(raw, i);
+    Spot {
+        x: centre_at(xs, i),
+        y: centre_at(ys, i),
+        colour,
+    }
+}
+
+// The corrected colour of module i.
+fn module_colour(model: IlluminationModel, xs: &[i32], ys: &[i32], raw: &[f32], i: usize) -> Linear
     requires { ⌜ (i < length (now xs)) × (i < length (now ys)) × T (inFloat binary32 (getD (now xs) i (pos 0))) × T (inFloat binary32 (getD (now ys) i (pos 0))) × (3 * i + 2 < length (now raw)) ⌝ }
     ensures { λ r. ⌜ r ≡ spec.moduleColour model (now (xs .entry)) (now (ys .entry)) (now (raw .entry)) i ⌝ }
 {
@@ -70,23 +87,17 @@ pub fn module_colour(
     c
 }
 
-// Core: the corrected colour of cell i.
-pub fn cell_colour(
-    model: IlluminationModel,
-    size: usize,
-    cxs: &[u16],
-    cys: &[u16],
-    raw: &[f32],
-    i: usize,
-) -> Linear
+// Cell i, observed at its centre.
+fn cell_spot(size: usize, cxs: &[u16], cys: &[u16], raw: &[f32], i: usize) -> Spot
     requires { ⌜ (size ≤ 16) × (i < length (now cxs)) × (i < length (now cys)) × (3 * i + 2 < length (now raw)) ⌝ }
-    ensures { λ r. ⌜ r ≡ spec.cellColour model size (now (cxs .entry)) (now (cys .entry)) (now (raw .entry)) i ⌝ }
+    ensures { λ r. ⌜ r ≡ spec.cellSpot size (now (cxs .entry)) (now (cys .entry)) (now (raw .entry)) i ⌝ }
 {
-    let x = cell_centre(size, cxs[i]);
-    let y = cell_centre(size, cys[i]);
-    let marked = illum::corrected(model, x, y, linear_at(raw, i));
-    let c = marked.colour;
-    c
+    let colour = linear_at(raw, i);
+    Spot {
+        x: cell_centre(size, cxs[i]),
+        y: cell_centre(size, cys[i]),
+        colour,
+    }
 }
 
 // ---- luma
@@ -98,17 +109,30 @@ pub fn weigh(llr: f32, weight: f32) -> f32
     llr * weight
 }
 
+// The lightness of a colour. It is that of its Y alone, so no cube root is taken of X or Z.
+fn lightness(c: Linear) -> f32
+    ensures { λ r. ⌜ r ≡ linearToLab c .l ⌝ }
+{
+    let q = linear_to_xyz(c);
+    let lab = xyz_to_lab(Xyz {
+        x: 0.0,
+        y: q.y,
+        z: 0.0,
+    });
+    lab.l
+}
+
 // Core: the luma score of a corrected colour, of a palette that is long enough.
 pub fn luma_score(noise: ChannelStats, palette: &[f32], hues: usize, c: Linear) -> f32
     requires { ⌜ paletteLen hues ≤ length (now palette) ⌝ }
     ensures { λ r. ⌜ r ≡ spec.lumaScore noise (now (palette .entry)) hues c ⌝ }
 {
-    let lab = linear_to_lab(c);
-    let llr = noise.luma_llr_of(lab.l);
     if limits::weighted(hues) {
+        let lab = linear_to_lab(c);
+        let llr = noise.luma_llr_of(lab.l);
         return weigh(llr, noise.reliability_of(lab, palette, hues));
     }
-    llr
+    noise.luma_llr_of(lightness(c))
 }
 
 fn put_colour(l: &mut [f32], i: usize, c: Linear)
@@ -120,22 +144,19 @@ fn put_colour(l: &mut [f32], i: usize, c: Linear)
     l[3 * i + 2] = c.b;
 }
 
+// Writes for module i, whose corrected colour is c.
 fn write_module(
     noise: ChannelStats,
     palette: &[f32],
     hues: usize,
-    model: IlluminationModel,
-    xs: &[i32],
-    ys: &[i32],
-    raw: &[f32],
+    c: Linear,
     i: usize,
     luma: &mut [f32],
     colours: &mut [f32],
 )
-    requires { ⌜ (paletteLen hues ≤ length (now palette)) × (i < length (now xs)) × (i < length (now ys)) × T (inFloat binary32 (getD (now xs) i (pos 0))) × T (inFloat binary32 (getD (now ys) i (pos 0))) × (3 * i + 2 < length (now raw)) × (i < length (now luma)) × (3 * i + 2 < length (now colours)) ⌝ }
-    ensures { λ _. ⌜ sheet (now (luma .exit)) (now (colours .exit)) ≡ spec.writeModule noise (now (palette .entry)) hues (spec.moduleColour model (now (xs .entry)) (now (ys .entry)) (now (raw .entry))) i (sheet (now (luma .entry)) (now (colours .entry))) ⌝ }
+    requires { ⌜ (paletteLen hues ≤ length (now palette)) × (i < length (now luma)) × (3 * i + 2 < length (now colours)) ⌝ }
+    ensures { λ _. ⌜ sheet (now (luma .exit)) (now (colours .exit)) ≡ spec.writeModule noise (now (palette .entry)) hues (spec.only c) i (sheet (now (luma .entry)) (now (colours .entry))) ⌝ }
 {
-    let c = module_colour(model, xs, ys, raw, i);
     luma[i] = luma_score(noise, palette, hues, c);
     put_colour(colours, i, c);
 }
@@ -155,7 +176,10 @@ fn write_modules(
     ensures { λ _. ⌜ sheet (now (luma .exit)) (now (colours .exit)) ≡ spec.writeModules noise (now (palette .entry)) hues (spec.moduleColour model (now (xs .entry)) (now (ys .entry)) (now (raw .entry))) (length (now (xs .entry))) (sheet (now (luma .entry)) (now (colours .entry))) ⌝ }
 {
     for i in 0..xs.len() {
-        write_module(noise, palette, hues, model, xs, ys, raw, i, luma, colours);
+        let s = module_spot(xs, ys, raw, i);
+        let d = illum::unshade(model, s.x, s.y, s.colour);
+        let m = illum::mix(model, d);
+        write_module(noise, palette, hues, m.colour, i, luma, colours);
     }
 }
 
@@ -207,22 +231,20 @@ pub fn write_entry(
     put_scores(&bits, weight, n, e * n, chroma);
 }
 
+// Writes for cell i, whose corrected colour is c.
 fn write_cell(
     noise: ChannelStats,
     palette: &[f32],
     hues: usize,
-    model: IlluminationModel,
-    size: usize,
     cxs: &[u16],
     cys: &[u16],
-    raw: &[f32],
+    c: Linear,
     i: usize,
     chroma: &mut [f32],
 )
-    requires { ⌜ (badHues hues ≡ false) × (paletteLen hues ≤ length (now palette)) × (size ≤ 16) × (i < length (now cxs)) × (i < length (now cys)) × (3 * i + 2 < length (now raw)) × (i * symbolBits hues + symbolBits hues ≤ length (now chroma)) ⌝ }
-    ensures { λ _. ⌜ now (chroma .exit) ≡ spec.writeCell noise (now (palette .entry)) hues (now (cxs .entry)) (now (cys .entry)) (spec.cellColour model size (now (cxs .entry)) (now (cys .entry)) (now (raw .entry))) i (now (chroma .entry)) ⌝ }
+    requires { ⌜ (badHues hues ≡ false) × (paletteLen hues ≤ length (now palette)) × (i < length (now cxs)) × (i < length (now cys)) × (i * symbolBits hues + symbolBits hues ≤ length (now chroma)) ⌝ }
+    ensures { λ _. ⌜ now (chroma .exit) ≡ spec.writeCell noise (now (palette .entry)) hues (now (cxs .entry)) (now (cys .entry)) (spec.only c) i (now (chroma .entry)) ⌝ }
 {
-    let c = cell_colour(model, size, cxs, cys, raw, i);
     let cell = Cell::At(cxs[i], cys[i]);
     write_entry(noise, palette, hues, cell, c, i, chroma);
 }
@@ -242,7 +264,10 @@ fn write_cells(
     ensures { λ _. ⌜ now (chroma .exit) ≡ spec.writeCells noise (now (palette .entry)) hues (now (cxs .entry)) (now (cys .entry)) (spec.cellColour model size (now (cxs .entry)) (now (cys .entry)) (now (raw .entry))) (length (now (cxs .entry))) (now (chroma .entry)) ⌝ }
 {
     for i in 0..cxs.len() {
-        write_cell(noise, palette, hues, model, size, cxs, cys, raw, i, chroma);
+        let s = cell_spot(size, cxs, cys, raw, i);
+        let d = illum::unshade(model, s.x, s.y, s.colour);
+        let m = illum::mix(model, d);
+        write_cell(noise, palette, hues, cxs, cys, m.colour, i, chroma);
     }
 }
 
@@ -451,7 +476,9 @@ fn bad_module_colours(model: IlluminationModel, xs: &[i32], ys: &[i32], raw: &[f
     ensures { λ r. ⌜ r ≡ call.wildColours (spec.moduleColour model (now (xs .entry)) (now (ys .entry)) (now (raw .entry))) (length (now (xs .entry))) ⌝ }
 {
     for i in 0..xs.len() {
-        if wild_linear(module_colour(model, xs, ys, raw, i)) {
+        let s = module_spot(xs, ys, raw, i);
+        let d = illum::unshade(model, s.x, s.y, s.colour);
+        if illum::wild_mix(model, d) {
             return true;
         }
     }
@@ -470,7 +497,9 @@ fn bad_cell_colours(
     ensures { λ r. ⌜ r ≡ call.wildColours (spec.cellColour model size (now (cxs .entry)) (now (cys .entry)) (now (raw .entry))) (length (now (cxs .entry))) ⌝ }
 {
     for i in 0..cxs.len() {
-        if wild_linear(cell_colour(model, size, cxs, cys, raw, i)) {
+        let s = cell_spot(size, cxs, cys, raw, i);
+        let d = illum::unshade(model, s.x, s.y, s.colour);
+        if illum::wild_mix(model, d) {
             return true;
         }
     }

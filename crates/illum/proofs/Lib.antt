@@ -1,3 +1,7 @@
+pub mod Bound
+pub mod First
+pub mod Gaps
+pub mod Inverses
 pub mod Passes
 pub mod Side
 pub mod Terms

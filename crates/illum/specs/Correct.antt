@@ -22,6 +22,16 @@ affineRow a r g b =
     (add binary64 (add binary64 (mul binary64 (getD a 0 nan) r) (mul binary64 (getD a 1 nan) g)) (mul binary64 (getD a 2 nan) b))
     (getD a 3 nan))
 
+-- the three channels' inverses at a position, with so many terms
+unfoldable pub unshadedBy : ℕ → IlluminationModel → Float → Float → Linear → Unshaded
+unshadedBy terms m x y c =
+    let at = basisAt terms (m .side) x y in
+    record {
+      r = deshade terms (m .«gain_r») (m .«flare_r») at (c .r);
+      g = deshade terms (m .«gain_g») (m .«flare_g») at (c .g);
+      b = deshade terms (m .«gain_b») (m .«flare_b») at (c .b);
+    }
+
 -- the three channels' inverses at a position: the Rust's `deshade`
 unfoldable pub unshaded : IlluminationModel → Float → Float → Linear → Unshaded
 unshaded m x y c =

@@ -32,6 +32,10 @@ unfoldable pub badModelSide : Float → Bool
 badModelSide s =
     not (le (ofInt binary32 (pos 1)) s && (le s (ofInt binary32 (pos 1024)) && eq (ofInt binary32 (pos (toUnsigned 64 s))) s))
 
+-- one of four numbers is not finite
+abbrev pub notFinite4 : Float → Float → Float → Float → Bool
+notFinite4 a b c d = notFinite a || (notFinite b || (notFinite c || notFinite d))
+
 abbrev pub notFiniteAt : List Float → ℕ → Bool
 notFiniteAt l k = notFinite (getD l k nan)
 

@@ -55,6 +55,10 @@ basisAt terms side x y =
 unfoldable pub addTerm : List Float → List Float → ℕ → Float → Float
 addTerm c b k s = add binary64 s (mul binary64 (getD c k nan) (getD b k nan))
 
+-- the sum of the first n terms
+abbrev pub summed : ℕ → List Float → List Float → Float
+summed n c b = forUp 0 n (addTerm c b) zero64
+
 abbrev pub surfaceAt : ℕ → List Float → List Float → Float
 surfaceAt terms c b = forUp 0 (termsUsed terms) (addTerm c b) zero64
 
@@ -71,6 +75,10 @@ holdGain g = cond (isHeld g) (cond (lt g zero64) (neg leastGain) leastGain) g
 -- the gain that the correction divides by
 abbrev pub gainAt : ℕ → List Float → List Float → Float
 gainAt terms gain b = holdGain (surfaceAt terms gain b)
+
+-- (observed - flare) / gain of a gain that is held, and whether it was
+abbrev pub inverted : Float → Float → Float → Inverse
+inverted gain flare observed = record { value = div binary64 (sub binary64 observed flare) (holdGain gain); held = isHeld gain }
 
 -- one channel of the Rust's `deshade`, (observed - flare) / gain, and whether the gain was held
 unfoldable pub deshade : ℕ → List Float → List Float → List Float → Float → Inverse

@@ -6,12 +6,12 @@
 ghost use mathlib.Core.Path.{_≡_};
 ghost use mathlib.Core.Bool.{not};
 ghost use Prim.Native.Nat.{_≤_};
-ghost use lib.ListN.{length};
 ghost use lib.Ieee.Scale.{finite};
 ghost use Rattle.sentences.specs.Sentences.{refusal};
-ghost use Rattle.illum.specs.Surface.{termsUsed, basisAt, surfaceAt, isHeld, holdGain, deshade, normalised};
+ghost use Rattle.color.specs.Palette.{wild, wildLinear};
+ghost use Rattle.illum.specs.Surface.{termsUsed, basisAt, summed, isHeld, holdGain, inverted, deshade, normalised};
 ghost use Rattle.illum.specs.Correct as spec;
-ghost use Rattle.illum.specs.Refusals.{badTerms, badModelSide, notFiniteUpTo, notFiniteAffine, notFiniteGains, notFiniteFlares, notFiniteModel, badModel, identityOf, sentencesOf, correctOf};
+ghost use Rattle.illum.specs.Refusals.{badTerms, badModelSide, notFinite4, notFiniteUpTo, notFiniteAffine, notFiniteGains, notFiniteFlares, notFiniteModel, badModel, identityOf, sentencesOf, correctOf};
 use color::Linear;
 
 // A fitted correction from observed to nominal linear light. The affine part is three rows of four; a gain and a flare surface
@@ -115,16 +115,18 @@ pub fn basis(terms: usize, side: f32, x: f32, y: f32) -> [f64; 9]
     ]
 }
 
-// The value of a surface: its coefficients times the basis, summed from +0 on over the terms in use.
-fn surface(terms: usize, c: [f64; 9], b: [f64; 9]) -> f64
-    ensures { λ r. ⌜ r ≡ surfaceAt terms c b ⌝ }
+// The value of a surface of 4 terms: its coefficients times the basis, summed from +0 on.
+fn surface_4(c: [f64; 9], b: [f64; 9]) -> f64
+    ensures { λ r. ⌜ r ≡ summed 4 c b ⌝ }
 {
-    let n = terms_used(terms);
-    let mut s = 0.0;
-    for k in 0..n {
-        s = s + c[k] * b[k];
-    }
-    s
+    0.0 + c[0] * b[0] + c[1] * b[1] + c[2] * b[2] + c[3] * b[3]
+}
+
+// Of 9 terms: the same sum, and five terms more.
+fn surface_9(c: [f64; 9], b: [f64; 9]) -> f64
+    ensures { λ r. ⌜ r ≡ summed 9 c b ⌝ }
+{
+    surface_4(c, b) + c[4] * b[4] + c[5] * b[5] + c[6] * b[6] + c[7] * b[7] + c[8] * b[8]
 }
 
 // ---- one channel's inverse
@@ -149,16 +151,28 @@ fn hold_gain(g: f64) -> f64
     g
 }
 
-// Core: one channel's inverse at a basis, (observed - flare) / gain.
-pub fn invert(terms: usize, gain: [f64; 9], flare: [f64; 9], b: [f64; 9], observed: f32) -> Inverse
-    ensures { λ r. ⌜ r ≡ deshade terms gain flare b observed ⌝ }
+// One channel's inverse of a gain and a flare, (observed - flare) / gain.
+fn inverse_of(gain: f64, flare: f64, observed: f32) -> Inverse
+    ensures { λ r. ⌜ r ≡ inverted gain flare observed ⌝ }
 {
-    let g = surface(terms, gain, b);
-    let f = surface(terms, flare, b);
     Inverse {
-        value: (float::widen(observed) - f) / hold_gain(g),
-        held: is_held(g),
+        value: (float::widen(observed) - flare) / hold_gain(gain),
+        held: is_held(gain),
     }
+}
+
+// One channel's inverse at a basis of 4 terms.
+fn invert_4(gain: [f64; 9], flare: [f64; 9], b: [f64; 9], observed: f32) -> Inverse
+    ensures { λ r. ⌜ r ≡ deshade 4 gain flare b observed ⌝ }
+{
+    inverse_of(surface_4(gain, b), surface_4(flare, b), observed)
+}
+
+// At a basis of 9 terms.
+fn invert_9(gain: [f64; 9], flare: [f64; 9], b: [f64; 9], observed: f32) -> Inverse
+    ensures { λ r. ⌜ r ≡ deshade 9 gain flare b observed ⌝ }
+{
+    inverse_of(surface_9(gain, b), surface_9(flare, b), observed)
 }
 
 // ---- correct
@@ -170,26 +184,52 @@ fn affine_row(a: [f64; 4], r: f64, g: f64, b: f64) -> f32
     float::narrow(a[0] * r + a[1] * g + a[2] * b + a[3])
 }
 
+// The three channels' inverses of a model of 4 terms. (Written out, as is that of 9: no coefficient is copied.)
+fn unshade_4(model: IlluminationModel, x: f32, y: f32, colour: Linear) -> Unshaded
+    ensures { λ v. ⌜ v ≡ spec.unshadedBy 4 model x y colour ⌝ }
+{
+    let at = basis(4, model.side, x, y);
+    let gain_r = model.gain_r;
+    let flare_r = model.flare_r;
+    let r = invert_4(gain_r, flare_r, at, colour.r);
+    let gain_g = model.gain_g;
+    let flare_g = model.flare_g;
+    let g = invert_4(gain_g, flare_g, at, colour.g);
+    let gain_b = model.gain_b;
+    let flare_b = model.flare_b;
+    let b = invert_4(gain_b, flare_b, at, colour.b);
+    Unshaded { r, g, b }
+}
+
+// Of a model of 9 terms.
+fn unshade_9(model: IlluminationModel, x: f32, y: f32, colour: Linear) -> Unshaded
+    ensures { λ v. ⌜ v ≡ spec.unshadedBy 9 model x y colour ⌝ }
+{
+    let at = basis(9, model.side, x, y);
+    let gain_r = model.gain_r;
+    let flare_r = model.flare_r;
+    let r = invert_9(gain_r, flare_r, at, colour.r);
+    let gain_g = model.gain_g;
+    let flare_g = model.flare_g;
+    let g = invert_9(gain_g, flare_g, at, colour.g);
+    let gain_b = model.gain_b;
+    let flare_b = model.flare_b;
+    let b = invert_9(gain_b, flare_b, at, colour.b);
+    Unshaded { r, g, b }
+}
+
 // Core: the three channels' inverses at a position, without the affine part.
 pub fn unshade(model: IlluminationModel, x: f32, y: f32, colour: Linear) -> Unshaded
     ensures { λ v. ⌜ v ≡ spec.unshaded model x y colour ⌝ }
 {
-    let t = model.terms;
-    let at = basis(t, model.side, x, y);
-    let gain_r = model.gain_r;
-    let flare_r = model.flare_r;
-    let r = invert(t, gain_r, flare_r, at, colour.r);
-    let gain_g = model.gain_g;
-    let flare_g = model.flare_g;
-    let g = invert(t, gain_g, flare_g, at, colour.g);
-    let gain_b = model.gain_b;
-    let flare_b = model.flare_b;
-    let b = invert(t, gain_b, flare_b, at, colour.b);
-    Unshaded { r, g, b }
+    if model.terms == 4 {
+        return unshade_4(model, x, y, colour);
+    }
+    unshade_9(model, x, y, colour)
 }
 
-// The affine part over the three channels' inverses, with the mark of each.
-fn mix(model: IlluminationModel, d: Unshaded) -> Marked
+// Core: the affine part over the three channels' inverses, with the mark of each.
+pub fn mix(model: IlluminationModel, d: Unshaded) -> Marked
     ensures { λ v. ⌜ v ≡ spec.mixed model d ⌝ }
 {
     let r = d.r;
@@ -209,6 +249,37 @@ fn mix(model: IlluminationModel, d: Unshaded) -> Marked
         held_g: g.held,
         held_b: b.held,
     }
+}
+
+// Whether a row of the affine part, rounded to an f32, is not finite or above 1,048,576 in magnitude. It is where the row itself
+// is above 1,048,576 and half a step of an f32 there.
+fn wild_row(a: [f64; 4], r: f64, g: f64, b: f64) -> bool
+    ensures { λ v. ⌜ v ≡ wild (spec.affineRow a r g b) ⌝ }
+{
+    let v = a[0] * r + a[1] * g + a[2] * b + a[3];
+    if v <= 1048576.0625 {
+        return !(-1048576.0625 <= v);
+    }
+    true
+}
+
+// Core: whether the colour that `mix` gives is wild, without rounding it.
+pub fn wild_mix(model: IlluminationModel, d: Unshaded) -> bool
+    ensures { λ v. ⌜ v ≡ wildLinear (spec.mixed model d .colour) ⌝ }
+{
+    let r = d.r;
+    let g = d.g;
+    let b = d.b;
+    let affine_r = model.affine_r;
+    if wild_row(affine_r, r.value, g.value, b.value) {
+        return true;
+    }
+    let affine_g = model.affine_g;
+    if wild_row(affine_g, r.value, g.value, b.value) {
+        return true;
+    }
+    let affine_b = model.affine_b;
+    wild_row(affine_b, r.value, g.value, b.value)
 }
 
 // Core: an observed colour at a position, corrected, with the marks of the channels whose gain was held. Takes every float.
@@ -259,31 +330,48 @@ fn bad_model_side(side: f32) -> bool
     true
 }
 
-// One of the first n numbers is not finite.
-fn not_finite_up_to(l: &[f64], n: usize) -> bool
-    requires { ⌜ n ≤ length (now l) ⌝ }
-    ensures { λ r. ⌜ r ≡ notFiniteUpTo n (now (l .entry)) ⌝ }
+// One of four numbers is not finite: a finite number less itself is 0, any other is a NaN, and so is a sum with one.
+fn not_finite_4(a: f64, b: f64, c: f64, d: f64) -> bool
+    ensures { λ r. ⌜ r ≡ notFinite4 a b c d ⌝ }
 {
-    for k in 0..n {
-        if not_finite_f64(l[k]) {
-            return true;
-        }
-    }
-    false
+    (a - a) + (b - b) + (c - c) + (d - d) != 0.0
 }
 
 // A row of the affine part has a number that is not finite.
 fn bad_row(a: [f64; 4]) -> bool
     ensures { λ r. ⌜ r ≡ notFiniteUpTo 4 a ⌝ }
 {
-    not_finite_up_to(&a, 4)
+    not_finite_4(a[0], a[1], a[2], a[3])
+}
+
+// A surface of 4 terms has one among them.
+fn bad_surface_4(c: [f64; 9]) -> bool
+    ensures { λ r. ⌜ r ≡ notFiniteUpTo 4 c ⌝ }
+{
+    not_finite_4(c[0], c[1], c[2], c[3])
+}
+
+// A surface of 9 terms has one.
+fn bad_surface_9(c: [f64; 9]) -> bool
+    ensures { λ r. ⌜ r ≡ notFiniteUpTo 9 c ⌝ }
+{
+    if bad_surface_4(c) {
+        return true;
+    }
+    if not_finite_4(c[4], c[5], c[6], c[7]) {
+        return true;
+    }
+    not_finite_f64(c[8])
 }
 
 // A surface has one among its terms.
 fn bad_surface(terms: usize, c: [f64; 9]) -> bool
     ensures { λ r. ⌜ r ≡ notFiniteUpTo (termsUsed terms) c ⌝ }
 {
-    not_finite_up_to(&c, terms_used(terms))
+    if terms == 4 {
+        return bad_surface_4(c);
+    }
+    bad_surface_9(c)
 }
 
 // The affine part has a number that is not finite.

@@ -4,7 +4,6 @@ use mathlib.Core.Bool.{Bool, true, false, _||_}
 use mathlib.Core.List.{List}
 use Prim.Native.Nat.{ℕ, _+_, _*_, _≤_}
 use native.Mathlib.Omega.{arith}
-use borrow.Author.Tests.{ltb-false}
 use lib.ListN.{length}
 use lib.Ieee.{Float}
 use Rattle.sentences.specs.Sentences.{refusal, at, fresh, sound}
@@ -13,7 +12,8 @@ use Rattle.limits.proofs.Laws.{side-in}
 use Rattle.color.specs.Palette.{paletteLen, wildPalette}
 use Rattle.illum.specs.declared.IlluminationModel.{IlluminationModel}
 use Rattle.illum.specs.Refusals.{badModel}
-use Rattle.references.specs.References.{badPositions, wildColours, shortScratch, tooMany}
+use Rattle.references.specs.References.{badPositions, wildColours, shortScratch}
+use Rattle.references.proofs.Laws.{room-in, few-in}
 use Rattle.stats.specs.declared.Noise.the-variants.{Refused}
 use Rattle.stats.specs.Calls.{shortPalette}
 use Rattle.stats.proofs.Passed.{palette-long}
@@ -29,14 +29,6 @@ pub record Accepted (flat : List Float) (n side : ℕ) (m : IlluminationModel) (
   pub numbers : wildPalette palette hues ≡ false
   pub sound-model : badModel m ≡ false
   pub corrected : badCorrected m flat n ≡ false
-
-room-in : (lent n : ℕ) → shortScratch lent n ≡ false → 4 * n ≤ lent
-unfolding shortScratch
-room-in lent n h = ltb-false lent (4 * n) h
-
-pub few-in : (n : ℕ) → tooMany n ≡ false → n ≤ 16384
-unfolding tooMany
-few-in n h = ltb-false 16384 n h
 
 module _ (cut : Bool) (palette : List Float) (hues lent n : ℕ) where
   lengths : tooShort cut palette hues lent n ≡ false → (paletteLen hues ≤ length palette) × (4 * n ≤ lent)

@@ -20,7 +20,8 @@ use Rattle.stats.specs.Noise.{nominal}
 use Rattle.measure.specs.declared.Level.{Level}
 use Rattle.measure.specs.Columns.{m0, m1, m2, m3, m4, m5, m6, marked, formed, pickedIn, levelIn, levelsIn, levelled, figuresIn, recordIn}
 use Rattle.measure.proofs.Lists.{picked-few}
-use Rattle.measure.proofs.Literals.{three-quarters, scaled, n0}
+use Rattle.color.proofs.Numbers.{three-quarters, n0}
+use Rattle.measure.proofs.Literals.{scaled}
 
 none : sigmaOf [] ≡ mul binary32 scale (medianOf (map (deviation (medianOf [])) []))
 unfolding sigmaOf medianOf scale mul round

@@ -7,6 +7,7 @@ use Prim.Native.Nat.{ℕ, _+_, _*_, _<_}
 use lib.ListN.{length, getD, set}
 use lib.Ieee.{Float, nan, binary32, ofBits, le}
 use Rattle.color.specs.declared.Lab.{Lab}
+use Rattle.color.specs.Color.{abDistance}
 use Rattle.order.specs.Median.{medianOf}
 use Rattle.order.specs.Deviation.{deviation}
 use Rattle.illum.specs.declared.IlluminationModel.{IlluminationModel}
@@ -61,6 +62,11 @@ unfoldable pub marked : Float → Float → Float → Bool
 marked lo hi mark = le lo mark && le mark hi
 
 -- ---- what is written of reference i of n
+
+-- of a reference whose corrected Lab is c
+unfoldable pub noted : Lab → List Float → List Float → ℕ → ℕ → List Float → List Float
+noted c palette flat n i s =
+    set (set (set s (n + i) (c .l)) (2 * n + i) (abDistance c (nominalLab flat i))) (3 * n + i) (markAt palette flat i)
 
 unfoldable pub notedAt : IlluminationModel → List Float → List Float → ℕ → ℕ → List Float → List Float
 notedAt m palette flat n i s =

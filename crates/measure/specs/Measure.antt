@@ -18,6 +18,7 @@ use Rattle.order.specs.Deviation.{sigmaOf, cleared}
 use Rattle.illum.specs.declared.IlluminationModel.{IlluminationModel}
 use Rattle.illum.specs.Correct.{corrected}
 use Rattle.illum.specs.Refusals.{badModel}
+use Rattle.measure.specs.declared.Seen.{Seen}
 use Rattle.stats.specs.declared.ChannelStats.{ChannelStats}
 use Rattle.stats.specs.declared.Noise.{Noise}
 use Rattle.stats.specs.declared.Noise.the-variants.{Refused, Record}
@@ -26,6 +27,10 @@ use Rattle.stats.specs.Calls.{shortPalette}
 use Rattle.references.specs.References.{xAt, yAt, observedAt, nominalAt, badPositions, wildColours, shortScratch, tooMany}
 
 -- ---- one reference
+
+-- where it stands, and its observed colour
+unfoldable pub seenAt : List Float → ℕ → Seen
+seenAt flat i = record { x = xAt flat i; y = yAt flat i; colour = observedAt flat i }
 
 -- its observed colour, corrected by the model
 unfoldable pub correctedAt : IlluminationModel → List Float → ℕ → Linear

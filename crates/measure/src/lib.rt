@@ -12,7 +12,7 @@ ghost use Prim.Native.Nat.{_+_, _*_, _<_, _≤_};
 ghost use lib.ListN.{length, getD, take, drop};
 ghost use lib.Ieee.{nan};
 ghost use Rattle.sentences.specs.Sentences.{refusal};
-ghost use Rattle.color.specs.Color.{whole};
+ghost use Rattle.color.specs.Color.{whole, linearToLab};
 ghost use Rattle.color.specs.Palette.{paletteLen};
 ghost use Rattle.order.specs.Median.{medianOf};
 ghost use Rattle.order.specs.Deviation.{sigmaOf};
@@ -28,26 +28,24 @@ use stats::Noise;
 
 // ---- one reference
 
-// The observed colour of reference i, corrected by the model.
-fn corrected_at(model: IlluminationModel, flat: &[f32], i: usize) -> Linear
-    requires { ⌜ 8 * i + 8 ≤ length (now flat) ⌝ }
-    ensures { λ r. ⌜ r ≡ spec.correctedAt model (now (flat .entry)) i ⌝ }
-{
-    let m = illum::corrected(
-        model,
-        flat[8 * i],
-        flat[8 * i + 1],
-        references::observed_at(flat, i),
-    );
-    m.colour
+// Where a reference stands, and its observed colour.
+struct Seen {
+    x: f32,
+    y: f32,
+    colour: Linear,
 }
 
-// Its Lab.
-fn corrected_lab(model: IlluminationModel, flat: &[f32], i: usize) -> Lab
+// Reference i as it was observed.
+fn seen_at(flat: &[f32], i: usize) -> Seen
     requires { ⌜ 8 * i + 8 ≤ length (now flat) ⌝ }
-    ensures { λ r. ⌜ r ≡ spec.correctedLab model (now (flat .entry)) i ⌝ }
+    ensures { λ r. ⌜ r ≡ spec.seenAt (now (flat .entry)) i ⌝ }
 {
-    color::linear_to_lab(corrected_at(model, flat, i))
+    let colour = references::observed_at(flat, i);
+    Seen {
+        x: flat[8 * i],
+        y: flat[8 * i + 1],
+        colour,
+    }
 }
 
 // The Lab of the nominal colour of reference i.
@@ -137,19 +135,12 @@ fn mark_for(palette: &[f32], nominal: Lab) -> f32
     mark_of(near, light, colourful(nominal))
 }
 
-// Writes the three numbers of reference i of n.
-fn note_at(
-    model: IlluminationModel,
-    palette: &[f32],
-    flat: &[f32],
-    n: usize,
-    i: usize,
-    s: &mut [f32],
-)
+// Writes the three numbers of reference i of n, whose corrected colour is c.
+fn note_at(palette: &[f32], flat: &[f32], n: usize, i: usize, c: Linear, s: &mut [f32])
     requires { ⌜ (n ≤ 16384) × (i < n) × (8 * n ≤ length (now flat)) × (2 ≤ length (now palette)) × (length (now s) ≡ 4 * n) ⌝ }
-    ensures { λ _. ⌜ now (s .exit) ≡ column.notedAt model (now (palette .entry)) (now (flat .entry)) n i (now (s .entry)) ⌝ }
+    ensures { λ _. ⌜ now (s .exit) ≡ column.noted (linearToLab c) (now (palette .entry)) (now (flat .entry)) n i (now (s .entry)) ⌝ }
 {
-    let corrected = corrected_lab(model, flat, i);
+    let corrected = color::linear_to_lab(c);
     let nominal = nominal_lab(flat, i);
     s[n + i] = corrected.l;
     s[2 * n + i] = corrected.ab_distance(nominal);
@@ -162,7 +153,10 @@ fn note(model: IlluminationModel, palette: &[f32], flat: &[f32], n: usize, s: &m
     ensures { λ _. ⌜ column.Noted model (now (palette .entry)) (now (flat .entry)) n n (now (s .exit)) ⌝ }
 {
     for i in 0..n {
-        note_at(model, palette, flat, n, i, s);
+        let o = seen_at(flat, i);
+        let d = illum::unshade(model, o.x, o.y, o.colour);
+        let m = illum::mix(model, d);
+        note_at(palette, flat, n, i, m.colour, s);
     }
 }
 
@@ -367,21 +361,15 @@ fn wild_numbers(flat: &[f32], n: usize, palette: &[f32], hues: usize) -> bool
     color::palette::wild_palette(palette, hues)
 }
 
-// The corrected colour of reference i is wild.
-fn wild_corrected_at(model: IlluminationModel, flat: &[f32], i: usize) -> bool
-    requires { ⌜ 8 * i + 8 ≤ length (now flat) ⌝ }
-    ensures { λ r. ⌜ r ≡ spec.wildCorrectedAt model (now (flat .entry)) i ⌝ }
-{
-    color::palette::wild_linear(corrected_at(model, flat, i))
-}
-
-// That of one of n references is.
+// The corrected colour of one of n references is wild.
 fn wild_corrected(model: IlluminationModel, flat: &[f32], n: usize) -> bool
     requires { ⌜ 8 * n ≤ length (now flat) ⌝ }
     ensures { λ r. ⌜ r ≡ spec.wildCorrected model (now (flat .entry)) n ⌝ }
 {
     for i in 0..n {
-        if wild_corrected_at(model, flat, i) {
+        let o = seen_at(flat, i);
+        let d = illum::unshade(model, o.x, o.y, o.colour);
+        if illum::wild_mix(model, d) {
             return true;
         }
     }

@@ -1,15 +1,13 @@
 -- `bad_module_colours` meets its contract: what is left from i on says the same. Assumes nothing.
 use mathlib.Core.Path.{_≡_}
-use mathlib.Core.Bool.{Bool}
 use borrow.Author.Needs.{needs}
-use Prim.Native.Nat.{ℕ, _-_}
+use Prim.Native.Nat.{_-_}
 use lib.ListN.{length}
 use Rattle.loops.proofs.Laws.{LeftAny, loops}
-use Rattle.color.specs.declared.Linear.{Linear}
-use Rattle.color.specs.Palette.{wildLinear}
 use Rattle.demod.specs.Score.{moduleColour}
 use Rattle.demod.specs.Call.{wildColourAt, wildColours}
 use Rattle.demod.proofs.Places.{exact-at}
+use Rattle.demod.proofs.Spots.{module-wild}
 use Rattle.demod.proofs.bad_module_colours.Statement.{statement}
 use Rattle.demod.proofs.bad_module_colours.Tie as tie
 
@@ -20,20 +18,17 @@ Inv model xs ys raw i₀ n i =
 abbrev μ : tie.MeasureT-loop
 μ model xs ys raw i₀ n i = n - i
 
-of-colour : (colour : ℕ → Linear) (i : ℕ) (r : Bool) (c : Linear) → r ≡ wildLinear c → c ≡ colour i → r ≡ wildColourAt colour i
-of-colour colour i r c e h = cc
-
-module-colour-requires : tie.Need-module-colour-requires Inv μ
-module-colour-requires c κs = search (exact-at, needs)
+module-spot-requires : tie.Need-module-spot-requires Inv μ
+module-spot-requires c κs = (search needs, search needs, search (exact-at), search (exact-at), search needs)
 
 returns : tie.Need-returns Inv μ
-returns c = search (of-colour, loops, needs)
+returns c = search (module-wild, loops, needs)
 
 loop-again : tie.Need-loop-again Inv μ
-loop-again c = search (of-colour, loops, needs)
+loop-again c = search (module-wild, loops, needs)
 
 pub bad-module-colours-spec : {M : Type 1} → statement M
 bad-module-colours-spec =
     tie.close
-    (tie.spec Inv μ (λ c. search (loops, needs)) module-colour-requires (λ c κs. search needs) returns (λ c. search needs) (λ c. search needs)
-    loop-again (λ c. search (loops, needs)))
+    (tie.spec Inv μ (λ c. search (loops, needs)) module-spot-requires (λ c κs. search needs) (λ c κs. search needs) returns (λ c. search needs)
+    (λ c. search needs) loop-again (λ c. search (loops, needs)))

@@ -7,7 +7,7 @@ use lib.Dec.{T, le→leb}
 use lib.IntN.{pos}
 use lib.Ieee.{binary32, inFloat}
 use Rattle.demod.specs.Score.{cellCentre}
-use Rattle.demod.proofs.Literals.{n2}
+use Rattle.color.proofs.Numbers.{n2}
 use Rattle.demod.proofs.cell_centre.Statement.{statement}
 use Rattle.demod.proofs.cell_centre.Tie as tie
 

@@ -1,7 +1,7 @@
 -- `chroma_score` meets its contract: weighed, and held. Assumes nothing.
 use borrow.Author.Needs.{needs}
 use Rattle.demod.specs.Score.{chromaScore}
-use Rattle.demod.proofs.Literals.{n20}
+use Rattle.color.proofs.Numbers.{n20}
 use Rattle.demod.proofs.chroma_score.Statement.{statement}
 use Rattle.demod.proofs.chroma_score.Tie as tie
 

@@ -15,15 +15,14 @@ use Rattle.demod.specs.Score.{weighed, lumaScore}
 use Rattle.demod.proofs.luma_score.Statement.{statement}
 use Rattle.demod.proofs.luma_score.Tie as tie
 
-module _ (n : ChannelStats) (palette : List Float) (hues : ℕ) (c : Linear) (lab : Lab) (llr : Float) (w : Bool)
-    (el : lab ≡ linearToLab c) (er : llr ≡ lumaLlr n (lab .l)) (ew : w ≡ weighted hues) where
-  with-weight : (weight r : Float) → w ≡ true → weight ≡ reliability n lab palette hues → r ≡ weighed llr weight → r ≡ lumaScore n palette hues c
+module _ (n : ChannelStats) (palette : List Float) (hues : ℕ) (c : Linear) (w : Bool) (ew : w ≡ weighted hues) where
+  with-weight : (lab : Lab) (llr weight r : Float) → w ≡ true → lab ≡ linearToLab c → llr ≡ lumaLlr n (lab .l) → weight ≡ reliability n lab palette hues → r ≡ weighed llr weight → r ≡ lumaScore n palette hues c
   unfolding lumaScore
-  with-weight weight r t e h = rw (← ew, t, ← el, ← er, ← e) h
+  with-weight lab llr weight r t el er e h = rw (← ew, t, ← el, ← er, ← e) h
 
-  plain : w ≡ false → llr ≡ lumaScore n palette hues c
+  plain : (l r : Float) → w ≡ false → l ≡ linearToLab c .l → r ≡ lumaLlr n l → r ≡ lumaScore n palette hues c
   unfolding lumaScore
-  plain t = rw (← ew, t, ← el) er
+  plain l r t el e = rw (← ew, t, ← el) e
 
 returns : tie.Need-returns
 returns c = search (with-weight)
@@ -34,4 +33,5 @@ returns-2 c = search (plain)
 pub luma-score-spec : {M : Type 1} → statement M
 luma-score-spec =
     tie.close
-    (tie.spec (λ c κs. search needs) (λ c κs. search needs) (λ c κs. search needs) (λ c κs. search needs) (λ c κs. search needs) returns returns-2)
+    (tie.spec (λ c κs. search needs) (λ c κs. search needs) (λ c κs. search needs) (λ c κs. search needs) (λ c κs. search needs) returns
+    (λ c κs. search needs) (λ c κs. search needs) returns-2)

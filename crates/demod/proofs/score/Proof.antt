@@ -5,7 +5,7 @@ use mathlib.Core.List.{List}
 use Prim.Native.Nat.{ℕ}
 use lib.Ieee.{Float}
 use Rattle.sentences.specs.Sentences.{refusal}
-use Rattle.modulate.specs.declared.Outcome.the-variants.{Refused, Done}
+use Rattle.answers.specs.declared.Outcome.the-variants.{Refused, Done}
 use Rattle.demod.specs.Score.{Sheet, sheet}
 use Rattle.demod.specs.Call.{Request, sentencesOf, scoredOf, final, writtenModules, writtenChroma}
 use Rattle.demod.proofs.Accepted.{turned-away, taken, accepted}

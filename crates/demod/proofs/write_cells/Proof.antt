@@ -3,10 +3,11 @@ use mathlib.Core.Path.{_≡_}
 use borrow.Author.Needs.{needs}
 use Prim.Native.Nat.{ℕ, _+_, _-_, _*_, _≤_, _<_}
 use lib.ListN.{length}
-use Rattle.loops.proofs.Laws.{Left, loops}
+use Rattle.loops.proofs.Laws.{Left, turn-to, loops}
 use Rattle.limits.specs.Chroma.{symbolBits}
 use Rattle.demod.specs.Score.{cellColour, writeCell, writeCells}
 use Rattle.demod.proofs.Chroma.{entry-of}
+use Rattle.demod.proofs.Spots.{cell-step}
 use Rattle.demod.proofs.write_cells.Statement.{statement}
 use Rattle.demod.proofs.write_cells.Tie as tie
 
@@ -23,10 +24,30 @@ cell-entry : (hues i n cells long lent : ℕ) → i < n → n ≡ cells → long
 cell-entry hues i n cells long lent h e f l = entry-of hues i cells long (rw e at h) (rw f l)
 
 write-cell-requires : tie.Need-write-cell-requires Inv μ
-write-cell-requires c κs = (search needs, search needs, search needs, search needs, search needs, search needs, search (cell-entry))
+write-cell-requires c κs = (search needs, search needs, search needs, search needs, search (cell-entry))
+
+loop-again : tie.Need-loop-again Inv μ
+loop-again c =
+    let step = cell-step _ _ _ _ _ _ _ _ _ _ _ _ _ _ (c .before .before .write-cell .ensures) (c .before .before .before .before .before .before .cell-spot .ensures) (c .before .before .before .before .before .unshade .ensures) (c .before .before .before .before .mix .ensures) in
+    (search needs, search needs, search (turn-to, step, c .before .before .before .before .before .before .before .loop-test .taken, c .before .before .before .before .before .before .before .before .loop .inv))
+
+add-i : tie.Need-add-i Inv μ
+add-i c =
+    search (
+      c .before .before .before .before .before .before .before .loop-test,
+      c .before .before .before .before .before .before .before .before .loop,
+      c .before .before .before .before .before .before .before .before .before .slice-known,
+      c .before .before .before .before .before .before .before .before .before .before .shared-slice-known4,
+      c .before .before .before .before .before .before .before .before .before .before .before .shared-slice-known3,
+      c .before .before .before .before .before .before .before .before .before .before .before .before .shared-slice-known2,
+      c .before .before .before .before .before .before .before .before .before .before .before .before .before .shared-slice-known,
+      c .before .before .before .before .before .before .before .before .before .before .before .before .before .before .good,
+      c .before .before .before .before .before .before .before .before .before .before .before .before .before .before .fits,
+      needs,
+    )
 
 pub write-cells-spec : {M : Type 1} → statement M
 write-cells-spec =
     tie.close
-    (tie.spec Inv μ (λ c. search (loops, needs)) write-cell-requires (λ c. search needs) (λ c. search needs) (λ c. search (loops, needs))
-    (λ c. search needs) (λ c. search (loops, needs)))
+    (tie.spec Inv μ (λ c. search (loops, needs)) (λ c κs. search needs) (λ c κs. search needs) (λ c κs. search needs) write-cell-requires add-i
+    (λ c. search needs) loop-again (λ c. search needs) (λ c. search (loops, needs)))

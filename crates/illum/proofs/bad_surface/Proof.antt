@@ -1,24 +1,33 @@
--- `illum::bad_surface` meets its contract: a surface has 9 coefficients, and 9 terms at most.
+-- `illum::bad_surface` meets its contract, by the test on the terms.
 -- Assumes nothing.
 use mathlib.Core.Path.{_≡_}
-use Prim.Native.Nat.{ℕ, _≤_}
-use native.Mathlib.Omega.{arith}
+use mathlib.Core.Bool.{Bool}
+use mathlib.Core.List.{List}
+use Prim.Native.Nat.{ℕ}
+use lib.Ieee.{Float}
 use borrow.Author.Needs.{needs}
+use borrow.Author.Tests.{ne-eqb}
 use Rattle.illum.specs.Surface.{termsUsed}
-use Rattle.illum.proofs.Terms.{used-most}
+use Rattle.illum.specs.Refusals.{notFiniteUpTo}
 use Rattle.illum.proofs.bad_surface.Statement.{statement}
 use Rattle.illum.proofs.bad_surface.Tie as tie
 
-within : (r terms l : ℕ) → r ≡ termsUsed terms → l ≡ 9 → r ≤ l
-within r terms l e h = omega (arith, used-most terms)
+module _ (terms : ℕ) (c : List Float) (r : Bool) where
+  four : r ≡ notFiniteUpTo 4 c → terms ≡ 4 → r ≡ notFiniteUpTo (termsUsed terms) c
+  unfolding termsUsed
+  four e h = rw h e
 
-not-finite-up-to-requires : tie.Need-not-finite-up-to-requires
-not-finite-up-to-requires c κs = search (within, needs)
+  nine : r ≡ notFiniteUpTo 9 c → (terms ≡ 4 → ⊥) → r ≡ notFiniteUpTo (termsUsed terms) c
+  unfolding termsUsed
+  nine e h = rw (ne-eqb terms 4 h) e
 
 returns : tie.Need-returns
-returns c = cc
+returns c = search (four)
+
+returns-2 : tie.Need-returns-2
+returns-2 c = search (nine)
 
 pub bad-surface-spec : {M : Type 1} → statement M
 bad-surface-spec =
     tie.close
-    (tie.spec (λ c. search needs) (λ c κs. search needs) not-finite-up-to-requires returns)
+    (tie.spec (λ c κs. search needs) returns (λ c κs. search needs) returns-2)

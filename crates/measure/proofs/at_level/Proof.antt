@@ -1,6 +1,6 @@
 -- `measure::at_level` meets its contract: the test. Assumes nothing.
 use Rattle.measure.specs.Measure.{atLevel}
-use Rattle.measure.proofs.Literals.{n12}
+use Rattle.color.proofs.Numbers.{n12}
 use borrow.Author.Needs.{needs}
 use Rattle.measure.proofs.at_level.Statement.{statement}
 use Rattle.measure.proofs.at_level.Tie as tie

@@ -1,6 +1,6 @@
 -- `measure::colourful` meets its contract: chroma above 20. Assumes nothing.
 use Rattle.measure.specs.Measure.{colourful}
-use Rattle.measure.proofs.Literals.{n20}
+use Rattle.color.proofs.Numbers.{n20}
 use borrow.Author.Needs.{needs}
 use Rattle.measure.proofs.colourful.Statement.{statement}
 use Rattle.measure.proofs.colourful.Tie as tie

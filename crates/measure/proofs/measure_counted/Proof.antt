@@ -66,8 +66,10 @@ clear-requires : tie.Need-clear-requires
 clear-requires c κs =
     let a = c .before .before .before .before .before .before .before .before .before .before .args in
     let l = c .before .before .before .measured in
+    let w =
     long (a .flat .now) (a .palette .now) (a .scratch .now) (l .last .1 .1 .1 .1 .0) (a .scratch .now) (a .n) (a .side) (a .hues) _ (a .model) (l .result) (c .before .before .before .before .before .before .refused .ensures)
-    (c .before .before .before .before .before .if1 .left) (l .kept .1 .1 .1 .1 .0)
+    (c .before .before .before .before .before .if1 .left) (l .kept .1 .1 .1 .1 .0) in
+    omega (arith, w)
 
 returns-2 : tie.Need-returns-2
 returns-2 c =

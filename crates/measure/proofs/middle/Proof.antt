@@ -1,6 +1,6 @@
 -- `measure::middle` meets its contract: half the sum. Assumes nothing.
 use Rattle.measure.specs.Measure.{middle}
-use Rattle.measure.proofs.Literals.{n2}
+use Rattle.color.proofs.Numbers.{n2}
 use borrow.Author.Needs.{needs}
 use Rattle.measure.proofs.middle.Statement.{statement}
 use Rattle.measure.proofs.middle.Tie as tie

@@ -1,8 +1,7 @@
 -- `measure::note_at` meets its contract: three writes. Assumes nothing.
 use native.Mathlib.Omega.{arith}
 use lib.ListN.{length-set}
-use Rattle.measure.specs.Measure.{lightnessAt, errorAt}
-use Rattle.measure.specs.Columns.{notedAt}
+use Rattle.measure.specs.Columns.{noted}
 use borrow.Author.Needs.{needs}
 use Rattle.measure.proofs.note_at.Statement.{statement}
 use Rattle.measure.proofs.note_at.Tie as tie
@@ -14,7 +13,7 @@ slice-write-s-3 : tie.Need-slice-write-s-3
 slice-write-s-3 c = simp length-set (omega arith)
 
 returns : tie.Need-returns
-unfolding notedAt lightnessAt errorAt
+unfolding noted
 returns c = cc
 
 pub note-at-spec : {M : Type 1} → statement M

@@ -5,18 +5,15 @@ use Prim.Native.Nat.{ℕ, _≤_}
 use Rattle.sentences.proofs.Laws.{sentences}
 use Rattle.limits.specs.Limits.{badSide}
 use Rattle.limits.proofs.Laws.{side-in}
-use Rattle.references.specs.References.{tooMany}
+use Rattle.references.proofs.Laws.{few-tested}
 use Rattle.measure.specs.Measure.{sentencesFor}
-use Rattle.measure.proofs.Accepted.{few-in, palette-in}
+use Rattle.measure.proofs.Accepted.{palette-in}
 use borrow.Author.Needs.{needs}
 use Rattle.measure.proofs.refused.Statement.{statement}
 use Rattle.measure.proofs.refused.Tie as tie
 
 most : (side : ℕ) (r : Bool) → r ≡ badSide side → r ≡ false → side ≤ 1024
 most side r e f = side-in side (sym e ∙ f) .1
-
-few : (n : ℕ) (r : Bool) → r ≡ tooMany n → r ≡ false → n ≤ 16384
-few n r e f = few-in n (sym e ∙ f)
 
 returns : tie.Need-returns
 unfolding sentencesFor
@@ -35,14 +32,14 @@ unfolding sentencesFor
 returns-4 c = search (sentences) depth 15 fits 50000
 
 bad-positions-requires : tie.Need-bad-positions-requires
-bad-positions-requires c κs = (search (most), c .before .before .before .before .before .before .before .before .before .before .pre (search (few)))
+bad-positions-requires c κs = (search (most), c .before .before .before .before .before .before .before .before .before .before .pre (search (few-tested)))
 
 returns-5 : tie.Need-returns-5
 unfolding sentencesFor
 returns-5 c = search (sentences) depth 15 fits 50000
 
 wild-numbers-requires : tie.Need-wild-numbers-requires
-wild-numbers-requires c κs = (c .before .before .before .before .before .before .before .before .before .before .before .before .pre (search (few)), search (palette-in))
+wild-numbers-requires c κs = (c .before .before .before .before .before .before .before .before .before .before .before .before .pre (search (few-tested)), search (palette-in))
 
 returns-6 : tie.Need-returns-6
 unfolding sentencesFor
@@ -53,7 +50,7 @@ unfolding sentencesFor
 returns-7 c = search (sentences) depth 15 fits 50000
 
 bad-corrected-requires : tie.Need-bad-corrected-requires
-bad-corrected-requires c κs = c .before .before .before .before .before .before .before .before .before .before .before .before .before .before .before .before .pre (search (few))
+bad-corrected-requires c κs = c .before .before .before .before .before .before .before .before .before .before .before .before .before .before .before .before .pre (search (few-tested))
 
 returns-8 : tie.Need-returns-8
 unfolding sentencesFor

@@ -1,0 +1,44 @@
+-- The corrected colour of a module or a cell is its spot's, unshaded and then mixed; so a step that is handed this colour is the step of the definition. Assumes nothing.
+use mathlib.Core.Path.{_≡_, refl}
+use mathlib.Core.Bool.{Bool}
+use mathlib.Core.List.{List}
+use Prim.Native.Nat.{ℕ}
+use lib.IntN.{ℤ}
+use lib.Ieee.{Float}
+use Rattle.color.specs.declared.Linear.{Linear}
+use Rattle.color.specs.Palette.{wildLinear}
+use Rattle.illum.specs.declared.IlluminationModel.{IlluminationModel}
+use Rattle.illum.specs.declared.Unshaded.{Unshaded}
+use Rattle.illum.specs.declared.Marked.{Marked}
+use Rattle.illum.specs.Correct.{unshaded, mixed}
+use Rattle.stats.specs.declared.ChannelStats.{ChannelStats}
+use Rattle.demod.specs.declared.Spot.{Spot}
+use Rattle.demod.specs.Score.{moduleSpot, cellSpot, moduleColour, cellColour, only, Sheet, writeModule, writeCell}
+use Rattle.demod.specs.Call.{wildColourAt}
+
+module _ (model : IlluminationModel) (s : Spot) (d : Unshaded) (m : Marked) (i : ℕ) where
+  module-colour : (xs ys : List ℤ) (raw : List Float) → s ≡ moduleSpot xs ys raw i → d ≡ unshaded model (s .x) (s .y) (s .colour) → m ≡ mixed model d → m .colour ≡ moduleColour model xs ys raw i
+  unfolding moduleColour moduleSpot
+  module-colour xs ys raw es ed em = rw (em, ed, es)
+
+  cell-colour : (size : ℕ) (cxs cys : List ℕ) (raw : List Float) → s ≡ cellSpot size cxs cys raw i → d ≡ unshaded model (s .x) (s .y) (s .colour) → m ≡ mixed model d → m .colour ≡ cellColour model size cxs cys raw i
+  unfolding cellColour cellSpot
+  cell-colour size cxs cys raw es ed em = rw (em, ed, es)
+
+  module _ (n : ChannelStats) (palette : List Float) (hues : ℕ) where
+    pub module-step : (xs ys : List ℤ) (raw : List Float) (before after : Sheet) → after ≡ writeModule n palette hues (only (m .colour)) i before → s ≡ moduleSpot xs ys raw i
+        → d ≡ unshaded model (s .x) (s .y) (s .colour) → m ≡ mixed model d → after ≡ writeModule n palette hues (moduleColour model xs ys raw) i before
+    unfolding writeModule
+    module-step xs ys raw before after e es ed em = rw (← module-colour xs ys raw es ed em) e
+
+    pub cell-step : (size : ℕ) (cxs cys : List ℕ) (raw before after : List Float) → after ≡ writeCell n palette hues cxs cys (only (m .colour)) i before → s ≡ cellSpot size cxs cys raw i
+        → d ≡ unshaded model (s .x) (s .y) (s .colour) → m ≡ mixed model d → after ≡ writeCell n palette hues cxs cys (cellColour model size cxs cys raw) i before
+    unfolding writeCell
+    cell-step size cxs cys raw before after e es ed em = rw (← cell-colour size cxs cys raw es ed em) e
+
+module _ (model : IlluminationModel) (s : Spot) (d : Unshaded) (i : ℕ) (r : Bool) (e : r ≡ wildLinear (mixed model d .colour)) where
+  pub module-wild : (xs ys : List ℤ) (raw : List Float) → s ≡ moduleSpot xs ys raw i → d ≡ unshaded model (s .x) (s .y) (s .colour) → r ≡ wildColourAt (moduleColour model xs ys raw) i
+  module-wild xs ys raw es ed = rw (← module-colour model s d (mixed model d) i xs ys raw es ed refl) e
+
+  pub cell-wild : (size : ℕ) (cxs cys : List ℕ) (raw : List Float) → s ≡ cellSpot size cxs cys raw i → d ≡ unshaded model (s .x) (s .y) (s .colour) → r ≡ wildColourAt (cellColour model size cxs cys raw) i
+  cell-wild size cxs cys raw es ed = rw (← cell-colour model s d (mixed model d) i size cxs cys raw es ed refl) e
