@@ -3,16 +3,16 @@ use mathlib.Core.Path.{_≡_, refl, sym, ap, _∙_}
 use mathlib.Core.Bool.{Bool, true, false}
 use mathlib.Core.List.{List}
 use Prim.Native.Nat.{ℕ, _*_, _≤_}
-use borrow.Author.Tests.{ltb-false}
 use lib.Ieee.{Float}
 use Rattle.sentences.specs.Sentences.{refusal, at, fresh, sound}
 use Rattle.sentences.proofs.Laws.{none-holds, neither, refuses, accepts}
 use Rattle.limits.proofs.Laws.{side-in}
-use Rattle.fit.specs.References.{badPositions, badColours}
+use Rattle.references.specs.References.{badPositions, badColours, shortScratch}
+use Rattle.references.proofs.Laws.{room-in, few-in}
 use Rattle.illum.specs.declared.IlluminationModel.{IlluminationModel}
 use Rattle.illum.specs.Correct.{noModel}
 use Rattle.illum.specs.Refusals.{modelled}
-use Rattle.fit.specs.Fit.{shortScratch, tooMany, fitSentences, Request, sentencesOf, final, turnedAway, done, fitOf}
+use Rattle.fit.specs.Fit.{fitSentences, Request, sentencesOf, final, turnedAway, done, fitOf}
 
 pub record Accepted (flat : List Float) (n side lent : ℕ) : Type 0 where
   pub side-least : 1 ≤ side
@@ -21,14 +21,6 @@ pub record Accepted (flat : List Float) (n side lent : ℕ) : Type 0 where
   pub few : n ≤ 16384
   pub placed : badPositions side flat n ≡ false
   pub finite : badColours flat n ≡ false
-
-room-in : (lent n : ℕ) → shortScratch lent n ≡ false → 4 * n ≤ lent
-unfolding shortScratch
-room-in lent n h = ltb-false lent (4 * n) h
-
-few-in : (n : ℕ) → tooMany n ≡ false → n ≤ 16384
-unfolding tooMany
-few-in n h = ltb-false 16384 n h
 
 module _ (flat : List Float) (cut : Bool) (n side lent : ℕ) where
   numbered : sound (fitSentences flat cut n side lent) ≡ true

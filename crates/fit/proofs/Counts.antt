@@ -10,7 +10,7 @@ use lib.Seq.{getD-set-same, getD-set-other}
 use lib.Ieee.{Float, nan, eq, lt}
 use Rattle.loops.specs.Loops.{turns, forUp}
 use Rattle.loops.proofs.Laws.{forUp-same, forUp-to, forUp-done}
-use Rattle.fit.specs.References.{liveMark, droppedMark, allLive, isLive, countAt, liveCount}
+use Rattle.equations.specs.Live.{liveMark, droppedMark, allLive, isLive, countAt, liveCount}
 use Rattle.fit.specs.Residual.{Rejection, rejection, rejectAt, rejectAbove}
 
 -- ---- the last turn of a loop

@@ -5,4 +5,3 @@ pub mod Law
 pub mod Listed
 pub mod Parts
 pub mod Shape
-pub mod Widths

@@ -4,47 +4,15 @@ use mathlib.Core.Bool.{Bool, true, false, cond, _||_}
 use mathlib.Core.List.{List}
 use Prim.Native.Nat.{ℕ}
 use native.Mathlib.Omega.{arith}
-use lib.Dec.{ltb}
 use lib.Ieee.{Float}
 use Rattle.sentences.proofs.Laws.{neither}
 use Rattle.illum.specs.declared.IlluminationModel.{IlluminationModel}
 use Rattle.illum.specs.Refusals.{badTerms, badModelSide, notFiniteAffine, notFiniteGains, notFiniteFlares, notFiniteModel, badModel}
-use Rattle.fit.specs.declared.once.Once.{Once}
-use Rattle.fit.specs.declared.once.Affine.{Affine}
 use Rattle.fit.specs.declared.Pass.{Pass}
-use Rattle.fit.specs.References.{liveCount}
-use Rattle.fit.specs.Once.{surfacesOf, affineOf, once, orStays, solvedOnce, fitOnce}
+use Rattle.equations.specs.Once.{fitOnce}
+use Rattle.equations.proofs.Alike.{Alike, itself, fit-once-alike}
 use Rattle.fit.specs.Residual.{residualsOf}
 use Rattle.fit.specs.Fit.{withCounts, badPass, pass, measured, passOf}
-
--- the same terms, side and counts
-pub record Alike (m k : IlluminationModel) : Type 0 where
-  pub terms : k .terms ≡ m .terms
-  pub side : k .side ≡ m .side
-  pub rejected : k .rejected ≡ m .rejected
-  pub kept : k .kept ≡ m .kept
-
-itself : (m : IlluminationModel) → Alike m m
-itself m = record { terms = refl; side = refl; rejected = refl; kept = refl }
-
-surfaces-alike : (m : IlluminationModel) (flat live : List Float) (n count : ℕ) → Alike m (surfacesOf m flat live n count)
-unfolding surfacesOf
-surfaces-alike m flat live n count = record { terms = refl; side = refl; rejected = refl; kept = refl }
-
-affine-alike : (m s : IlluminationModel) (a : Affine) (b : Bool) → Alike m s → a .solved ≡ b → Alike m (orStays m s a .model)
-affine-alike m s a true h e = rw e (record { terms = h .terms; side = h .side; rejected = h .rejected; kept = h .kept })
-affine-alike m s a false h e = rw e (itself m)
-
-once-alike : (m : IlluminationModel) (o : Once) (b : Bool) → Alike m (o .model) → Alike m (cond b (once false m) o .model)
-once-alike m o true h = itself m
-once-alike m o false h = h
-
-fit-once-alike : (m : IlluminationModel) (flat live : List Float) (n : ℕ) → Alike m (fitOnce m flat live n .model)
-unfolding fitOnce
-fit-once-alike m flat live n =
-    let count = liveCount live n in
-    let s = surfacesOf m flat live n count in
-    once-alike m (solvedOnce m flat live n count) (ltb count 8) (affine-alike m s (affineOf s flat live n) (affineOf s flat live n .solved) (surfaces-alike m flat live n count) refl)
 
 measured-alike : (m k : IlluminationModel) (residuals live : List Float) (n : ℕ) → Alike m k → Alike m (measured k residuals live n .model)
 unfolding measured

@@ -14,8 +14,9 @@ use Rattle.illum.specs.declared.Modelled.{Modelled}
 use Rattle.illum.specs.Correct.{unitModel}
 use Rattle.illum.specs.Refusals.{notFiniteAt, notFiniteModel, modelled, refusedModel}
 use Rattle.fit.specs.declared.Pass.{Pass}
-use Rattle.fit.specs.References.{allLive, liveCount, badPositions, badColours}
-use Rattle.fit.specs.Once.{fitOnce}
+use Rattle.references.specs.References.{badPositions, badColours, shortScratch, tooMany}
+use Rattle.equations.specs.Live.{allLive, liveCount}
+use Rattle.equations.specs.Once.{fitOnce}
 use Rattle.fit.specs.Residual.{residualsOf, rmsOf, limitOf, Rejection, rejectAbove}
 
 -- ---- the model's counts and its residual
@@ -148,14 +149,6 @@ request flat cut n side version scratch = record { flat = flat; cut = cut; n = n
 -- "eight a reference"
 abbrev pub flatRequest : List Float → ℕ → ℕ → List Float → Request
 flatRequest flat side version scratch = request flat (not (eqb (length flat % 8) 0)) (length flat / 8) side version scratch
-
--- 5: scratch of `lent` floats is shorter than 4 × n
-unfoldable pub shortScratch : ℕ → ℕ → Bool
-shortScratch lent n = ltb lent (4 * n)
-
--- 6: "There are more than 16,384 references"
-unfoldable pub tooMany : ℕ → Bool
-tooMany n = ltb 16384 n
 
 -- in checking order
 unfoldable pub fitSentences : List Float → Bool → ℕ → ℕ → ℕ → List Sentence

@@ -1,5 +1,3 @@
--- What the contracts of `fit` cite: the references, one pass's equations, residuals and rejection, and the two passes with their refusals.
-pub mod References
-pub mod Once
+-- What the contracts of `fit` cite: residuals and rejection, and the two passes with their refusals.
 pub mod Residual
 pub mod Fit

@@ -13,7 +13,8 @@ use Rattle.order.specs.Deviation.{sigmaOf}
 use Rattle.color.specs.declared.Linear.{Linear}
 use Rattle.illum.specs.declared.IlluminationModel.{IlluminationModel}
 use Rattle.illum.specs.Correct.{corrected}
-use Rattle.fit.specs.References.{xAt, yAt, observedAt, nominalAt, droppedMark, isLive, liveCount}
+use Rattle.references.specs.References.{xAt, yAt, observedAt, nominalAt}
+use Rattle.equations.specs.Live.{droppedMark, isLive, liveCount}
 
 -- ---- residuals
 

@@ -12,15 +12,13 @@ ghost use mathlib.Core.Bool.{true, false};
 ghost use Prim.Native.Nat.{_+_, _*_, _/_, _<_, _≤_};
 ghost use lib.ListN.{length, take, drop};
 ghost use Rattle.sentences.specs.Sentences.{refusal};
-ghost use Rattle.order.specs.Deviation.{cleared};
 ghost use Rattle.fit.specs.Residual.{residualsOf};
 ghost use Rattle.fit.specs.Fit as spec;
 ghost use Rattle.fit.specs.Fit.{final, request, flatRequest, ran, dropped};
 
-mod once;
-mod refs;
 mod residual;
 
+use equations::live;
 use illum::IlluminationModel;
 use illum::Modelled;
 
@@ -82,7 +80,7 @@ fn run_pass(m: IlluminationModel, flat: &[f32], n: usize, s: &mut [f32]) -> Pass
     requires { ⌜ (n ≤ 16384) × (8 * n ≤ length (now flat)) × (length (now s) ≡ 4 * n) ⌝ }
     ensures { λ r. ⌜ (r ≡ spec.passOf m (now (flat .entry)) (take n (now (s .entry))) n) × (take n (now (s .exit)) ≡ take n (now (s .entry))) × (r .solved ≡ true → take n (drop n (now (s .exit))) ≡ residualsOf (r .model) (now (flat .entry)) n) ⌝ }
 {
-    let o = once::fit_once(m, flat, &s[..n], n);
+    let o = equations::fit_once(m, flat, &s[..n], n);
     if !o.solved {
         return Pass {
             solved: false,
@@ -126,7 +124,7 @@ fn refit(m: IlluminationModel, flat: &[f32], n: usize, s: &mut [f32]) -> Modelle
         };
     }
     let model = two.model;
-    let kept = refs::live_count(&s[..n], n) as u32;
+    let kept = live::live_count(&s[..n], n) as u32;
     Modelled {
         number: 0,
         model: with_counts(model, model.rejected, kept),
@@ -176,20 +174,6 @@ fn terms_for(version: u8) -> usize
     9
 }
 
-// Sentence 5: scratch is shorter than 4 × n.
-fn short_scratch(len: usize, n: usize) -> bool
-    ensures { λ r. ⌜ r ≡ spec.shortScratch len n ⌝ }
-{
-    len / 4 < n
-}
-
-// Sentence 6: there are more than 16,384 references.
-fn too_many(n: usize) -> bool
-    ensures { λ r. ⌜ r ≡ spec.tooMany n ⌝ }
-{
-    16384 < n
-}
-
 // The number of the first sentence that holds, or 0.
 fn refused(flat: &[f32], n: usize, side: usize, scratch: &[f32]) -> u32
     requires { ⌜ (n ≤ 16384 → 8 * n ≤ length (now flat)) ⌝ }
@@ -198,29 +182,19 @@ fn refused(flat: &[f32], n: usize, side: usize, scratch: &[f32]) -> u32
     if limits::bad_side(side) {
         return 2;
     }
-    if short_scratch(scratch.len(), n) {
+    if references::short_scratch(scratch.len(), n) {
         return 5;
     }
-    if too_many(n) {
+    if references::too_many(n) {
         return 6;
     }
-    if refs::bad_positions(side, flat, n) {
+    if references::bad_positions(side, flat, n) {
         return 7;
     }
-    if refs::bad_colours(flat, n) {
+    if references::bad_colours(flat, n) {
         return 8;
     }
     0
-}
-
-// Zeros in the first n places.
-fn clear(scratch: &mut [f32], n: usize)
-    requires { ⌜ n ≤ length (now scratch) ⌝ }
-    ensures { λ _. ⌜ now (scratch .exit) ≡ cleared n (now (scratch .entry)) ⌝ }
-{
-    for i in 0..n {
-        scratch[i] = 0.0;
-    }
 }
 
 // Core: fits n references, which stand in flat where there are no more than 16,384 of them. Refused by 2, 5 (scratch shorter
@@ -243,7 +217,7 @@ pub fn fit_counted(
         };
     }
     let r = fit_live(flat, n, side, terms_for(version), &mut scratch[..4 * n]);
-    clear(scratch, 4 * n);
+    references::clear(scratch, 4 * n);
     r
 }
 

@@ -5,11 +5,11 @@ ghost use Prim.Native.Nat.{_+_, _*_, _/_, _<_, _≤_};
 ghost use lib.ListN.{length, take, drop};
 ghost use Rattle.order.specs.Deviation.{deviation, sigmaOf};
 ghost use Rattle.illum.specs.Refusals.{notFiniteUpTo};
-ghost use Rattle.fit.specs.References.{allLive};
+ghost use Rattle.equations.specs.Live.{allLive};
 ghost use Rattle.fit.specs.Residual as spec;
 ghost use Rattle.fit.specs.Residual.{rejection};
-use super::refs;
 use color::Linear;
+use equations::live;
 use illum::IlluminationModel;
 
 fn squared(v: f32) -> f32
@@ -30,9 +30,14 @@ fn residual(m: IlluminationModel, flat: &[f32], i: usize) -> f32
     requires { ⌜ 8 * i + 8 ≤ length (now flat) ⌝ }
     ensures { λ r. ⌜ r ≡ spec.residual m (now (flat .entry)) i ⌝ }
 {
-    let k = illum::corrected(m, flat[8 * i], flat[8 * i + 1], refs::observed_at(flat, i));
+    let k = illum::corrected(
+        m,
+        flat[8 * i],
+        flat[8 * i + 1],
+        references::observed_at(flat, i),
+    );
     let c = k.colour;
-    distance(c, refs::nominal_at(flat, i))
+    distance(c, references::nominal_at(flat, i))
 }
 
 // Writes the residuals of n references, rejected ones too.
@@ -64,7 +69,7 @@ fn add_square(residuals: &[f32], live: &[f32], i: usize, s: f32) -> f32
     requires { ⌜ (i < length (now residuals)) × (i < length (now live)) ⌝ }
     ensures { λ r. ⌜ r ≡ spec.addSquare (now (residuals .entry)) (now (live .entry)) i s ⌝ }
 {
-    if refs::is_live(live, i) {
+    if live::is_live(live, i) {
         return s + squared(residuals[i]);
     }
     s
@@ -97,7 +102,7 @@ pub fn residual_rms(residuals: &[f32], live: &[f32], n: usize) -> f32
     requires { ⌜ (n ≤ 16384) × (n ≤ length (now residuals)) × (n ≤ length (now live)) ⌝ }
     ensures { λ r. ⌜ r ≡ spec.rmsOf (now (residuals .entry)) (now (live .entry)) n ⌝ }
 {
-    let k = at_least_one(refs::live_count(live, n));
+    let k = at_least_one(live::live_count(live, n));
     float::sqrt(squares(residuals, live, n) / (k as f32))
 }
 

@@ -5,7 +5,6 @@ use mathlib.Core.Bool.{true, false}
 use mathlib.Core.List.{List}
 use Prim.Native.Nat.{ℕ}
 use native.Mathlib.Omega.{arith}
-use native.Mathlib.Nat.{le-of-eq}
 use borrow.Author.Tests.{not-true, not-false}
 use lib.Seq.{length-take-le}
 use lib.Ieee.{Float}
@@ -13,7 +12,7 @@ use Rattle.illum.specs.declared.IlluminationModel.{IlluminationModel}
 use Rattle.illum.specs.Correct.{noModel}
 use Rattle.illum.specs.Refusals.{modelled}
 use Rattle.fit.specs.declared.Pass.{Pass}
-use Rattle.fit.specs.References.{liveCount}
+use Rattle.equations.specs.Live.{liveCount}
 use Rattle.fit.specs.Fit.{withCounts, passOf, ran, concluded, dropped, droppedOf, secondPass, refitted}
 use borrow.Author.Needs.{needs}
 use Rattle.fit.proofs.refit.Statement.{statement}
@@ -60,7 +59,7 @@ live-count-requires c κs =
     let start = c .before .before .before .before .before .before .before .before .before .before .before .before .before .before .before in
     let p = c .before .before .before .before .before .before .before .run-pass in
     let d = c .before .before .before .before .before .before .before .before .before .before .before .drop-outliers in
-    le-of-eq (sym (length-take-le (start .args .n) (p .last .1 .1 .1 .0) (omega (arith, p .kept .1 .1 .1 .0, d .kept .1 .1 .0))))
+    omega (arith, length-take-le (start .args .n) (p .last .1 .1 .1 .0) (omega (arith, p .kept .1 .1 .1 .0, d .kept .1 .1 .0)))
 
 returns-3 : tie.Need-returns-3
 returns-3 c =

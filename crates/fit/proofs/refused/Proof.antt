@@ -3,11 +3,11 @@
 use mathlib.Core.Path.{_≡_, sym, _∙_}
 use mathlib.Core.Bool.{Bool, false}
 use Prim.Native.Nat.{ℕ, _≤_}
-use borrow.Author.Tests.{ltb-false}
 use Rattle.sentences.proofs.Laws.{sentences}
 use Rattle.limits.specs.Limits.{badSide}
 use Rattle.limits.proofs.Laws.{side-in}
-use Rattle.fit.specs.Fit.{tooMany, fitSentences}
+use Rattle.references.proofs.Laws.{few-tested}
+use Rattle.fit.specs.Fit.{fitSentences}
 use borrow.Author.Needs.{needs}
 use Rattle.fit.proofs.refused.Statement.{statement}
 use Rattle.fit.proofs.refused.Tie as tie
@@ -15,17 +15,13 @@ use Rattle.fit.proofs.refused.Tie as tie
 most : (side : ℕ) (r : Bool) → r ≡ badSide side → r ≡ false → side ≤ 1024
 most side r e f = side-in side (sym e ∙ f) .1
 
-few : (n : ℕ) (r : Bool) → r ≡ tooMany n → r ≡ false → n ≤ 16384
-unfolding tooMany
-few n r e f = ltb-false 16384 n (sym e ∙ f)
-
 bad-positions-requires : tie.Need-bad-positions-requires
 bad-positions-requires c κs =
-    (search (most), c .before .before .before .before .before .before .before .before .pre (search (few)))
+    (search (most), c .before .before .before .before .before .before .before .before .pre (search (few-tested)))
 
 bad-colours-requires : tie.Need-bad-colours-requires
 bad-colours-requires c κs =
-    c .before .before .before .before .before .before .before .before .before .before .pre (search (few))
+    c .before .before .before .before .before .before .before .before .before .before .pre (search (few-tested))
 
 pub refused-spec : {M : Type 1} → statement M
 unfolding fitSentences

@@ -13,8 +13,8 @@ use lib.Seq.{length-take-le, take-all}
 use lib.Ieee.{Float}
 use Rattle.illum.specs.declared.IlluminationModel.{IlluminationModel}
 use Rattle.fit.specs.declared.Pass.{Pass}
-use Rattle.fit.specs.declared.once.Once.{Once}
-use Rattle.fit.specs.Once.{fitOnce}
+use Rattle.equations.specs.declared.Once.{Once}
+use Rattle.equations.specs.Once.{fitOnce}
 use Rattle.fit.specs.Residual.{residualsOf, rmsOf}
 use Rattle.fit.specs.Fit.{pass, measured, passOf}
 use Rattle.fit.proofs.Listed.{residuals-length, rms-apart}

@@ -6,7 +6,7 @@ use mathlib.Core.List.{List}
 use Prim.Native.Nat.{ℕ}
 use lib.ListN.{getD}
 use lib.Ieee.{Float, nan, binary32, add}
-use Rattle.fit.specs.References.{isLive}
+use Rattle.equations.specs.Live.{isLive}
 use Rattle.fit.specs.Residual.{squared, addSquare}
 use borrow.Author.Needs.{needs}
 use Rattle.fit.proofs.residual.add_square.Statement.{statement}

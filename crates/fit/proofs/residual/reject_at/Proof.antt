@@ -8,7 +8,7 @@ use lib.ListN.{getD, set, take, drop}
 use lib.Seq.{take-set-lt, drop-set-lt, getD-drop}
 use lib.Ieee.{Float, nan, lt, ofBits}
 use borrow.Author.Tests.{lt-ltb, le-ltb}
-use Rattle.fit.specs.References.{droppedMark}
+use Rattle.equations.specs.Live.{droppedMark}
 use Rattle.fit.specs.Residual.{rejection, rejectAt}
 use borrow.Author.Needs.{needs}
 use Rattle.fit.proofs.residual.reject_at.Statement.{statement}

@@ -8,7 +8,7 @@ use Rattle.color.specs.declared.Linear.{Linear}
 use Rattle.illum.specs.declared.IlluminationModel.{IlluminationModel}
 use Rattle.illum.specs.declared.Marked.{Marked}
 use Rattle.illum.specs.Correct.{corrected}
-use Rattle.fit.specs.References.{xAt, yAt, observedAt, nominalAt}
+use Rattle.references.specs.References.{xAt, yAt, observedAt, nominalAt}
 use Rattle.fit.specs.Residual.{distance, residual}
 use borrow.Author.Needs.{needs}
 use Rattle.fit.proofs.residual.residual.Statement.{statement}

@@ -8,7 +8,7 @@ use lib.Dec.{le→leb}
 use lib.IntN.{pos}
 use lib.Ieee.{Float, binary32, div, ofInt, inFloat}
 use Rattle.float.specs.Root.{sqrtOf}
-use Rattle.fit.specs.References.{liveCount}
+use Rattle.equations.specs.Live.{liveCount}
 use Rattle.fit.specs.Residual.{squares, atLeastOne, rmsOf}
 use borrow.Author.Needs.{needs}
 use Rattle.fit.proofs.residual.residual_rms.Statement.{statement}

@@ -7,7 +7,7 @@ use native.Mathlib.Omega.{arith}
 use lib.ListN.{length, getD, drop, length-replicate, getD-replicate, drop-of-length-le}
 use lib.Ieee.{Float, nan, ofBits}
 use Rattle.order.proofs.Fill.{Filling, fill-done, fills}
-use Rattle.fit.specs.References.{liveMark, allLive}
+use Rattle.equations.specs.Live.{liveMark, allLive}
 use borrow.Author.Needs.{needs}
 use Rattle.fit.proofs.residual.revive.Statement.{statement}
 use Rattle.fit.proofs.residual.revive.Tie as tie
