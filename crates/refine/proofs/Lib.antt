@@ -6,4 +6,3 @@ pub mod Grid
 pub mod Within
 pub mod Each
 mod Literals
-mod Whole

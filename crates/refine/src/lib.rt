@@ -13,6 +13,7 @@ ghost use Rattle.color.specs.Palette.{paletteLen};
 ghost use Rattle.refine.specs.Window as near;
 ghost use Rattle.refine.specs.Refine as spec;
 ghost use Rattle.refine.specs.Calls as call;
+use answers::Outcome;
 use color::Lab;
 use color::Linear;
 use color::palette::level_l;
@@ -20,14 +21,6 @@ use color::palette::linear_at;
 use local::LocalFit;
 use local::Window;
 use stats::ChannelStats;
-
-mod local; // local.rt: the local fit of a window
-
-// What the call answers: the number of the sentence that refuses it, or that the scores are refined.
-pub enum Outcome {
-    Refused(u32),
-    Done,
-}
 
 // The luminance of the palette's dark level, and how far the light level lies above it.
 pub struct Levels {
@@ -89,36 +82,36 @@ fn luminance_near(grid: &[f32], side: usize, home: usize, k: usize) -> f32
     square(grid, side, u, v)
 }
 
-// One more sample, of the luminance y at place k.
-fn push(w: Window, k: usize, y: f32) -> Window
-    requires { ⌜ (k < 49) × (w .count < 49) ⌝ }
-    ensures { λ r. ⌜ r ≡ near.pushed k y w ⌝ }
+// One more sample after n of them, of the luminance y at place k.
+fn push(dx: &mut [f32; 49], dy: &mut [f32; 49], ys: &mut [f32; 49], n: usize, k: usize, y: f32)
+    requires { ⌜ (k < 49) × (n < 49) ⌝ }
+    ensures { λ _. ⌜ near.window (now (dx .exit)) (now (dy .exit)) (now (ys .exit)) (n + 1) ≡ near.pushed k y (near.window (now (dx .entry)) (now (dy .entry)) (now (ys .entry)) n) ⌝ }
 {
-    let n = w.count;
-    let mut dx = w.dx;
-    let mut dy = w.dy;
-    let mut ys = w.y;
     dx[n] = (k % 7) as f32 - 3.0;
     dy[n] = (k / 7) as f32 - 3.0;
     ys[n] = y;
-    Window {
-        dx: dx,
-        dy: dy,
-        y: ys,
-        count: n + 1,
-    }
 }
 
-// Place k of the window: a sample where its luminance is known.
-fn sample_at(grid: &[f32], side: usize, home: usize, k: usize, w: Window) -> Window
-    requires { ⌜ (side ≤ 1024) × (k < 49) × (w .count ≤ k) × (home < (side + 12) * (side + 12)) × ((side + 12) * (side + 12) ≤ length (now grid)) ⌝ }
-    ensures { λ r. ⌜ (r ≡ near.sampleAt side (now (grid .entry)) home k w) × (r .count ≤ k + 1) ⌝ }
+// Place k of the window: a sample more, after n of them, where its luminance is known. Answers how many there are then.
+fn sample_at(
+    grid: &[f32],
+    side: usize,
+    home: usize,
+    k: usize,
+    dx: &mut [f32; 49],
+    dy: &mut [f32; 49],
+    ys: &mut [f32; 49],
+    n: usize,
+) -> usize
+    requires { ⌜ (side ≤ 1024) × (k < 49) × (n ≤ k) × (home < (side + 12) * (side + 12)) × ((side + 12) * (side + 12) ≤ length (now grid)) ⌝ }
+    ensures { λ r. ⌜ (near.window (now (dx .exit)) (now (dy .exit)) (now (ys .exit)) r ≡ near.sampleAt side (now (grid .entry)) home k (near.window (now (dx .entry)) (now (dy .entry)) (now (ys .entry)) n)) × (r ≤ k + 1) ⌝ }
 {
     let y = luminance_near(grid, side, home, k);
     if y != y {
-        return w;
+        return n;
     }
-    push(w, k, y)
+    push(dx, dy, ys, n, k, y);
+    n + 1
 }
 
 // The known luminances of the 7 by 7 squares around square `home` of the grid.
@@ -126,17 +119,19 @@ fn window(grid: &[f32], side: usize, home: usize) -> Window
     requires { ⌜ (side ≤ 1024) × (home < (side + 12) * (side + 12)) × ((side + 12) * (side + 12) ≤ length (now grid)) ⌝ }
     ensures { λ r. ⌜ (r ≡ near.windowOf side (now (grid .entry)) home) × (r .count ≤ 49) ⌝ }
 {
-    let zeros = [0.0f32; 49];
-    let mut w = Window {
-        dx: zeros,
-        dy: zeros,
-        y: zeros,
-        count: 0,
-    };
+    let mut dx = [0.0f32; 49];
+    let mut dy = [0.0f32; 49];
+    let mut ys = [0.0f32; 49];
+    let mut n: usize = 0;
     for k in 0..49 {
-        w = sample_at(grid, side, home, k, w);
+        n = sample_at(grid, side, home, k, &mut dx, &mut dy, &mut ys, n);
     }
-    w
+    Window {
+        dx: dx,
+        dy: dy,
+        y: ys,
+        count: n,
+    }
 }
 
 // ---- one module
