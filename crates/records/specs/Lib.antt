@@ -1,0 +1,2 @@
+-- What the contracts of `records` cite: the records as flat floats.
+pub mod Records

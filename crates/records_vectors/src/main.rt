@@ -1,0 +1,185 @@
+// Replays stored answers of `fit` and `measure` through the crate `records`: eight references as an array of records, lent as a
+// slice. Each call's number, model or noise record, and the scratch that it leaves behind, every bit.
+//
+// `fit_eight` and `measure_eight` take the array by value, so that their callers are covered; the two are proved by a walk.
+ghost use mathlib.Core.Path.{_≡_};
+ghost use Rattle.fit.specs.Fit as fitting;
+ghost use Rattle.measure.specs.Measure as measuring;
+ghost use Rattle.records.specs.Records.{flattened};
+use illum::IlluminationModel;
+use illum::Modelled;
+use records::Reference;
+use stats::Noise;
+use vectors::Compared;
+use vectors::Tally;
+
+// ---- the calls
+
+// `records::fit` of eight references.
+fn fit_eight(rs: [Reference; 8], side: usize, version: u8, scratch: &mut [f32]) -> Modelled
+    ensures { λ r. ⌜ fitting.final r (now (scratch .exit)) ≡ fitting.fitOf (fitting.flatRequest (flattened rs) side version (now (scratch .entry))) ⌝ }
+{
+    records::fit(&rs, side, version, scratch)
+}
+
+// `records::measure` of eight references.
+fn measure_eight(
+    rs: [Reference; 8],
+    side: usize,
+    model: IlluminationModel,
+    palette: &[f32],
+    hues: usize,
+    scratch: &mut [f32],
+) -> Noise
+    ensures { λ r. ⌜ measuring.final r (now (scratch .exit)) ≡ measuring.measureOf (measuring.flatRequest (flattened rs) side model (now (palette .entry)) hues (now (scratch .entry))) ⌝ }
+{
+    records::measure(&rs, side, model, palette, hues, scratch)
+}
+
+// ---- inputs: words of a row
+
+// The reference whose eight words begin at a place.
+fn reference(row: &[u64], at: usize) -> Reference {
+    let observed = stage_words::linear(row, stage_words::past(row, at, 2));
+    let nominal = stage_words::linear(row, stage_words::past(row, at, 5));
+    Reference {
+        x: stage_words::single(row, at, 0),
+        y: stage_words::single(row, at, 1),
+        observed,
+        nominal,
+    }
+}
+
+// The eight references that a row begins with, after the count of their floats.
+fn references(row: &[u64]) -> [Reference; 8] {
+    [
+        reference(row, 1),
+        reference(row, 9),
+        reference(row, 17),
+        reference(row, 25),
+        reference(row, 33),
+        reference(row, 41),
+        reference(row, 49),
+        reference(row, 57),
+    ]
+}
+
+// ---- answers: words put into a row
+
+// 0 and the model, or the refusal's number.
+fn put_modelled(got: &mut [u64], m: Modelled) -> usize {
+    let next = vectors::put(got, 0, m.number as u64);
+    if m.number != 0 {
+        return next;
+    }
+    let model = m.model;
+    stage_words::put_model(got, next, model)
+}
+
+// 0 and the noise record, or the refusal's number.
+fn put_measured(got: &mut [u64], n: Noise) -> usize {
+    match n {
+        Noise::Record(r) => {
+            let to_record = vectors::put(got, 0, 0);
+            stage_words::put_noise(got, to_record, r)
+        }
+        Noise::Refused(number) => vectors::put(got, 0, number as u64),
+    }
+}
+
+// ---- each function: from the inputs in a row to the answers in another, and how many these are
+
+// `fit` on a scratch, each of whose elements is v.
+fn fit_in(row: &[u64], at: usize, v: f32, scratch: &mut [f32], got: &mut [u64]) -> usize {
+    let side = stage_words::count(row, at, 1);
+    let version = vectors::u8_of(vectors::word_at(row, at, 2));
+    let fitted = fit_eight(references(row), side, version, scratch);
+    let to_zeros = put_modelled(got, fitted);
+    stage_words::put_scratch(got, to_zeros, scratch, v)
+}
+
+// fit |flat| n side version len fill = no MODEL zeros
+fn fit(row: &[u64], got: &mut [u64]) -> usize {
+    let mut scratch = [0.0f32; 64];
+    let at = vectors::past_slice(row, 0);
+    let v = stage_words::single(row, at, 4);
+    let len = stage_words::spread(&mut scratch, stage_words::count(row, at, 3), v);
+    fit_in(row, at, v, &mut scratch[..len], got)
+}
+
+// `measure` on a scratch, each of whose elements is v; the hues stand at a place.
+fn measure_in(
+    row: &[u64],
+    at: usize,
+    palette: &[f32],
+    hues: usize,
+    v: f32,
+    scratch: &mut [f32],
+    got: &mut [u64],
+) -> usize {
+    let side = stage_words::count(row, at, 1);
+    let model = stage_words::model(row, stage_words::past(row, at, 2));
+    let measured = measure_eight(references(row), side, model, palette, hues, scratch);
+    let to_zeros = put_measured(got, measured);
+    stage_words::put_scratch(got, to_zeros, scratch, v)
+}
+
+// measure |flat| n side MODEL |palette| hues len fill = no STATS zeros
+fn measure(row: &[u64], got: &mut [u64]) -> usize {
+    let mut palette = [0.0f32; 256];
+    let mut scratch = [0.0f32; 64];
+    let at = vectors::past_slice(row, 0);
+    let at_palette = stage_words::past_model(row, stage_words::past(row, at, 2));
+    let p = vectors::load_f32(row, at_palette, &mut palette);
+    let at_hues = vectors::past_slice(row, at_palette);
+    let hues = stage_words::count(row, at_hues, 0);
+    let v = stage_words::single(row, at_hues, 2);
+    let len = stage_words::spread(&mut scratch, stage_words::count(row, at_hues, 1), v);
+    measure_in(row, at, &palette[..p], hues, v, &mut scratch[..len], got)
+}
+
+// ---- the list
+
+// Puts what a function answers to the inputs in a row into another, and says how many words these are.
+fn answers(function: usize, row: &[u64], got: &mut [u64]) -> usize {
+    if function == 0 {
+        return fit(row, got);
+    }
+    if function == 1 {
+        return measure(row, got);
+    }
+    0
+}
+
+// Reads the record that begins at `at` and compares its answers.
+fn replayed(text: &[u8], at: usize, names: &[u8]) -> Compared {
+    let mut row = [0u64; 512];
+    let mut wanted = [0u64; 128];
+    let mut got = [0u64; 128];
+    let f = vectors::function_of(text, at, names);
+    let read = vectors::read_record(text, at, &mut row, &mut wanted);
+    let n = answers(f, &row, &mut got);
+    vectors::compare(f, at, read, &wanted, &got, n)
+}
+
+// Goes through all records of a list.
+fn replay(text: &[u8], names: &[u8]) -> Tally {
+    let mut t = vectors::empty();
+    let mut at = 0usize;
+    while at < text.len() {
+        if !vectors::is_comment(text, at) {
+            t = vectors::counted(t, replayed(text, at, names));
+        }
+        at = vectors::next_line(text, at);
+    }
+    t
+}
+
+fn main() {
+    // the functions, one a line
+    let names = b"fit\nmeasure\n";
+    let mut text = [0u8; 131072];
+    let n = vectors::load(b"records.txt", &mut text);
+    let t = replay(&text[..n], names);
+    vectors::report(&text[..n], names, t);
+}
