@@ -8,6 +8,7 @@ use crate::calls::stats::ChannelStats;
 use std::fmt::Write;
 
 pub mod make;
+pub mod wreck;
 
 /// What a card file holds; colours and references are flat floats.
 #[derive(Clone, Debug, Default)]
@@ -114,9 +115,9 @@ impl Card {
         file
     }
 
-    /// Fit, measure, score and refine, or the number of the first call refused: what scoring took, and the luma
-    /// and chroma scores.
-    fn scored(&self) -> Result<(Scoring, Vec<f32>, Vec<f32>), u32> {
+    /// Fit, measure, score and, where asked, refine, or the number of the first call refused: what scoring took, and
+    /// the luma and chroma scores.
+    fn scored(&self, refining: bool) -> Result<(Scoring, Vec<f32>, Vec<f32>), u32> {
         let (side, k, n, m) = (self.side as usize, self.hues as usize, self.references.len() / 8, self.xs.len());
         let mut scratch = vec![0.0; (4 * n).max((side + 12) * (side + 12))];
         let model = fit(&self.references, n, side, self.version, &mut scratch)?;
@@ -133,7 +134,7 @@ impl Card {
         let (mut luma, mut colours) = (vec![0.0; m], vec![0.0; 3 * m]);
         let mut chroma = vec![0.0; bits_a_cell(k) * scoring.entries()];
         score(&scoring, &mut luma, &mut colours, &mut chroma)?;
-        let refining = Refining {
+        let refined = Refining {
             side,
             k,
             xs: self.xs.clone(),
@@ -143,21 +144,23 @@ impl Card {
             palette: self.palette.clone(),
             stats,
         };
-        refine(&refining, &mut luma, &mut scratch)?;
+        if refining {
+            refine(&refined, &mut luma, &mut scratch)?;
+        }
         Ok((scoring, luma, chroma))
     }
 
     /// Scoring and then refining gives what the Rust's `demodulate` gives with its last call.
     pub fn whole(&self) -> Result<bool, u32> {
-        let (scoring, luma, chroma) = self.scored()?;
+        let (scoring, luma, chroma) = self.scored(true)?;
         let rust = scoring.demodulated(true);
         let text = |scores: &[f32]| scores.iter().map(|&s| digits(s)).collect::<String>();
         Ok(text(&luma) == text(&rust.luma) && text(&chroma) == text(&rust.chroma))
     }
 
-    /// The listing, or the number of the first call refused.
-    pub fn listing(&self) -> Result<String, u32> {
-        let (scoring, luma, chroma) = self.scored()?;
+    /// The listing, or the number of the first call refused; without refining, that of the scores that scoring left.
+    pub fn listing(&self, refining: bool) -> Result<String, u32> {
+        let (scoring, luma, chroma) = self.scored(refining)?;
         let model = &scoring.model;
         let mut text = format!("fit {} {} {}\n", model.terms, model.kept, model.rejected);
         let mut unmasked = luma.clone();
@@ -195,8 +198,17 @@ fn digits(score: f32) -> String {
     format!("{:08X}", if score.is_nan() { 0x7FC0_0000 } else { score.to_bits() })
 }
 
+fn listed(file: &[u8], refining: bool) -> String {
+    let listing = Card::parse(file).ok_or(1).and_then(|card| card.listing(refining));
+    listing.unwrap_or_else(|number| format!("refused {number}\n"))
+}
+
 /// `readcard`: the listing of a file, or one line `refused N`.
 pub fn readcard(file: &[u8]) -> String {
-    let listing = Card::parse(file).ok_or(1).and_then(|card| card.listing());
-    listing.unwrap_or_else(|number| format!("refused {number}\n"))
+    listed(file, true)
+}
+
+/// The same with the scores that scoring left, so that one sees what refinement changed.
+pub fn unrefined(file: &[u8]) -> String {
+    listed(file, false)
 }

@@ -12,6 +12,7 @@ mod modulate;
 mod private;
 mod refine;
 mod stats;
+mod whole;
 
 /// How one list is made.
 pub struct Kind {
@@ -37,6 +38,7 @@ pub const KINDS: &[Kind] = &[
     measure::KIND,
     demod::KIND,
     refine::KIND,
+    whole::KIND,
     private::KIND,
 ];
 

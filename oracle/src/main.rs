@@ -1,5 +1,5 @@
 //! The oracle as a program; `oracle help` says what it does.
-use oracle::card::{Card, make, readcard};
+use oracle::card::{Card, make, readcard, unrefined};
 use oracle::compare::compare;
 use oracle::exact;
 use oracle::lists::KINDS;
@@ -12,6 +12,7 @@ oracle names                   the names of the lists
 oracle list NAME               the stored list NAME to standard output
 oracle many NAME COUNT [SEED]  COUNT random records of the kinds of NAME, without a header
 oracle readcard                a card file on standard input to its listing, or `refused N`
+oracle unrefined               the same without refinement: what it would be read as
 oracle cards FOLDER COUNT SEED card files FOLDER/0.card .., with their listings beside them (.txt)
 oracle listings COUNT SEED     the listings of as many cards to standard output, one after the other
 oracle whole COUNT SEED        on as many cards, scoring and then refining is the Rust's `demodulate` with its last call
@@ -30,10 +31,11 @@ fn main() {
         ["list", name] => kind(name).stored(&mut to),
         ["many", name, count] => kind(name).randoms(&mut List::new(&mut to), number(count), 0),
         ["many", name, count, seed] => kind(name).randoms(&mut List::new(&mut to), number(count), number(seed) as u64),
-        ["readcard"] => {
+        ["readcard" | "unrefined"] => {
             let mut file = Vec::new();
             std::io::stdin().take(16_385).read_to_end(&mut file).expect("standard input");
-            to.write_all(readcard(&file).as_bytes()).expect("standard output");
+            let listing = if words[0] == "readcard" { readcard(&file) } else { unrefined(&file) };
+            to.write_all(listing.as_bytes()).expect("standard output");
         }
         ["cards", folder, count, seed] => {
             let mut rng = Rng::new(number(seed) as u64);

@@ -1,5 +1,6 @@
 //! Cards of every shape: clean, noisy, glared, with outliers, repeats and rings, and damaged ones.
 use super::Card;
+use crate::calls::illum::{Model, identity};
 use crate::rng::Rng;
 use lcr_core::color::{Lab, Linear, lab_to_linear};
 use std::collections::HashMap;
@@ -69,6 +70,22 @@ impl Channel {
             glare: (rng.real(0.0, side), rng.real(0.0, side), strength),
             noise: rng.pick(&[0.0, 0.001, 0.01, 0.05]),
         }
+    }
+
+    /// The same with a glare of this strength.
+    pub fn glared(mut self, strength: f64) -> Channel {
+        self.glare.2 = strength;
+        self
+    }
+
+    /// The model that undoes gain, slope and flare: what a fit could find at best where nothing glares.
+    pub fn undone(&self) -> Model {
+        let mut model = identity(self.side as usize).expect("the side of a card");
+        for (c, gain) in self.gain.into_iter().enumerate() {
+            model.gain[c][..3].copy_from_slice(&[gain, gain * self.slope[0] / 2.0, gain * self.slope[1] / 2.0]);
+            model.flare[c][0] = self.flare;
+        }
+        model
     }
 
     pub fn observe(&self, rng: &mut Rng, x: f64, y: f64, c: Linear) -> [f32; 3] {
@@ -177,6 +194,50 @@ fn add_module(rng: &mut Rng, card: &mut Card, channel: &Channel, (x, y): (i64, i
     card.xs.push(x as i32);
     card.ys.push(y as i32);
     card.raw.extend(seen);
+}
+
+/// A card file that is as long as one may be: references, grid and ring modules and cells in any shares.
+pub fn large(rng: &mut Rng) -> Vec<u8> {
+    let k = rng.pick(&[1, 2, 4, 8, 16]);
+    let (side, size) = (rng.pick(&[8, 21, 63, 64]), rng.pick(&[1, 1, 2, 16]));
+    let palette = palette(k, 30.0, 75.0, 45.0, 0.0);
+    let channel = Channel::new(rng, side);
+    let mut left = (16_384 - 56 - 32 * k) / 16;
+    let mut share = |rng: &mut Rng| {
+        let any = rng.below(left + 1);
+        let taken = rng.pick(&[0, left / 4, left / 2, any, left]);
+        left -= taken;
+        taken
+    };
+    let n = share(rng) / 2;
+    let [cells, ring, grid] = [share(rng), share(rng), left];
+    let mut card = Card {
+        side: side as u16,
+        version: rng.pick(&[1, 10]),
+        hues: k as u8,
+        size,
+        mask: rng.below(8) as u8,
+        grid: grid as u16,
+        references: references(rng, n, side, k, &palette, &channel),
+        palette,
+        ..Card::default()
+    };
+    for i in 0..grid + ring {
+        let (lo, hi) = if i < grid { (0, side as i64 - 1) } else { (-6, side as i64 + 5) };
+        let (place, hue) = ((rng.between(lo, hi), rng.between(lo, hi)), rng.below(k));
+        add_module(rng, &mut card, &channel, place, hue);
+    }
+    for _ in 0..cells {
+        let colour = colour(&card.palette, k, rng.chance(2), rng.below(k));
+        let [cx, cy] = std::array::from_fn(|_| {
+            let near = rng.below(side) as u16;
+            if rng.chance(8) { rng.below(1024) as u16 } else { near }
+        });
+        card.cxs.push(cx);
+        card.cys.push(cy);
+        card.cell_raw.extend(channel.observe(rng, cx as f64, cy as f64, colour));
+    }
+    card.file()
 }
 
 /// One thing on a card set to something that a refusal or an edge may hang on.

@@ -19,7 +19,7 @@ pub const KIND: Kind = Kind {
         score side hues size |xs| |ys| grid |raw| |cxs| |cys| |cell_raw| |palette| MODEL STATS luma colours chroma fill
             = no |luma|' |colours|' |chroma|'
             xs and ys i32, cxs and cys u16, colours three f32 each; luma, colours and chroma are the lengths of the
-            three outputs, every element `fill` before; where `no` is not 0 they stay so, and are not given
+            three outputs, every element `fill` before; they are given after a refusal too
             refused 2, 3, 4, 5, 6, 7, 8, 9, 10, 12
     ",
     structured,
@@ -37,10 +37,8 @@ fn put_score(out: &mut List, q: &Scoring, lengths: [usize; 3]) {
     let record = record.slice(&q.cxs).slice(&q.cys).slice(&q.cell_raw).slice(&q.palette);
     let record = put_stats(put_model(record, &q.model), &q.stats).all(lengths).w(fill).is();
     let [mut luma, mut colours, mut chroma] = lengths.map(|n| vec![fill; n]);
-    match score(q, &mut luma, &mut colours, &mut chroma) {
-        Ok(()) => record.w(0u8).slice(&luma).slice(&colours).slice(&chroma).end(out),
-        Err(number) => record.w(number).end(out),
-    }
+    let number = score(q, &mut luma, &mut colours, &mut chroma).err().unwrap_or(0);
+    record.w(number).slice(&luma).slice(&colours).slice(&chroma).end(out);
 }
 
 /// A card of `grid` grid modules, `ring` ring modules and `cells` cells, seen through a mild channel.

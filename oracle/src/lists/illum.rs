@@ -4,6 +4,7 @@ use crate::calls::illum::*;
 use crate::card::make::{self, Channel};
 use crate::rng::{Rng, special32};
 use crate::words::{List, Record};
+use lcr_decode::illum::shim::{basis, deshade};
 
 pub const KIND: Kind = Kind {
     name: "illum",
@@ -18,6 +19,8 @@ pub const KIND: Kind = Kind {
         fit |flat| n side version len fill = no MODEL zeros     f32, eight a reference (x, y, observed, nominal), n
             references; the scratch has `len` elements, each `fill` before; after the call its first `zeros` are +0
             and the rest `fill`; refused 2, 5, 6, 7, 8, 11 (11 too has zeroed the scratch)
+        basis terms side x y = values     side, x, y f32; as many f64 as terms, 4 or 9
+        deshade MODEL x y r g b = d d d     f32; the three channels' inverses as f64, at the position's basis
     ",
     structured,
     one,
@@ -99,6 +102,32 @@ fn structured(out: &mut List) {
     degenerate(out, rng);
     refused(out, rng);
     corrections(out, rng);
+    surfaces(out);
+}
+
+/// Two private functions of the Rust, through the shims, which the port has in the open.
+fn put_surface(out: &mut List, rng: &mut Rng, [x, y, r, g, b]: [f32; 5]) {
+    let (terms, side) = (rng.pick(&[4, 9]), rng.pick(&[1, 21, 1024]));
+    let mut m = model(rng, terms, side);
+    if rng.chance(3) {
+        m.gain[1] = [0.0; 9];
+        m.gain[1][0] = rng.pick(&[0.0, 0.04, -0.04, -1.0]);
+    }
+    let values = basis(&m.rust(), x, y, terms);
+    Record::new("basis").w(terms).w(m.side).w(x).w(y).is().all(values.iter().copied()).end(out);
+    let inverse = deshade(&m.rust(), &values, linear(&[r, g, b]));
+    put_model(Record::new("deshade"), &m).all([x, y, r, g, b]).is().all(inverse).end(out);
+}
+
+fn surfaces(out: &mut List) {
+    for v in [f32::NAN, f32::INFINITY, f32::NEG_INFINITY, -0.0, f32::MAX] {
+        put_surface(out, &mut Rng::new(3), [v, 1.0, 0.25, 0.5, 0.75]);
+    }
+    let rng = &mut Rng::new(51);
+    for _ in 0..20 {
+        let sample = std::array::from_fn(|i| rng.single(0.0, if i < 2 { 30.0 } else { 1.0 }));
+        put_surface(out, rng, sample);
+    }
 }
 
 /// References without noise under a mild gradient, the first `outliers` of them far off.

@@ -1,12 +1,12 @@
-//! Private functions of the Rust, through the shims: for cores that a crate of ours has in the open.
+//! Private functions of the Rust, through the shims, which the port has no public form of: nothing replays them.
 use super::Kind;
-use super::illum::{model, put_model, with_outliers};
-use crate::calls::illum::{Model, identity, linear, references};
+use super::illum::{put_model, with_outliers};
+use crate::calls::illum::{Model, identity, references};
 use crate::rng::{Rng, special32};
 use crate::words::{List, Record};
 use lcr_core::color::shim::{lab_f, lab_f_inv};
 use lcr_decode::demod::shim::local_fit;
-use lcr_decode::illum::shim::{basis, deshade, fit_once};
+use lcr_decode::illum::shim::fit_once;
 use lcr_decode::math::shim::select;
 
 pub const KIND: Kind = Kind {
@@ -17,8 +17,6 @@ pub const KIND: Kind = Kind {
         MODEL is: terms side rms rejected kept width, then f64: affine 3 x 4, gain 3 x width, flare 3 x width (see illum)
         select |v| k = r |v|'     f32; k is below the length
         lab_f t = r, lab_f_inv t = r     f32
-        basis terms side x y = values     side, x, y f32; as many f64 as terms, 4 or 9
-        deshade MODEL x y r g b = d d d     f32; the three channels' inverses as f64, at the position's basis
         fit_once |flat| |active| version = found MODEL     f32, eight a reference; active 0 or 1 for each; one pass over the
             active ones on a card of side 21, the model's counts and rms 0; found 0: none, and no values
         local_fit count (dx dy y).. y0 gap = found amount base step     f32; found 0: none, and no values
@@ -37,19 +35,6 @@ fn put_select(out: &mut List, v: &[f32], k: usize) {
 fn put_lab(out: &mut List, t: f32) {
     Record::new("lab_f").w(t).is().w(lab_f(t)).end(out);
     Record::new("lab_f_inv").w(t).is().w(lab_f_inv(t)).end(out);
-}
-
-fn put_surface(out: &mut List, rng: &mut Rng, [x, y, r, g, b]: [f32; 5]) {
-    let (terms, side) = (rng.pick(&[4, 9]), rng.pick(&[1, 21, 1024]));
-    let mut m = model(rng, terms, side);
-    if rng.chance(3) {
-        m.gain[1] = [0.0; 9];
-        m.gain[1][0] = rng.pick(&[0.0, 0.04, -0.04, -1.0]);
-    }
-    let values = basis(&m.rust(), x, y, terms);
-    Record::new("basis").w(terms).w(m.side).w(x).w(y).is().all(values.iter().copied()).end(out);
-    let inverse = deshade(&m.rust(), &values, linear(&[r, g, b]));
-    put_model(Record::new("deshade"), &m).all([x, y, r, g, b]).is().all(inverse).end(out);
 }
 
 fn put_fit_once(out: &mut List, rng: &mut Rng, n: usize, live: usize, terms: usize) {
@@ -88,9 +73,6 @@ fn structured(out: &mut List) {
             put_select(out, &(0..n).map(|i| [2.0, 0.0, f32::NAN, -0.0, 2.0][i]).collect::<Vec<_>>(), k);
         }
     }
-    for v in [f32::NAN, f32::INFINITY, f32::NEG_INFINITY, -0.0, f32::MAX] {
-        put_surface(out, &mut Rng::new(3), [v, 1.0, 0.25, 0.5, 0.75]);
-    }
     for (n, live, terms) in [(8, 8, 4), (9, 7, 4), (9, 8, 4), (10, 9, 9), (8, 8, 9), (24, 24, 4)] {
         put_fit_once(out, &mut Rng::new(5), n, live, terms);
     }
@@ -105,16 +87,12 @@ fn structured(out: &mut List) {
 }
 
 fn one(out: &mut List, rng: &mut Rng) {
-    match rng.below(4) {
+    match rng.below(3) {
         0 => put_lab(out, rng.single(-0.01, 1.2)),
         1 => {
             let v: Vec<f32> =
                 (0..rng.between(1, 12)).map(|_| rng.pick(&[0.0, -0.0, 1.0, 2.0, 3.0, f32::NAN])).collect();
             put_select(out, &v, rng.below(v.len()));
-        }
-        2 => {
-            let sample = std::array::from_fn(|i| rng.single(0.0, if i < 2 { 30.0 } else { 1.0 }));
-            put_surface(out, rng, sample);
         }
         _ => {
             let (slope, noise, count) = (rng.real(-0.2, 0.2), rng.pick(&[0.0, 0.02, 0.2]), rng.pick(&[12, 20, 49]));
