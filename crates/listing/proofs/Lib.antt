@@ -3,3 +3,4 @@ pub mod Digits
 pub mod Sign
 pub mod Room
 pub mod Meaning
+pub mod Within

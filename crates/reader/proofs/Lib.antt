@@ -1,0 +1,4 @@
+pub mod Lists
+pub mod Next
+pub mod Held
+pub mod Room

@@ -1,0 +1,5 @@
+pub mod Lists
+pub mod Places
+pub mod Next
+pub mod Room
+pub mod Never

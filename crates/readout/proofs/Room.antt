@@ -1,0 +1,207 @@
+-- The text of a card has room in LISTING_ROOM bytes: a refusal is a number up to 12, a bit is 0 or 1, a card file has at most 1,020 modules and cells, and an
+-- accepted hue count at most 4 bits a symbol. Assumes nothing.
+use mathlib.Core.Path.{_≡_, refl, ap, _∙_}
+use mathlib.Core.Bool.{Bool, true, false, cond}
+use mathlib.Core.List.{List, [], _∷_}
+use Prim.Native.Nat.{ℕ, zero, suc, _+_, _-_, _^_, _≤_, _<_}
+use native.Mathlib.Omega.{arith}
+use native.Mathlib.Nat.{mul-le-mul}
+use borrow.Author.Tests.{ltb-true, ltb-false, eqb-true, eqb-false}
+use lib.Dec.{ltb, eqb}
+use lib.IntN.{ℤ, pos}
+use lib.Signed.{mag}
+use lib.ListN.{length, getD, set, length-replicate}
+use lib.Seq.{getD-set-same, getD-set-other, set-out}
+use lib.Ieee.{Float, nan, lt, fin, binary32, ofBits}
+use Rattle.loops.proofs.Laws.{forUp-to}
+use Rattle.sentences.specs.Sentences.{Sentence, refusal, decided}
+use Rattle.limits.specs.Chroma.{chromaOn, symbolBits, chromaLength}
+use Rattle.limits.proofs.Laws.{symbol-bits-few}
+use Rattle.card.specs.declared.Settings.{Settings}
+use Rattle.listing.specs.Listing.{refusedLine}
+use Rattle.listing.proofs.Room.{listing-length, refused-length}
+use Rattle.answers.specs.declared.Outcome.{Outcome}
+use Rattle.answers.specs.declared.Outcome.the-variants as outcome
+use Rattle.answers.specs.Answers.{outcomeNumber, ended, writtenOr}
+use Rattle.lists.specs.Lists.{replaceAt}
+use Rattle.modulate.specs.Score.{unmaskSentences, unmaskLumaOf}
+use Rattle.modulate.specs.Read.{reads, readAt, readList, readSentences, readListOf}
+use Rattle.illum.specs.declared.IlluminationModel.{IlluminationModel}
+use Rattle.stats.specs.declared.ChannelStats.{ChannelStats}
+use Rattle.demod.specs.Call as scoring
+use Rattle.demod.proofs.Outcome.{at-done}
+use Rattle.refine.specs.Calls as refining
+use Rattle.readout.specs.Sheet.{Sheet, Few}
+use Rattle.readout.specs.Reading.{noBits, unless, afterSymbols, afterBits, afterUnmasking, readText, afterRefinement, refineText, placesOf, toScore, afterScoring, scoreText}
+use Rattle.readout.proofs.Places.{entries-below}
+
+-- ---- refusals are small numbers
+
+-- every number in a list of sentences is at most 12
+unfoldable pub tiny : List Sentence → Bool
+tiny [] = true
+tiny (s ∷ ss) = cond (ltb (s .number) 13) (tiny ss) false
+
+one-of : (b : Bool) (n m : ℕ) → n ≤ 12 → m ≤ 12 → cond b n m ≤ 12
+one-of true n m h g = h
+one-of false n m h g = g
+
+first-small : (s : Sentence) (m : ℕ) (t b : Bool) → ltb (s .number) 13 ≡ b → cond b t false ≡ true → (t ≡ true → m ≤ 12) → cond (s .holds) (s .number) m ≤ 12
+first-small s m t true e g h = one-of (s .holds) (s .number) m (omega (arith, ltb-true (s .number) 13 e)) (h g)
+first-small s m t false e g h = let z : _≡_ {A = ℕ} 0 1 = cc in absurd (omega arith)
+
+pub refusal-small : (ss : List Sentence) → tiny ss ≡ true → refusal ss ≤ 12
+unfolding refusal tiny
+refusal-small [] h = omega arith
+refusal-small (s ∷ ss) h = first-small s (refusal ss) (tiny ss) (ltb (s .number) 13) refl h (λ g. refusal-small ss g)
+
+-- what a call gives by its number has that number
+pub number-small : {A : Type 0} (number : A → ℕ) (r : ℕ → A) (d : A) (k : ℕ) → ((n : ℕ) → number (r n) ≡ n) → number d ≡ 0 → k ≤ 12 → number (decided k r d) ≤ 12
+unfolding decided
+number-small number r d zero a b h = omega arith
+number-small number r d (suc k) a b h = omega (arith, a (suc k))
+
+ended-small : {A : Type 0} (ss : List Sentence) (before after : List A) → tiny ss ≡ true → outcomeNumber (writtenOr ss before after .answer) ≤ 12
+ended-small ss before after h =
+    number-small (λ e. outcomeNumber (e .answer)) (λ n. ended (outcome.Refused n) before) (ended outcome.Done after) (refusal ss) (λ n. refl) refl (refusal-small ss h)
+
+read-small : (scores : List Float) (bits : List ℕ) → outcomeNumber (readListOf scores bits .answer) ≤ 12
+unfolding readListOf readSentences tiny
+read-small scores bits = ended-small (readSentences scores bits) bits (readList scores bits) refl
+
+unmask-small : (luma : List Float) (side : ℕ) (xs ys : List ℤ) (g mask : ℕ) → outcomeNumber (unmaskLumaOf luma side xs ys g mask .answer) ≤ 12
+unfolding unmaskLumaOf unmaskSentences tiny
+unmask-small luma side xs ys g mask = ended-small (unmaskSentences luma side xs ys g) luma _ refl
+
+refine-small : (q : refining.Request) → outcomeNumber (refining.refineOf q .answer) ≤ 12
+unfolding refining.refineOf refining.sentencesOf tiny
+refine-small q = number-small (λ e. outcomeNumber (e .answer)) (refining.turnedAway q) _ (refusal (refining.sentencesOf q)) (λ n. refl) refl (refusal-small (refining.sentencesOf q) refl)
+
+score-small : (q : scoring.Request) → outcomeNumber (scoring.scoredOf q .answer) ≤ 12
+unfolding scoring.scoredOf scoring.sentencesOf tiny
+score-small q = number-small (λ e. outcomeNumber (e .answer)) (scoring.turnedAway q) (scoring.done q) (refusal (scoring.sentencesOf q)) (λ n. refl) refl (refusal-small (scoring.sentencesOf q) refl)
+
+-- ---- a text that follows a call
+
+pub line-in : (n : ℕ) → n < 10 ^ 20 → length (refusedLine n) ≤ 101047
+line-in n h = omega (arith, refused-length n h)
+
+unless-in : (o : Outcome) (next : List ℕ) → outcomeNumber o ≤ 12 → (o ≡ outcome.Done → length next ≤ 101047) → length (unless o next) ≤ 101047
+unless-in (outcome.Refused n) next h g = line-in n (omega arith)
+unless-in outcome.Done next h g = g refl
+
+-- ---- bits are 0 or 1, also where none was read
+
+abbrev Bits : List ℕ → Type 0
+Bits l = (i : ℕ) → getD l i 0 ≤ 1
+
+reads-bit : (v : Float) → reads v ≤ 1
+unfolding reads
+reads-bit v = by (lt v (fin false 0 (pos 0)))
+  where
+    by : (b : Bool) → cond b 1 0 ≤ 1
+    by true = omega arith
+    by false = omega arith
+
+set-bit : (l : List ℕ) (j x : ℕ) → x ≤ 1 → Bits l → Bits (set l j x)
+set-bit l j x h p i = by (eqb i j) refl (ltb j (length l)) refl
+  where
+    by : (b : Bool) → eqb i j ≡ b → (c : Bool) → ltb j (length l) ≡ c → getD (set l j x) i 0 ≤ 1
+    by true e true f = rw (eqb-true i j e, getD-set-same l j x 0 (ltb-true j (length l) f)) h
+    by true e false f = rw (set-out l j x (ltb-false j (length l) f)) (p i)
+    by false e c f = rw (getD-set-other l j i x 0 (eqb-false i j e)) (p i)
+
+no-bit : (n : ℕ) → Bits (noBits n)
+no-bit zero i = omega arith
+no-bit (suc n) zero = omega arith
+no-bit (suc n) (suc i) = no-bit n i
+
+list-bits : (scores : List Float) (bits : List ℕ) → Bits bits → Bits (readList scores bits)
+list-bits scores bits p =
+    forUp-to (λ n l. Bits l) (replaceAt 0 (readAt scores)) (length scores) 0 bits (omega arith) p
+    (λ j a b l q. set-bit l j (reads (getD scores j nan)) (reads-bit (getD scores j nan)) q)
+
+ended-bits : (k : ℕ) (before after : List ℕ) → Bits before → Bits after → Bits (decided k (λ n. ended (outcome.Refused n) before) (ended outcome.Done after) .list)
+unfolding decided
+ended-bits zero before after p q = q
+ended-bits (suc k) before after p q = p
+
+read-bits : (scores : List Float) (n : ℕ) → Bits (readListOf scores (noBits n) .list)
+unfolding readListOf
+read-bits scores n = ended-bits (refusal (readSentences scores (noBits n))) (noBits n) (readList scores (noBits n)) (no-bit n) (list-bits scores (noBits n) (no-bit n))
+
+-- ---- the text
+
+-- the figures of the fit line, and the positions, are what the listing has room for
+pub record Figures (m : IlluminationModel) : Type 0 where
+  pub terms : m .terms < 10 ^ 20
+  pub kept : m .kept < 10 ^ 20
+  pub rejected : m .rejected < 10 ^ 20
+
+abbrev pub Small : List ℤ → Type 0
+Small xs = (i : ℕ) → i < length xs → mag (getD xs i (pos 0)) < 32768
+
+paired : (xs ys : List ℤ) → length ys ≡ length xs → Small ys → (i : ℕ) → i < length xs → mag (getD ys i (pos 0)) < 32768
+paired xs ys e p i h = p i (omega arith)
+
+module _ (m : IlluminationModel) (xs ys : List ℤ) (f : Figures m) (few : length xs ≤ 1020) (pairs : length ys ≡ length xs) (px : Small xs) (py : Small ys) where
+  module _ (luma chroma : List Float) (short : length chroma ≤ 4080) where
+    symbols-in : (bits : List ℕ) → Bits bits → length (afterSymbols m xs ys luma bits chroma (readListOf chroma (noBits (length chroma)))) ≤ 101047
+    unfolding afterSymbols
+    symbols-in bits b =
+        unless-in (readListOf chroma (noBits (length chroma)) .answer) _ (read-small chroma (noBits (length chroma)))
+        (λ e. listing-length (m .terms) (m .kept) (m .rejected) (length xs) xs ys luma bits (length chroma) chroma (readListOf chroma (noBits (length chroma)) .list)
+        (record {
+          terms-in = f .terms;
+          kept-in = f .kept;
+          rejected-in = f .rejected;
+          modules-in = few;
+          places-in = short;
+          xs-in = px;
+          ys-in = paired xs ys pairs py;
+          bits-in = λ i h. omega (arith, b i);
+          symbols-in = λ i h. omega (arith, read-bits chroma (length chroma) i);
+        }))
+
+    bits-in : (unmasked : List Float) (n : ℕ) → length (afterBits m xs ys luma chroma (readListOf unmasked (noBits n))) ≤ 101047
+    unfolding afterBits
+    bits-in unmasked n =
+        unless-in (readListOf unmasked (noBits n) .answer) _ (read-small unmasked (noBits n)) (λ e. symbols-in (readListOf unmasked (noBits n) .list) (read-bits unmasked n))
+
+    read-in : (s : Settings) → length (readText s xs ys m luma chroma) ≤ 101047
+    unfolding readText afterUnmasking
+    read-in s =
+        unless-in (unmaskLumaOf luma (s .side) xs ys (s .grid) (s .mask) .answer) _ (unmask-small luma (s .side) xs ys (s .grid) (s .mask))
+        (λ e. bits-in (unmaskLumaOf luma (s .side) xs ys (s .grid) (s .mask) .list) (length luma))
+
+  refine-in : (s : Settings) (palette : List Float) (n : ChannelStats) (luma colours chroma : List Float) → length chroma ≤ 4080 → length (refineText s palette xs ys m n luma colours chroma) ≤ 101047
+  unfolding refineText afterRefinement
+  refine-in s palette n luma colours chroma h =
+      unless-in (refining.refineOf _ .answer) _ (refine-small _) (λ e. read-in (refining.refineOf _ .luma) chroma h s)
+
+-- the chroma list of an accepted call has its length, and at most 4 bits a place
+chroma-kept : (q : scoring.Request) → scoring.scoredOf q .answer ≡ outcome.Done → length (scoring.scoredOf q .chroma) ≡ length (q .chroma)
+chroma-kept q e = by (chromaOn (q .hues)) refl
+  where
+    by : (b : Bool) → chromaOn (q .hues) ≡ b → length (scoring.scoredOf q .chroma) ≡ length (q .chroma)
+    by true o = ap (λ (f : scoring.Final). length (f .chroma)) (at-done q e .left) ∙ at-done q e .chroma o .long
+    by false o = ap (λ (f : scoring.Final). length (f .chroma)) (at-done q e .left) ∙ ap length (at-done q e .no-chroma o)
+
+few-places : (k c r size : ℕ) → symbolBits k ≤ 4 → c + r ≤ 1020 → chromaLength k c r size ≤ 4080
+unfolding chromaLength
+few-places k c r size h g = mul-le-mul h (entries-below c r size g)
+
+-- every card of a card file
+pub score-in : (c : Sheet) (m : IlluminationModel) (n : ChannelStats) → Figures m → Few (c .settings) (length (c .xs)) (length (c .cxs)) → length (c .ys) ≡ length (c .xs) → Small (c .xs) → Small (c .ys) →
+    length (scoreText c m n) ≤ 101047
+unfolding scoreText afterScoring
+score-in c m n f few e px py =
+    let q = toScore c m n in
+    unless-in (scoring.scoredOf q .answer) _ (score-small q)
+    (λ d. refine-in m (c .xs) (c .ys) f (omega arith) e px py (c .settings) (c .palette) n (scoring.scoredOf q .luma) (scoring.scoredOf q .colours) (scoring.scoredOf q .chroma)
+    (omega (
+      arith,
+      chroma-kept q d,
+      length-replicate (placesOf (c .settings) (length (c .xs)) (length (c .cxs))) (ofBits binary32 0),
+      few-places (c .settings .hues) (length (c .cxs)) (length (c .xs) - c .settings .grid) (c .settings .size) (symbol-bits-few (c .settings .hues) (at-done q d .fit .hues-good)) (omega arith),
+    )))
