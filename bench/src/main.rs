@@ -1,13 +1,14 @@
 //! Times the Rust colour stage and, where it is linked, ours: the same inputs, alternating samples, medians.
 use std::hint::black_box;
-use std::time::Instant;
 
+#[cfg(ours)]
+mod library;
 mod ours;
 mod rust;
 
 /// Samples of each side, and the least time that one sample takes.
-const SAMPLES: usize = 41;
-const SAMPLE_NANOSECONDS: f64 = 2e6;
+const SAMPLES: usize = 201;
+const SAMPLE_NANOSECONDS: f64 = 3e5;
 
 /// One thing that is timed on both sides.
 pub struct Case {
@@ -17,14 +18,32 @@ pub struct Case {
     pub call: Box<dyn FnMut()>,
 }
 
+#[repr(C)]
+struct Timespec {
+    seconds: i64,
+    nanoseconds: i64,
+}
+
+unsafe extern "C" {
+    fn clock_gettime(clock: i32, time: *mut Timespec) -> i32;
+}
+
+/// Nanoseconds of processor time that this thread has used: what else runs on the machine does not count.
+fn now() -> f64 {
+    const CLOCK_THREAD_CPUTIME_ID: i32 = 3;
+    let mut t = Timespec { seconds: 0, nanoseconds: 0 };
+    assert_eq!(unsafe { clock_gettime(CLOCK_THREAD_CPUTIME_ID, &mut t) }, 0);
+    t.seconds as f64 * 1e9 + t.nanoseconds as f64
+}
+
 /// Nanoseconds of `times` calls.
 fn timed(case: &mut Case, times: usize) -> f64 {
-    let start = Instant::now();
+    let start = now();
     for _ in 0..times {
         (case.call)();
         black_box(());
     }
-    start.elapsed().as_nanos() as f64
+    now() - start
 }
 
 /// How many calls fill one sample.
@@ -41,10 +60,29 @@ fn median(mut values: Vec<f64>) -> f64 {
     values[values.len() / 2]
 }
 
+/// One call of a case, so that a counter of instructions can be set on it: `bench count NAME rust` or `ours`.
+fn count(name: &str, side: &str) {
+    let cases = if side == "ours" { ours::cases() } else { rust::cases() };
+    let mut case = cases.into_iter().find(|c| c.name == name).expect("the name of a case");
+    once(&mut case);
+}
+
+#[inline(never)]
+fn once(case: &mut Case) {
+    (case.call)();
+    black_box(());
+}
+
 fn main() {
+    let words: Vec<String> = std::env::args().skip(1).collect();
+    match &words[..] {
+        [word, name, side] if word == "count" => return count(name, side),
+        _ => {}
+    }
     println!("{:24} {:>14} {:>14} {:>8}", "", "Rust ns", "ours ns", "ratio");
     let mut ours = ours::cases();
-    for mut theirs in rust::cases() {
+    let asked = |c: &Case| words.is_empty() || words.iter().any(|w| c.name.starts_with(w.as_str()));
+    for mut theirs in rust::cases().into_iter().filter(asked) {
         let times = calls_a_sample(&mut theirs);
         let unit = |nanoseconds: Vec<f64>, case: &Case| median(nanoseconds) / (times * case.units) as f64;
         let mut other = ours.iter_mut().find(|c| c.name == theirs.name);

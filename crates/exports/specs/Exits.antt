@@ -1,0 +1,77 @@
+-- What a call leaves: its answer for C beside the slices that it was lent. Definitions only.
+use mathlib.Core.List.{List}
+use Prim.Native.Nat.{ℕ}
+use lib.Ieee.{Float}
+use Rattle.answers.specs.Answers.{Ended, outcomeNumber}
+use Rattle.demod.specs.Call as demod
+use Rattle.math.specs.Gauss as gauss
+use Rattle.math.specs.Normal as normal
+use Rattle.measure.specs.Measure as measure
+use Rattle.modulate.specs.Draw as draw
+use Rattle.order.specs.Deviation as deviation
+use Rattle.refine.specs.Calls as refine
+use Rattle.exports.specs.declared.replies.SolveAnswer.{SolveAnswer}
+use Rattle.exports.specs.declared.replies.NoiseAnswer.{NoiseAnswer}
+use Rattle.exports.specs.declared.replies.FloatAnswer.{FloatAnswer}
+use Rattle.exports.specs.Replies.{solveAnswer, noiseAnswer, sigmaAnswer}
+
+-- an answer, and one, two or three lent slices
+pub record Exit1 (R A : Type 0) : Type 0 where
+  pub answer : R
+  pub first : List A
+
+pub record Exit2 (R A B : Type 0) : Type 0 where
+  pub answer : R
+  pub first : List A
+  pub second : List B
+
+pub record Exit3 (R A B C : Type 0) : Type 0 where
+  pub answer : R
+  pub first : List A
+  pub second : List B
+  pub third : List C
+
+abbrev pub exit1 : {R A : Type 0} → R → List A → Exit1 R A
+exit1 r a = record { answer = r; first = a }
+
+abbrev pub exit2 : {R A B : Type 0} → R → List A → List B → Exit2 R A B
+exit2 r a b = record { answer = r; first = a; second = b }
+
+abbrev pub exit3 : {R A B C : Type 0} → R → List A → List B → List C → Exit3 R A B C
+exit3 r a b c = record { answer = r; first = a; second = b; third = c }
+
+-- `solve`, `finish`
+unfoldable pub solveExit : gauss.Final → Exit3 SolveAnswer Float Float Float
+solveExit f = exit3 (solveAnswer (f .answer)) (f .a) (f .b) (f .x)
+
+-- `measure`, `measure_flat`
+unfoldable pub measureExit : measure.Final → Exit1 NoiseAnswer Float
+measureExit f = exit1 (noiseAnswer (f .answer)) (f .scratch)
+
+-- `score`
+unfoldable pub scoreExit : demod.Final → Exit3 ℕ Float Float Float
+scoreExit f = exit3 (outcomeNumber (f .answer)) (f .luma) (f .colours) (f .chroma)
+
+-- `add_local_luma`
+unfoldable pub refineExit : refine.Final → Exit2 ℕ Float Float
+refineExit f = exit2 (outcomeNumber (f .answer)) (f .luma) (f .scratch)
+
+-- `add_row`
+unfoldable pub addRowExit : normal.Grown → Exit2 ℕ Float Float
+addRowExit f = exit2 (normal.addedNumberOf (f .answer)) (f .equations .a) (f .equations .b)
+
+-- `least_squares`
+unfoldable pub fittedExit : normal.Fitted → Exit1 SolveAnswer Float
+fittedExit f = exit1 (solveAnswer (f .answer)) (f .x)
+
+-- `mad_sigma`
+unfoldable pub sigmaExit : deviation.Final → Exit1 FloatAnswer Float
+sigmaExit f = exit1 (sigmaAnswer (f .answer)) (f .scratch)
+
+-- `chroma_bit_llrs`, `unmask_luma`, `read_list`, `hue_log_likelihoods`
+unfoldable pub writeExit : {A : Type 0} → Ended A → Exit1 ℕ A
+writeExit f = exit1 (outcomeNumber (f .answer)) (f .list)
+
+-- `draw`
+unfoldable pub drawExit : draw.Drawn → Exit2 ℕ ℕ ℕ
+drawExit f = exit2 (outcomeNumber (f .answer)) (f .levels) (f .hues)

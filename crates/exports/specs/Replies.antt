@@ -1,0 +1,117 @@
+-- Each answer that is an enum as a struct for C: document 01's number, 0 where the call is accepted, and the values, which are
+-- zeros where there are none. Definitions only.
+use mathlib.Core.Bool.{Bool, true, false}
+use Prim.Native.Nat.{ℕ}
+use lib.Ieee.{Float, binary32, ofBits}
+use Rattle.answers.specs.Answers.{Said}
+use Rattle.answers.specs.declared.Number.{Number}
+use Rattle.answers.specs.declared.Number.the-variants as number
+use Rattle.color.specs.declared.Linear.{Linear}
+use Rattle.color.specs.declared.palette.Flag.{Flag}
+use Rattle.color.specs.declared.palette.Flag.the-variants as flag
+use Rattle.illum.specs.declared.Correction.{Correction}
+use Rattle.illum.specs.declared.Correction.the-variants as correction
+use Rattle.math.specs.declared.Outcome.{Outcome}
+use Rattle.math.specs.declared.Outcome.the-variants as solving
+use Rattle.modulate.specs.declared.Cell.{Cell}
+use Rattle.modulate.specs.declared.Cell.the-variants as cell
+use Rattle.order.specs.declared.Sigma.{Sigma}
+use Rattle.order.specs.declared.Sigma.the-variants as sigma
+use Rattle.stats.specs.declared.ChannelStats.{ChannelStats}
+use Rattle.stats.specs.declared.Figure.{Figure}
+use Rattle.stats.specs.declared.Figure.the-variants as figure
+use Rattle.stats.specs.declared.Noise.{Noise}
+use Rattle.stats.specs.declared.Noise.the-variants as noise
+use Rattle.stats.specs.declared.Verdict.{Verdict}
+use Rattle.stats.specs.declared.Verdict.the-variants as verdict
+use Rattle.exports.specs.declared.replies.SolveAnswer.{SolveAnswer}
+use Rattle.exports.specs.declared.replies.NumberAnswer.{NumberAnswer}
+use Rattle.exports.specs.declared.replies.FlagAnswer.{FlagAnswer}
+use Rattle.exports.specs.declared.replies.FloatAnswer.{FloatAnswer}
+use Rattle.exports.specs.declared.replies.LinearAnswer.{LinearAnswer}
+use Rattle.exports.specs.declared.replies.NoiseAnswer.{NoiseAnswer}
+
+-- what stands where there is no value: +0, whose bits are all zero
+abbrev pub zero : Float
+zero = ofBits binary32 0
+
+abbrev pub noColour : Linear
+noColour = record { r = zero; g = zero; b = zero }
+
+abbrev pub noRecord : ChannelStats
+noRecord =
+    record { l0 = zero; l1 = zero; «sigma_l» = zero; «sigma_ab» = zero; «sigma_ab_dark» = zero; «sigma_ab_light» = zero; samples = 0 }
+
+-- ---- each struct by its fields
+
+abbrev pub solution : ℕ → Bool → SolveAnswer
+solution n b = record { number = n; solved = b }
+
+abbrev pub counted : ℕ → ℕ → NumberAnswer
+counted n v = record { number = n; value = v }
+
+abbrev pub judged : ℕ → Bool → FlagAnswer
+judged n b = record { number = n; yes = b }
+
+abbrev pub valued : ℕ → Float → FloatAnswer
+valued n v = record { number = n; value = v }
+
+abbrev pub corrected : ℕ → Linear → LinearAnswer
+corrected n c = record { number = n; colour = c }
+
+abbrev pub measured : ℕ → ChannelStats → NoiseAnswer
+measured n c = record { number = n; noise = c }
+
+-- ---- each answer
+
+-- `solve`, `finish`, `least_squares`
+abbrev pub solveAnswer : Outcome → SolveAnswer
+solveAnswer solving.Solved = solution 0 true
+solveAnswer solving.NoSolution = solution 0 false
+solveAnswer (solving.Refused n) = solution n false
+
+-- `correct`
+abbrev pub linearAnswer : Correction → LinearAnswer
+linearAnswer (correction.Refused n) = corrected n noColour
+linearAnswer (correction.Corrected c) = corrected 0 c
+
+-- `measure`, `measure_flat`, `nominal`
+abbrev pub noiseAnswer : Noise → NoiseAnswer
+noiseAnswer (noise.Refused n) = measured n noRecord
+noiseAnswer (noise.Record c) = measured 0 c
+
+-- `mad_sigma`
+abbrev pub sigmaAnswer : Sigma → FloatAnswer
+sigmaAnswer (sigma.Value v) = valued 0 v
+sigmaAnswer (sigma.Refused n) = valued n zero
+
+-- `sigma_ab_at`, `luma_llr`, `reliability`
+abbrev pub figureAnswer : Figure → FloatAnswer
+figureAnswer (figure.Refused n) = valued n zero
+figureAnswer (figure.Value v) = valued 0 v
+
+-- `margin`
+abbrev pub verdictAnswer : Verdict → FlagAnswer
+verdictAnswer (verdict.Refused n) = judged n false
+verdictAnswer verdict.Yes = judged 0 true
+verdictAnswer verdict.No = judged 0 false
+
+-- `palette::is_empty`
+abbrev pub flagAnswer : Flag → FlagAnswer
+flagAnswer (flag.Refused n) = judged n false
+flagAnswer (flag.Is b) = judged 0 b
+
+-- the calls that give a number: the answer, and what the contracts say of it
+abbrev pub numberAnswer : Number → NumberAnswer
+numberAnswer (number.Refused n) = counted n 0
+numberAnswer (number.Is v) = counted 0 v
+
+abbrev pub saidAnswer : Said → NumberAnswer
+saidAnswer s = numberAnswer (s .answer)
+
+-- ---- what goes in as an enum
+
+-- `chroma_bit_llrs`: the cell (cx, cy), or a ring module
+abbrev pub cellOf : Bool → ℕ → ℕ → Cell
+cellOf true cx cy = cell.At cx cy
+cellOf false cx cy = cell.Unmasked

@@ -1,0 +1,235 @@
+// What calls answer that answer an enum, as structs that C can take: document 01's number, 0 where the call is accepted, and
+// the values.
+ghost use mathlib.Core.Path.{_≡_};
+ghost use Rattle.answers.specs.Answers as told;
+ghost use Rattle.math.specs.Normal as normal;
+ghost use Rattle.exports.specs.Replies as spec;
+use answers::Number;
+use color::Linear;
+use color::palette::Flag;
+use illum::Correction;
+use math::Added;
+use math::Outcome;
+use modulate::Cell;
+use order::Sigma;
+use stats::ChannelStats;
+use stats::Figure;
+use stats::Noise;
+use stats::Verdict;
+
+// Whether a linear system was solved.
+#[repr(C)]
+pub struct SolveAnswer {
+    pub number: u32,
+    pub solved: bool,
+}
+
+// A whole number.
+#[repr(C)]
+pub struct NumberAnswer {
+    pub number: u32,
+    pub value: usize,
+}
+
+// Yes or no.
+#[repr(C)]
+pub struct FlagAnswer {
+    pub number: u32,
+    pub yes: bool,
+}
+
+// A float.
+#[repr(C)]
+pub struct FloatAnswer {
+    pub number: u32,
+    pub value: f32,
+}
+
+// A colour.
+#[repr(C)]
+pub struct LinearAnswer {
+    pub number: u32,
+    pub colour: Linear,
+}
+
+// A noise record.
+#[repr(C)]
+pub struct NoiseAnswer {
+    pub number: u32,
+    pub noise: ChannelStats,
+}
+
+// Of `solve`, `finish` and `least_squares`.
+pub fn solve_answer(o: Outcome) -> SolveAnswer
+    ensures { λ r. ⌜ r ≡ spec.solveAnswer o ⌝ }
+{
+    match o {
+        Outcome::Solved => SolveAnswer {
+            number: 0,
+            solved: true,
+        },
+        Outcome::NoSolution => SolveAnswer {
+            number: 0,
+            solved: false,
+        },
+        Outcome::Refused(n) => SolveAnswer {
+            number: n,
+            solved: false,
+        },
+    }
+}
+
+// Of `correct`.
+pub fn linear_answer(o: Correction) -> LinearAnswer
+    ensures { λ r. ⌜ r ≡ spec.linearAnswer o ⌝ }
+{
+    match o {
+        Correction::Refused(n) => LinearAnswer {
+            number: n,
+            colour: Linear {
+                r: 0.0,
+                g: 0.0,
+                b: 0.0,
+            },
+        },
+        Correction::Corrected(c) => LinearAnswer {
+            number: 0,
+            colour: c,
+        },
+    }
+}
+
+// Of `measure`, `measure_flat` and `nominal`.
+pub fn noise_answer(o: Noise) -> NoiseAnswer
+    ensures { λ r. ⌜ r ≡ spec.noiseAnswer o ⌝ }
+{
+    match o {
+        Noise::Refused(n) => NoiseAnswer {
+            number: n,
+            noise: ChannelStats {
+                l0: 0.0,
+                l1: 0.0,
+                sigma_l: 0.0,
+                sigma_ab: 0.0,
+                sigma_ab_dark: 0.0,
+                sigma_ab_light: 0.0,
+                samples: 0,
+            },
+        },
+        Noise::Record(c) => NoiseAnswer {
+            number: 0,
+            noise: c,
+        },
+    }
+}
+
+// Of the calls that write what they are lent: document 01's number.
+pub fn outcome_number(o: answers::Outcome) -> u32
+    ensures { λ r. ⌜ r ≡ told.outcomeNumber o ⌝ }
+{
+    match o {
+        answers::Outcome::Refused(n) => n,
+        answers::Outcome::Done => 0,
+    }
+}
+
+// Of `add_row`.
+pub fn add_number(o: Added) -> u32
+    ensures { λ r. ⌜ r ≡ normal.addedNumberOf o ⌝ }
+{
+    match o {
+        Added::Done => 0,
+        Added::Refused(n) => n,
+    }
+}
+
+// Of `mad_sigma`.
+pub fn sigma_answer(o: Sigma) -> FloatAnswer
+    ensures { λ r. ⌜ r ≡ spec.sigmaAnswer o ⌝ }
+{
+    match o {
+        Sigma::Value(v) => FloatAnswer {
+            number: 0,
+            value: v,
+        },
+        Sigma::Refused(n) => FloatAnswer {
+            number: n,
+            value: 0.0,
+        },
+    }
+}
+
+// Of `sigma_ab_at`, `luma_llr` and `reliability`.
+pub fn figure_answer(o: Figure) -> FloatAnswer
+    ensures { λ r. ⌜ r ≡ spec.figureAnswer o ⌝ }
+{
+    match o {
+        Figure::Refused(n) => FloatAnswer {
+            number: n,
+            value: 0.0,
+        },
+        Figure::Value(v) => FloatAnswer {
+            number: 0,
+            value: v,
+        },
+    }
+}
+
+// Of `margin`.
+pub fn verdict_answer(o: Verdict) -> FlagAnswer
+    ensures { λ r. ⌜ r ≡ spec.verdictAnswer o ⌝ }
+{
+    match o {
+        Verdict::Refused(n) => FlagAnswer {
+            number: n,
+            yes: false,
+        },
+        Verdict::Yes => FlagAnswer {
+            number: 0,
+            yes: true,
+        },
+        Verdict::No => FlagAnswer {
+            number: 0,
+            yes: false,
+        },
+    }
+}
+
+// Of `palette::is_empty`.
+pub fn flag_answer(o: Flag) -> FlagAnswer
+    ensures { λ r. ⌜ r ≡ spec.flagAnswer o ⌝ }
+{
+    match o {
+        Flag::Refused(n) => FlagAnswer {
+            number: n,
+            yes: false,
+        },
+        Flag::Is(b) => FlagAnswer { number: 0, yes: b },
+    }
+}
+
+// Of the calls that give a number.
+pub fn number_answer(o: Number) -> NumberAnswer
+    ensures { λ r. ⌜ r ≡ spec.numberAnswer o ⌝ }
+{
+    match o {
+        Number::Refused(n) => NumberAnswer {
+            number: n,
+            value: 0,
+        },
+        Number::Is(v) => NumberAnswer {
+            number: 0,
+            value: v,
+        },
+    }
+}
+
+// Where a chroma entry is drawn: the cell (cx, cy), or, where no mask lies on it, a ring module.
+pub fn cell_of(masked: bool, cx: u16, cy: u16) -> Cell
+    ensures { λ r. ⌜ r ≡ spec.cellOf masked cx cy ⌝ }
+{
+    if masked {
+        return Cell::At(cx, cy);
+    }
+    Cell::Unmasked
+}

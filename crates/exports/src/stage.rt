@@ -1,0 +1,206 @@
+// The illumination model, the noise record, scoring and refinement.
+ghost use mathlib.Core.Path.{_≡_};
+ghost use Rattle.demod.specs.Call as demod_call;
+ghost use Rattle.fit.specs.Fit as fit_call;
+ghost use Rattle.illum.specs.Refusals as illum_call;
+ghost use Rattle.measure.specs.Measure as measure_call;
+ghost use Rattle.refine.specs.Calls as refine_call;
+ghost use Rattle.stats.specs.Calls as stats_call;
+ghost use Rattle.exports.specs.Replies as spec;
+ghost use Rattle.exports.specs.Exits as exits;
+use super::replies;
+use super::replies::FlagAnswer;
+use super::replies::FloatAnswer;
+use super::replies::LinearAnswer;
+use super::replies::NoiseAnswer;
+use color::Lab;
+use color::Linear;
+use illum::IlluminationModel;
+use illum::Modelled;
+use stats::ChannelStats;
+
+// An observed colour at a position, corrected by the model. Refused: 8, 10.
+#[no_mangle]
+pub extern "C" fn purdolve_correct(
+    model: IlluminationModel,
+    x: f32,
+    y: f32,
+    colour: Linear,
+) -> LinearAnswer
+    ensures { λ r. ⌜ r ≡ spec.linearAnswer (illum_call.correctOf model x y colour) ⌝ }
+{
+    replies::linear_answer(illum::correct(model, x, y, colour))
+}
+
+// Fits the model to references in flat floats, eight each: x, y, the observed colour, the nominal colour. Scratch of 4 × references
+// is all zero afterwards. Refused: 2, 5, 6, 7, 8, 11; scratch is untouched then, save that 11 leaves it zero.
+#[no_mangle]
+pub extern "C" fn purdolve_fit_flat(
+    flat: &[f32],
+    side: usize,
+    version: u8,
+    scratch: &mut [f32],
+) -> Modelled
+    ensures { λ r. ⌜ fit_call.final r (now (scratch .exit)) ≡ fit_call.fitOf (fit_call.flatRequest (now (flat .entry)) side version (now (scratch .entry))) ⌝ }
+{
+    fit::fit_flat(flat, side, version, scratch)
+}
+
+// Measures the noise record from references in flat floats, corrected by the model. Scratch of 4 × references is all zero
+// afterwards. Refused: 2, 3, 5, 6, 7, 8, 10, 12; scratch is untouched then.
+#[no_mangle]
+pub extern "C" fn purdolve_measure_flat(
+    flat: &[f32],
+    side: usize,
+    model: IlluminationModel,
+    palette: &[f32],
+    hues: usize,
+    scratch: &mut [f32],
+) -> NoiseAnswer
+    ensures { λ r. ⌜ exits.exit1 r (now (scratch .exit)) ≡ exits.measureExit (measure_call.measureOf (measure_call.flatRequest (now (flat .entry)) side model (now (palette .entry)) hues (now (scratch .entry)))) ⌝ }
+{
+    replies::noise_answer(measure::measure_flat(flat, side, model, palette, hues, scratch))
+}
+
+// Scores a card: writes a luma score a module, three components of its corrected colour, and, with chroma on, log2(hues) scores a
+// cell and then, at cell size 1, a ring module. Answers document 01's number. Refused: 2, 3, 4, 5, 6, 7, 8, 9, 10, 12; nothing is
+// written then.
+#[no_mangle]
+pub extern "C" fn purdolve_score(
+    side: usize,
+    hues: usize,
+    size: usize,
+    xs: &[i32],
+    ys: &[i32],
+    grid: usize,
+    raw: &[f32],
+    cxs: &[u16],
+    cys: &[u16],
+    craw: &[f32],
+    palette: &[f32],
+    model: IlluminationModel,
+    noise: ChannelStats,
+    luma: &mut [f32],
+    colours: &mut [f32],
+    chroma: &mut [f32],
+) -> u32
+    ensures { λ r. ⌜ exits.exit3 r (now (luma .exit)) (now (colours .exit)) (now (chroma .exit)) ≡ exits.scoreExit (demod_call.scoredOf (demod_call.request side hues size (now (xs .entry)) (now (ys .entry)) grid (now (raw .entry)) (now (cxs .entry)) (now (cys .entry)) (now (craw .entry)) (now (palette .entry)) model noise (now (luma .entry)) (now (colours .entry)) (now (chroma .entry)))) ⌝ }
+{
+    replies::outcome_number(demod::score(
+        side,
+        hues,
+        size,
+        xs,
+        ys,
+        grid,
+        raw,
+        cxs,
+        cys,
+        craw,
+        palette,
+        model,
+        noise,
+        luma,
+        colours,
+        chroma,
+    ))
+}
+
+// Refines the luma scores of the listed modules by their corrected colours. The scratch is zero afterwards in its first
+// (side + 12)² elements. Answers document 01's number. Refused: 2, 3, 5, 6, 7, 8, 9; nothing is written then.
+#[no_mangle]
+pub extern "C" fn purdolve_add_local_luma(
+    luma: &mut [f32],
+    side: usize,
+    hues: usize,
+    xs: &[i32],
+    ys: &[i32],
+    grid: usize,
+    colours: &[f32],
+    palette: &[f32],
+    noise: ChannelStats,
+    scratch: &mut [f32],
+) -> u32
+    ensures { λ r. ⌜ exits.exit2 r (now (luma .exit)) (now (scratch .exit)) ≡ exits.refineExit (refine_call.refineOf (refine_call.request (now (luma .entry)) side hues (now (xs .entry)) (now (ys .entry)) grid (now (colours .entry)) (now (palette .entry)) noise (now (scratch .entry)))) ⌝ }
+{
+    replies::outcome_number(refine::add_local_luma(
+        luma,
+        side,
+        hues,
+        xs,
+        ys,
+        grid,
+        colours,
+        palette,
+        noise,
+        scratch,
+    ))
+}
+
+// The model that corrects nothing, with 4 terms, for a card of this side. Refused: 2.
+#[no_mangle]
+pub extern "C" fn purdolve_identity(side: usize) -> Modelled
+    ensures { λ r. ⌜ r ≡ illum_call.identityOf side ⌝ }
+{
+    illum::identity(side)
+}
+
+// The noise record to fall back on: the palette's own levels, sigmas 6, samples 0. Refused: 3, 5, 8.
+#[no_mangle]
+pub extern "C" fn purdolve_nominal(palette: &[f32], hues: usize) -> NoiseAnswer
+    ensures { λ r. ⌜ r ≡ spec.noiseAnswer (stats_call.nominalAnswer (now (palette .entry)) hues) ⌝ }
+{
+    replies::noise_answer(ChannelStats::nominal(palette, hues))
+}
+
+// The chroma noise at lightness l. Refused: 8, 9.
+#[no_mangle]
+pub extern "C" fn purdolve_sigma_ab_at(noise: ChannelStats, l: f32) -> FloatAnswer
+    ensures { λ r. ⌜ r ≡ spec.figureAnswer (stats_call.sigmaAbAnswer noise l) ⌝ }
+{
+    replies::figure_answer(noise.sigma_ab_at(l))
+}
+
+// The log-likelihood ratio of a luma sample, positive for dark. Refused: 8, 9.
+#[no_mangle]
+pub extern "C" fn purdolve_luma_llr(noise: ChannelStats, l: f32) -> FloatAnswer
+    ensures { λ r. ⌜ r ≡ spec.figureAnswer (stats_call.lumaLlrAnswer noise l) ⌝ }
+{
+    replies::figure_answer(noise.luma_llr(l))
+}
+
+// How much to believe a sample, from 0 to 1. Refused: 3, 5, 8, 9.
+#[no_mangle]
+pub extern "C" fn purdolve_reliability(
+    noise: ChannelStats,
+    sample: Lab,
+    palette: &[f32],
+    hues: usize,
+) -> FloatAnswer
+    ensures { λ r. ⌜ r ≡ spec.figureAnswer (stats_call.reliabilityAnswer noise sample (now (palette .entry)) hues) ⌝ }
+{
+    replies::figure_answer(noise.reliability(sample, palette, hues))
+}
+
+// Writes the log-likelihood of each hue, up to a constant that all share, to the front of `out`. Answers document 01's number.
+// Refused: 3, 5, 8, 9; nothing is written then.
+#[no_mangle]
+pub extern "C" fn purdolve_hue_log_likelihoods(
+    noise: ChannelStats,
+    sample: Lab,
+    palette: &[f32],
+    hues: usize,
+    out: &mut [f32],
+) -> u32
+    ensures { λ r. ⌜ exits.exit1 r (now (out .exit)) ≡ exits.writeExit (stats_call.likelihoodsAnswer noise sample (now (palette .entry)) hues (now (out .entry))) ⌝ }
+{
+    replies::outcome_number(noise.hue_log_likelihoods(sample, palette, hues, out))
+}
+
+// The margin check. Refused: 3, 5, 8, 9.
+#[no_mangle]
+pub extern "C" fn purdolve_margin(noise: ChannelStats, palette: &[f32], hues: usize) -> FlagAnswer
+    ensures { λ r. ⌜ r ≡ spec.verdictAnswer (stats_call.marginAnswer noise (now (palette .entry)) hues) ⌝ }
+{
+    replies::verdict_answer(stats::margin(noise, palette, hues))
+}
