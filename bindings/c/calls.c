@@ -1,0 +1,404 @@
+/*
+ * Calls every function of the library once at least and compares known answers, so that a prototype
+ * that does not match the library is seen; then meets each refusal, and looks that what was lent is
+ * as it was. Exits with 0 when all is as expected.
+ */
+#include "purdolve.h"
+
+#include <math.h>
+#include <stdio.h>
+#include <string.h>
+
+static int checked, failed;
+
+#define CHECK(test)                                                                                \
+    do {                                                                                           \
+        checked++;                                                                                 \
+        if (!(test)) {                                                                             \
+            failed++;                                                                              \
+            printf("line %d: %s\n", __LINE__, #test);                                              \
+        }                                                                                          \
+    } while (0)
+
+static uint32_t bits_of(float x) {
+    uint32_t bits;
+    memcpy(&bits, &x, sizeof bits);
+    return bits;
+}
+
+static bool near(double x, double y) {
+    return fabs(x - y) < 1e-6;
+}
+
+static void floats(void) {
+    CHECK(purdolve_abs(-2.0f) == 2.0f);
+    CHECK(purdolve_abs_f64(-2.5) == 2.5);
+    CHECK(purdolve_max(1.0f, 2.0f) == 2.0f && purdolve_max(NAN, 2.0f) == 2.0f);
+    CHECK(purdolve_min(1.0f, 2.0f) == 1.0f && purdolve_min(NAN, 2.0f) == 2.0f);
+    CHECK(purdolve_clamp(5.0f, 0.0f, 1.0f) == 1.0f && isnan(purdolve_clamp(NAN, 0.0f, 1.0f)));
+    CHECK(purdolve_widen(0.5f) == 0.5);
+    CHECK(purdolve_narrow(0.1) == 0.1f && purdolve_narrow(1e300) == INFINITY);
+    CHECK(purdolve_sqrt(2.25f) == 1.5f && isnan(purdolve_sqrt(-1.0f)));
+    CHECK(purdolve_cbrt(27.0f) == 3.0f && purdolve_cbrt(-8.0f) == -2.0f);
+}
+
+static void systems(void) {
+    double a[4] = {2, 0, 0, 4}, b[2] = {2, 8}, x[3] = {7, 7, 7};
+    purdolve_solve_answer s = purdolve_solve(a, 4, b, 2, x, 3, 2);
+    CHECK(s.number == 0 && s.solved && x[0] == 1 && x[1] == 2 && x[2] == 7);
+    double zero[4] = {0};
+    s = purdolve_solve(zero, 4, b, 2, x, 3, 2);
+    CHECK(s.number == 0 && !s.solved && x[0] == 1);
+    CHECK(purdolve_solve(a, 4, b, 2, x, 3, 3).number == PURDOLVE_REFUSED_LENGTH);
+    CHECK(purdolve_solve(a, 4, b, 2, x, 3, 0).number == PURDOLVE_REFUSED_COUNT);
+    CHECK(purdolve_solve(a, 4, b, 2, x, 3, (size_t)1 << 32).number == PURDOLVE_REFUSED_LENGTH);
+
+    double rows[4] = {1, 0, 0, 1}, targets[2] = {3, 4}, y[2] = {0, 0};
+    s = purdolve_least_squares(rows, 4, targets, 2, 2, x, 3);
+    CHECK(s.number == 0 && s.solved && near(x[0], 3) && near(x[1], 4));
+    CHECK(!purdolve_least_squares(rows, 4, targets, 1, 2, y, 2).solved && y[0] == 0);
+    CHECK(purdolve_least_squares(rows, 4, targets, 2, 0, y, 2).number == PURDOLVE_REFUSED_COUNT);
+    CHECK(purdolve_least_squares(rows, 3, targets, 2, 2, y, 2).number == PURDOLVE_REFUSED_LENGTH);
+
+    double ata[324] = {0}, atb[2] = {0};
+    CHECK(purdolve_add_row(ata, atb, 2, rows, 2, 3, 2) == 0);
+    CHECK(purdolve_add_row(ata, atb, 2, rows + 2, 2, 4, 2) == 0);
+    CHECK(purdolve_add_row(ata, atb, 2, rows, 2, 3, 3) == PURDOLVE_REFUSED_LENGTH);
+    CHECK(purdolve_add_row(ata, atb, 2, rows, 2, 3, 0) == PURDOLVE_REFUSED_COUNT);
+    s = purdolve_finish(ata, atb, 2, y, 2, 2);
+    CHECK(s.number == 0 && s.solved && y[0] == x[0] && y[1] == x[1]);
+    CHECK(purdolve_finish(ata, atb, 2, y, 2, 3).number == PURDOLVE_REFUSED_LENGTH);
+}
+
+static void orders(void) {
+    float four[4] = {4, 1, 3, 2}, three[1] = {3}, ones[3] = {1, 1, 1};
+    float scratch[7] = {9, 9, 9, 9, 9, 9, 9};
+    CHECK(purdolve_median(four, 4) == 2.5f);
+    CHECK(purdolve_median(three, 1) == 3.0f && purdolve_median(three, 0) == 0.0f);
+    purdolve_float_answer m = purdolve_mad_sigma(ones, 3, scratch, 5);
+    CHECK(m.number == PURDOLVE_REFUSED_LENGTH && m.value == 0 && scratch[0] == 9);
+    m = purdolve_mad_sigma(ones, 3, scratch, 7);
+    CHECK(m.number == 0 && m.value == 0 && scratch[0] == 0 && scratch[5] == 0 && scratch[6] == 9);
+    float spread[5] = {1, 2, 3, 4, 5}, room[10];
+    CHECK(purdolve_mad_sigma(spread, 5, room, 10).value == 1.4826f);
+}
+
+static void colours(void) {
+    purdolve_srgb8 c = purdolve_from_hex(0xFF123456);
+    purdolve_srgb8 white = {255, 255, 255};
+    CHECK(c.r == 0x12 && c.g == 0x34 && c.b == 0x56 && purdolve_to_hex(c) == 0x123456);
+    CHECK(fabsf(purdolve_rec709_luma(white) - 255) < 1e-3f);
+    CHECK(purdolve_srgb_to_linear(0) == 0 && purdolve_srgb_to_linear(255) == 1);
+    CHECK(bits_of(purdolve_srgb_to_linear(9)) == 0x3B33070A);
+    purdolve_linear one = purdolve_srgb8_to_linear(white), grey = {-1, 0.5f, 2};
+    CHECK(one.r == 1 && one.g == 1 && one.b == 1);
+    purdolve_lab lab = purdolve_srgb8_to_lab(white);
+    CHECK(lab.l == 100 && lab.a == 0 && lab.b == 0);
+    lab = purdolve_linear_to_lab(one);
+    CHECK(lab.l == 100 && lab.a == 0 && lab.b == 0);
+    purdolve_xyz xyz = purdolve_linear_to_xyz(one);
+    CHECK(bits_of(xyz.x) == 0x3F735201 && bits_of(xyz.y) == 0x3F800001);
+    CHECK(bits_of(xyz.z) == 0x3F8B5EC8);
+    xyz = purdolve_lab_to_xyz(lab);
+    CHECK(xyz.x == 0.95047f && xyz.y == 1 && xyz.z == 1.08883f);
+    lab = purdolve_xyz_to_lab(xyz);
+    CHECK(lab.l == 100 && lab.a == 0 && lab.b == 0);
+    purdolve_linear back = purdolve_xyz_to_linear(xyz);
+    CHECK(near(back.r, 1) && near(back.g, 1) && near(back.b, 1));
+    back = purdolve_lab_to_linear((purdolve_lab){0, 0, 0});
+    CHECK(back.r == 0 && back.g == 0 && back.b == 0);
+    back = purdolve_clamped(grey);
+    CHECK(back.r == 0 && back.g == 0.5f && back.b == 1);
+    CHECK(purdolve_in_gamut(back) && !purdolve_in_gamut(grey));
+    CHECK(bits_of(purdolve_luminance((purdolve_linear){1, 0, 0})) == 0x3E59B3D0);
+    purdolve_lab p = {50, 3, 4}, q = {0, 0, 0};
+    CHECK(purdolve_chroma(p) == 5 && purdolve_ab_distance(p, q) == 5);
+    CHECK(purdolve_palette_len(4).value == 8 && purdolve_palette_len(3).number == 3);
+    CHECK(!purdolve_palette_is_empty(4).yes && purdolve_palette_is_empty(0).number == 3);
+    purdolve_number_answer i = purdolve_palette_index(true, 6, 4);
+    CHECK(i.number == 0 && i.value == 6 && purdolve_palette_index(true, 6, 5).number == 3);
+}
+
+static void symbols(void) {
+    CHECK(purdolve_gray(2) == 3 && purdolve_gray_inverse(3) == 2);
+    CHECK(purdolve_gray_inverse(purdolve_gray(SIZE_MAX)) == SIZE_MAX);
+    CHECK(purdolve_chroma_symbol_to_hue(3, 4).value == 2);
+    CHECK(purdolve_chroma_symbol_to_hue(3, 6).number == PURDOLVE_REFUSED_HUES);
+    CHECK(purdolve_hue_to_chroma_symbol(2, 4).value == 3);
+    CHECK(purdolve_luma_mask(0, 0, 0) && !purdolve_luma_mask(0, 1, 0));
+    CHECK(purdolve_luma_mask(8, 0, 0));
+    CHECK(purdolve_chroma_rotation(1, 2, 4).value == 3);
+    CHECK(purdolve_chroma_rotation(1024, 2, 4).number == PURDOLVE_REFUSED_PLACE);
+    CHECK(purdolve_chroma_mask_apply(3, 1, 0, 4).value == 0);
+    CHECK(purdolve_chroma_mask_apply(SIZE_MAX, 1, 0, 4).value == 0);
+    CHECK(purdolve_chroma_mask_remove(0, 1, 0, 4).value == 3);
+
+    const float ll[4] = {0, -1, -4, -9};
+    float out[3] = {7, 7, 7};
+    CHECK(purdolve_chroma_bit_llrs(ll, 3, false, 0, 0, 4, out, 3) == PURDOLVE_REFUSED_LENGTH);
+    CHECK(purdolve_chroma_bit_llrs(ll, 4, true, 1024, 0, 4, out, 3) == PURDOLVE_REFUSED_PLACE);
+    CHECK(out[0] == 7 && out[1] == 7);
+    CHECK(purdolve_chroma_bit_llrs(ll, 4, false, 1024, 0, 4, out, 3) == 0);
+    CHECK(out[0] == 4 && out[1] == 1 && out[2] == 7);
+    CHECK(purdolve_chroma_bit_llrs(ll, 4, true, 1, 0, 4, out, 3) == 0);
+    CHECK(out[0] == -1 && out[1] == 4 && out[2] == 7);
+
+    const uint8_t bits[2] = {1, 0};
+    CHECK(purdolve_symbol_of_bits(bits, 2, 4).value == 2);
+    CHECK(purdolve_symbol_of_bits(bits, 1, 4).number == PURDOLVE_REFUSED_LENGTH);
+    CHECK(purdolve_cell_hue(3, 1, 0, 4).value == 3);
+    CHECK(purdolve_ring_hue(3, 4).value == 2);
+    CHECK(purdolve_grid_level(1, 0, 0, 0) == 0 && purdolve_grid_level(1, 0, 1, 0) == 1);
+    CHECK(purdolve_ring_level(7) == 1 && purdolve_ring_level(0) == 0);
+    CHECK(purdolve_read(-1) == 1 && purdolve_read(1) == 0 && purdolve_read(NAN) == 0);
+}
+
+/* Document 01's case: side 21, one hue, a black and a white module, mask 0. */
+static const float PALETTE[10] = {0, 100, 0, 0, 0, 0, 0, 100, 0, 0};
+static const int32_t XS[2] = {0, 1}, YS[2] = {0, 0};
+static const float RAW[6] = {0, 0, 0, 1, 1, 1};
+static const uint16_t CELL[1] = {0};
+
+static const purdolve_channel_stats NOISE = {20, 80, 6, 6, 0, 0, 0};
+
+static void figures(void) {
+    purdolve_noise_answer n = purdolve_nominal(PALETTE, 10, 1);
+    CHECK(n.number == 0 && n.noise.l0 == 0 && n.noise.l1 == 100 && n.noise.sigma_l == 6);
+    CHECK(n.noise.sigma_ab == 6 && n.noise.sigma_ab_dark == 0 && n.noise.samples == 0);
+    CHECK(purdolve_nominal(PALETTE, 9, 1).number == PURDOLVE_REFUSED_LENGTH);
+    CHECK(purdolve_luma_llr(NOISE, 50).value == 0 && purdolve_luma_llr(NOISE, 44).value == 10);
+    CHECK(purdolve_luma_llr(NOISE, 20).value == 20 && isnan(purdolve_luma_llr(NOISE, NAN).value));
+    purdolve_channel_stats levels = {0, 100, 6, 6, 2, 4, 0};
+    CHECK(purdolve_sigma_ab_at(levels, 50).value == 3);
+    levels.sigma_ab_dark = 0.5f;
+    CHECK(purdolve_sigma_ab_at(levels, 50).number == PURDOLVE_REFUSED_SIGMA);
+    levels.l0 = NAN;
+    CHECK(purdolve_luma_llr(levels, 50).number == PURDOLVE_REFUSED_NUMBER);
+    purdolve_lab black = {0, 0, 0};
+    CHECK(purdolve_reliability(n.noise, black, PALETTE, 10, 1).value == 1);
+    CHECK(purdolve_reliability(n.noise, black, PALETTE, 10, 7).number == PURDOLVE_REFUSED_HUES);
+    float out[2] = {7, 7};
+    CHECK(purdolve_hue_log_likelihoods(n.noise, (purdolve_lab){0, 6, 6}, PALETTE, 10, 1, out, 2) ==
+          0);
+    CHECK(out[0] == -1 && out[1] == 7);
+    purdolve_flag_answer yes = purdolve_margin(n.noise, PALETTE, 10, 1);
+    CHECK(yes.number == 0 && yes.yes);
+    purdolve_channel_stats coarse = {47, 53, 6, 6, 0, 0, 0};
+    yes = purdolve_margin(coarse, PALETTE, 10, 1);
+    CHECK(yes.number == 0 && !yes.yes);
+}
+
+static void models(void) {
+    purdolve_modelled m = purdolve_identity(21);
+    CHECK(m.number == 0 && m.model.terms == 4 && m.model.side == 21 && m.model.kept == 0);
+    CHECK(m.model.affine_r[0] == 1 && m.model.affine_b[2] == 1 && m.model.gain_g[0] == 1);
+    CHECK(purdolve_identity(0).number == PURDOLVE_REFUSED_SIDE);
+    CHECK(purdolve_identity(1025).number == PURDOLVE_REFUSED_SIDE);
+    purdolve_linear c = {0.5f, 0.25f, 0.125f};
+    purdolve_linear_answer corrected = purdolve_correct(m.model, 3.5f, 4.5f, c);
+    CHECK(corrected.number == 0 && corrected.colour.r == 0.5f && corrected.colour.g == 0.25f);
+    CHECK(corrected.colour.b == 0.125f);
+    c.g = 2e6f;
+    CHECK(purdolve_correct(m.model, 3.5f, 4.5f, c).number == PURDOLVE_REFUSED_NUMBER);
+    c.g = 0;
+    m.model.terms = 5;
+    corrected = purdolve_correct(m.model, 3.5f, 4.5f, c);
+    CHECK(corrected.number == PURDOLVE_REFUSED_MODEL && corrected.colour.r == 0);
+
+    float flat[8] = {0}, scratch[5] = {9, 9, 9, 9, 9};
+    m = purdolve_fit_flat(flat, 8, 21, 10, scratch, 5);
+    CHECK(m.number == 0 && m.model.terms == 9 && m.model.kept == 0 && m.model.gain_r[0] == 1);
+    CHECK(scratch[0] == 0 && scratch[3] == 0 && scratch[4] == 9);
+    m = purdolve_fit_flat(flat, 0, 21, 9, scratch, 0);
+    CHECK(m.number == 0 && m.model.terms == 4);
+    CHECK(purdolve_fit_flat(flat, 7, 21, 1, scratch, 4).number == PURDOLVE_REFUSED_LENGTH);
+    flat[0] = 38;
+    CHECK(purdolve_fit_flat(flat, 8, 21, 1, scratch, 4).number == PURDOLVE_REFUSED_PLACE);
+    flat[0] = 0;
+    flat[3] = INFINITY;
+    CHECK(purdolve_fit_flat(flat, 8, 21, 1, scratch, 4).number == PURDOLVE_REFUSED_NUMBER);
+
+    purdolve_noise_answer n =
+        purdolve_measure_flat(flat, 0, 21, m.model, PALETTE, 10, 1, scratch, 4);
+    CHECK(n.number == 0 && n.noise.l1 == 100 && n.noise.sigma_ab == 6 && n.noise.samples == 0);
+    CHECK(purdolve_measure_flat(flat, 8, 21, m.model, PALETTE, 10, 1, scratch, 4).number ==
+          PURDOLVE_REFUSED_NUMBER);
+}
+
+/* Eight references whose nominal colours are too far off for a finite residual. */
+static void no_finite_fit(void) {
+    float flat[64], scratch[33];
+    for (int i = 0; i < 8; i++) {
+        float *r = flat + 8 * i;
+        r[0] = (float)(i % 3);
+        r[1] = (float)(i / 3);
+        for (int c = 2; c < 8; c++) {
+            r[c] = (float)(i * c % 5) * 6e37f;
+        }
+    }
+    for (int i = 0; i < 33; i++) {
+        scratch[i] = 9;
+    }
+    CHECK(purdolve_fit_flat(flat, 64, 21, 1, scratch, 33).number == PURDOLVE_REFUSED_FIT);
+    CHECK(scratch[0] == 0 && scratch[31] == 0 && scratch[32] == 9);
+}
+
+/* The forms on records answer as the flat ones. */
+static void records(void) {
+    purdolve_reference refs[12];
+    float scratch[49];
+    for (int i = 0; i < 12; i++) {
+        float v = (float)(i * 5 % 7) / 8;
+        purdolve_linear nominal = {v, 0.5f * v + 0.1f, (float)(i % 3) / 4};
+        purdolve_linear observed = {0.8f * v, 0.4f * v + 0.1f, (float)(i % 3) / 5};
+        refs[i] = (purdolve_reference){(float)(i % 4), (float)(i / 4), observed, nominal};
+    }
+    for (int i = 0; i < 49; i++) {
+        scratch[i] = 9;
+    }
+    CHECK(purdolve_fit(refs, 12, 21, 1, scratch, 47).number == PURDOLVE_REFUSED_LENGTH);
+    CHECK(scratch[0] == 9);
+    purdolve_modelled m = purdolve_fit(refs, 12, 21, 1, scratch, 49);
+    CHECK(m.number == 0 && m.model.kept + m.model.rejected == 12);
+    CHECK(scratch[0] == 0 && scratch[47] == 0 && scratch[48] == 9);
+    float flat[96];
+    memcpy(flat, refs, sizeof flat);
+    purdolve_modelled f = purdolve_fit_flat(flat, 96, 21, 1, scratch, 49);
+    CHECK(memcmp(&m.model, &f.model, sizeof m.model) == 0);
+    purdolve_noise_answer r = purdolve_measure(refs, 12, 21, m.model, PALETTE, 10, 1, scratch, 49);
+    purdolve_noise_answer n =
+        purdolve_measure_flat(flat, 96, 21, m.model, PALETTE, 10, 1, scratch, 49);
+    CHECK(r.number == 0 && n.number == 0 && memcmp(&r.noise, &n.noise, sizeof r.noise) == 0);
+    refs[11].observed.b = NAN;
+    CHECK(purdolve_fit(refs, 12, 21, 1, scratch, 49).number == PURDOLVE_REFUSED_NUMBER);
+}
+
+/* Little-endian numbers, one after the other. */
+static size_t put(uint8_t *file, size_t at, size_t bytes, uint32_t value) {
+    for (size_t i = 0; i < bytes; i++) {
+        file[at + i] = (uint8_t)(value >> 8 * i);
+    }
+    return at + bytes;
+}
+
+/* Document 01's case as a card file, and its listing. */
+static void card_file(void) {
+    static const uint32_t sections[5] = {8, 40, 0, 32, 0};
+    static const char listing[] = "fit 4 0 0\nL 0 0 41A00000 1\nL 1 0 C1A00000 1\n";
+    static uint8_t file[120], out[PURDOLVE_LISTING_ROOM];
+    size_t at = 0;
+    uint32_t offset = 40;
+    for (int i = 0; i < 5; i++) {
+        at = put(file, put(file, at, 4, offset), 4, sections[i]);
+        offset += sections[i];
+    }
+    at = put(file, put(file, put(file, at, 2, 21), 1, 1), 1, 1); /* side, version, hues */
+    at = put(file, put(file, put(file, at, 1, 1), 1, 0), 2, 2);  /* cell size, mask, grid */
+    for (int i = 0; i < 10; i++) {
+        at = put(file, at, 4, bits_of(PALETTE[i]));
+    }
+    for (int i = 0; i < 2; i++) {
+        at = put(file, put(file, at, 2, (uint32_t)XS[i]), 2, (uint32_t)YS[i]);
+        for (int c = 0; c < 3; c++) {
+            at = put(file, at, 4, bits_of(RAW[3 * i + c]));
+        }
+    }
+    CHECK(at == sizeof file && offset == at);
+    size_t length = purdolve_read_card(file, at, out, sizeof out);
+    CHECK(length == sizeof listing - 1 && memcmp(out, listing, length) == 0);
+    file[40] = 65;
+    length = purdolve_read_card(file, at, out, sizeof out);
+    CHECK(length == 10 && memcmp(out, "refused 1\n", length) == 0);
+    file[40] = 0;
+    length = purdolve_read_card(file, at, out, sizeof out);
+    CHECK(length == 10 && memcmp(out, "refused 2\n", length) == 0);
+    out[3] = 7;
+    CHECK(purdolve_read_card(file, at, out, 3) <= 3 && memcmp(out, "ref", 3) == 0 && out[3] == 7);
+}
+
+typedef struct {
+    float luma[3], colours[7], chroma[1];
+} outputs;
+
+static uint32_t score(size_t side, size_t hues, size_t size, size_t grid, const float *raw,
+                      size_t raw_len, purdolve_illumination_model model,
+                      purdolve_channel_stats noise, outputs *out) {
+    return purdolve_score(side, hues, size, XS, 2, YS, 2, grid, raw, raw_len, CELL, 0, CELL, 0, RAW,
+                          0, PALETTE, 10, model, noise, out->luma, 3, out->colours, 7, out->chroma,
+                          1);
+}
+
+static void stage(void) {
+    purdolve_illumination_model model = purdolve_identity(21).model;
+    purdolve_channel_stats noise = purdolve_nominal(PALETTE, 10, 1).noise;
+    outputs before, out;
+    memset(&before, 0x41, sizeof before);
+    out = before;
+
+    CHECK(score(0, 1, 1, 2, RAW, 6, model, noise, &out) == PURDOLVE_REFUSED_SIDE);
+    CHECK(score(21, 3, 1, 2, RAW, 6, model, noise, &out) == PURDOLVE_REFUSED_HUES);
+    CHECK(score(21, 1, 17, 2, RAW, 6, model, noise, &out) == PURDOLVE_REFUSED_CELL_SIZE);
+    CHECK(score(21, 1, 1, 2, RAW, 5, model, noise, &out) == PURDOLVE_REFUSED_LENGTH);
+    CHECK(score(21, 1, 1, 3, RAW, 6, model, noise, &out) == PURDOLVE_REFUSED_COUNT);
+    CHECK(score(1, 1, 1, 2, RAW, 6, model, noise, &out) == PURDOLVE_REFUSED_PLACE);
+    const float wild[6] = {0, 0, 0, 1, NAN, 1};
+    CHECK(score(21, 1, 1, 2, wild, 6, model, noise, &out) == PURDOLVE_REFUSED_NUMBER);
+    purdolve_channel_stats fine = noise;
+    fine.sigma_l = 0.5f;
+    CHECK(score(21, 1, 1, 2, RAW, 6, model, fine, &out) == PURDOLVE_REFUSED_SIGMA);
+    purdolve_illumination_model bad = model;
+    bad.flare_b[3] = NAN;
+    CHECK(score(21, 1, 1, 2, RAW, 6, bad, noise, &out) == PURDOLVE_REFUSED_MODEL);
+    bad = model;
+    bad.affine_g[1] = 1e7;
+    CHECK(score(21, 1, 1, 2, RAW, 6, bad, noise, &out) == PURDOLVE_REFUSED_CORRECTED);
+    CHECK(memcmp(&out, &before, sizeof out) == 0);
+
+    CHECK(score(21, 1, 1, 2, RAW, 6, model, noise, &out) == 0);
+    CHECK(bits_of(out.luma[0]) == 0x41A00000 && bits_of(out.luma[1]) == 0xC1A00000);
+    CHECK(out.luma[2] == before.luma[2] && out.colours[6] == before.colours[6]);
+    CHECK(out.colours[0] == 0 && out.colours[3] == 1 && out.chroma[0] == before.chroma[0]);
+
+    static float window[33 * 33 + 1];
+    window[33 * 33] = 9;
+    window[0] = 9;
+    CHECK(purdolve_add_local_luma(out.luma, 3, 21, 1, XS, 2, YS, 2, 2, out.colours, 7, PALETTE, 10,
+                                  noise, window, 33 * 33 - 1) == PURDOLVE_REFUSED_LENGTH);
+    CHECK(window[0] == 9);
+    CHECK(purdolve_add_local_luma(out.luma, 3, 21, 1, XS, 2, YS, 2, 2, out.colours, 7, PALETTE, 10,
+                                  noise, window, 33 * 33 + 1) == 0);
+    CHECK(window[0] == 0 && window[33 * 33] == 9 && out.luma[0] == 20);
+
+    CHECK(purdolve_unmask_luma(out.luma, 3, 21, XS, 2, YS, 2, 3, 0) == PURDOLVE_REFUSED_COUNT);
+    CHECK(purdolve_unmask_luma(out.luma, 3, 21, XS, 2, YS, 2, 2, 0) == 0);
+    CHECK(out.luma[0] == -20 && out.luma[1] == -20);
+    uint8_t bits[3] = {7, 7, 7};
+    CHECK(purdolve_read_list(out.luma, 2, bits, 1) == PURDOLVE_REFUSED_LENGTH && bits[0] == 7);
+    CHECK(purdolve_read_list(out.luma, 2, bits, 3) == 0);
+    CHECK(bits[0] == 1 && bits[1] == 1 && bits[2] == 7);
+
+    uint8_t levels[3] = {7, 7, 7};
+    size_t drawn[1] = {7};
+    CHECK(purdolve_draw(bits, 2, 21, 1, 1, XS, 2, YS, 2, 2, CELL, 0, CELL, 0, 0, levels, 1, drawn,
+                        1) == PURDOLVE_REFUSED_LENGTH);
+    CHECK(levels[0] == 7);
+    CHECK(purdolve_draw(bits, 2, 21, 1, 1, XS, 2, YS, 2, 2, CELL, 0, CELL, 0, 0, levels, 3, drawn,
+                        1) == 0);
+    CHECK(levels[0] == 0 && levels[1] == 1 && levels[2] == 7 && drawn[0] == 7);
+}
+
+int main(void) {
+    floats();
+    systems();
+    orders();
+    colours();
+    symbols();
+    figures();
+    models();
+    no_finite_fit();
+    records();
+    card_file();
+    stage();
+    printf("%d checks, %d failed\n", checked, failed);
+    return failed != 0;
+}

@@ -1,0 +1,39 @@
+/*
+ * Checks a palette before any card is printed: whether its inks lie far enough apart for the read
+ * guarantee, and up to which noise they do.
+ */
+#include "inks.h"
+
+#include <stdio.h>
+
+static float palette[PALETTE];
+
+/* What the margin check says; a refusal counts as no. */
+static bool in_margin(purdolve_channel_stats noise) {
+    purdolve_flag_answer margin = purdolve_margin(noise, palette, PALETTE, HUES);
+    return margin.number == PURDOLVE_ACCEPTED && margin.yes;
+}
+
+/* The largest value of one of the noise's sigmas, in steps of a quarter from 0.75, up to which it says
+   yes. The sigma is left as it was. */
+static float most(purdolve_channel_stats *noise, float *sigma) {
+    float was = *sigma, most = 0;
+    for (*sigma = 0.75f; in_margin(*noise); *sigma += 0.25f) {
+        most = *sigma;
+    }
+    *sigma = was;
+    return most;
+}
+
+int main(void) {
+    make_palette(palette);
+    for (size_t i = 0; i < COLOURS; i++) {
+        const float *lab = palette + 2 + 2 * HUES + 3 * i;
+        printf("%06X  L %5.1f  a %5.1f  b %5.1f\n", (unsigned)INKS[i], lab[0], lab[1], lab[2]);
+    }
+    purdolve_channel_stats noise = purdolve_nominal(palette, PALETTE, HUES).noise;
+    printf("nominal noise, sigmas 6: %s\n", in_margin(noise) ? "yes" : "no");
+    printf("yes up to sigma_l %.2f\n", most(&noise, &noise.sigma_l));
+    printf("yes up to sigma_ab %.2f\n", most(&noise, &noise.sigma_ab));
+    return !in_margin(noise);
+}

@@ -1,0 +1,76 @@
+//! The illumination model and its fit (`illum.rs` of the Rust).
+use crate::color::Linear;
+use crate::{Refusal, ffi};
+use alloc::vec;
+
+/// The version from which on a model's surfaces have 9 terms; below it they have 4.
+pub const BIQUADRATIC_FROM_VERSION: u8 = 10;
+
+/// One known colour, observed.
+#[repr(C)]
+#[derive(Copy, Clone, Debug)]
+pub struct Reference {
+    /// Position in modules, across; (0.5, 0.5) is the centre of module (0, 0).
+    pub x: f32,
+    /// Position in modules, down.
+    pub y: f32,
+    /// What the camera saw.
+    pub observed: Linear,
+    /// What was printed.
+    pub nominal: Linear,
+}
+
+/// A fitted correction from observed to nominal colours.
+#[repr(C)]
+#[derive(Copy, Clone, PartialEq, Debug)]
+pub struct IlluminationModel {
+    affine: [[f64; 4]; 3],
+    gain: [[f64; 9]; 3],
+    flare: [[f64; 9]; 3],
+    terms: usize,
+    side: f32,
+    /// Root mean square of the residuals of the references kept.
+    pub residual_rms: f32,
+    /// References that the fit set aside.
+    pub rejected: u32,
+    /// References that it rests on.
+    pub kept: u32,
+}
+
+impl IlluminationModel {
+    /// The model that corrects nothing. Refused: 2.
+    pub fn identity(side: u16) -> Result<IlluminationModel, Refusal> {
+        let answer = ffi::purdolve_identity(side.into());
+        Refusal::check(answer.number).map(|()| answer.model)
+    }
+
+    /// Fits the model to references. Refused: 2, 6, 7, 8 (only where a colour is not finite), 11.
+    ///
+    /// ```
+    /// use purdolve::illum::IlluminationModel;
+    /// let model = IlluminationModel::fit(&[], 21, 10)?;
+    /// assert_eq!((model.terms(), model.kept, model.rejected), (9, 0, 0));
+    /// # Ok::<(), purdolve::Refusal>(())
+    /// ```
+    pub fn fit(refs: &[Reference], side: u16, version: u8) -> Result<IlluminationModel, Refusal> {
+        let mut scratch = vec![0.0; 4 * refs.len()];
+        let answer = ffi::fit_flat(ffi::flat(refs), side.into(), version, &mut scratch);
+        Refusal::check(answer.number).map(|()| answer.model)
+    }
+
+    /// A colour observed at a position, any float, as it would be under even light. Refused: 8, 10.
+    pub fn correct(&self, x: f32, y: f32, observed: Linear) -> Result<Linear, Refusal> {
+        let answer = ffi::purdolve_correct(*self, x, y, observed);
+        Refusal::check(answer.number).map(|()| answer.colour)
+    }
+
+    /// Terms of its surfaces: 4 or 9.
+    pub fn terms(&self) -> usize {
+        self.terms
+    }
+
+    /// The side of the card that it was fitted for.
+    pub(crate) fn side(&self) -> usize {
+        self.side as usize
+    }
+}

@@ -1,0 +1,127 @@
+//! Known answers: the worked examples of the scope, and others that can be worked out by hand.
+use purdolve::color::{self, Lab, Linear, Srgb8};
+use purdolve::demod::ChannelStats;
+use purdolve::illum::{BIQUADRATIC_FROM_VERSION, IlluminationModel};
+use purdolve::math::{NormalEquations, least_squares, mad_sigma, median, solve};
+use purdolve::modulate::{
+    cell_hue, chroma_bit_llrs, grid_level, read, read_list, ring_hue, ring_level, symbol_of_bits,
+};
+use purdolve::palette::Palette;
+use purdolve::{float, mask, symbol};
+
+fn black_and_white() -> Palette {
+    Palette {
+        hues: 1,
+        lab: vec![Lab::new(0.0, 0.0, 0.0), Lab::new(100.0, 0.0, 0.0)],
+        level_l: [0.0, 100.0],
+        hue_ab: vec![[0.0, 0.0]],
+    }
+}
+
+fn stats(l0: f32, l1: f32, sigma: f32, levels: [f32; 2]) -> ChannelStats {
+    ChannelStats { l0, l1, sigma_l: sigma, sigma_ab: sigma, sigma_ab_level: levels, samples: 0 }
+}
+
+#[test]
+fn floats() {
+    assert_eq!((float::abs(-2.0), float::abs_f64(-2.5)), (2.0, 2.5));
+    assert_eq!((float::max(f32::NAN, 2.0), float::min(1.0, 2.0)), (2.0, 1.0));
+    assert_eq!((float::clamp(5.0, 0.0, 1.0), float::widen(0.5), float::narrow(0.1)), (1.0, 0.5, 0.1));
+    assert_eq!((float::sqrt(2.25), float::cbrt(27.0), float::cbrt(-8.0)), (1.5, 3.0, -2.0));
+    assert!(float::sqrt(-1.0).is_nan());
+}
+
+#[test]
+fn medians_and_deviations() {
+    assert_eq!(median(&mut []), 0.0);
+    assert_eq!(median(&mut [3.0]), 3.0);
+    assert_eq!(median(&mut [4.0, 1.0, 3.0, 2.0]), 2.5);
+    assert_eq!(mad_sigma(&[1.0, 1.0, 1.0]), 0.0);
+    assert_eq!(mad_sigma(&[]), 0.0);
+    assert_eq!(mad_sigma(&[1.0, 2.0, 3.0, 4.0, 5.0]), 1.4826);
+}
+
+#[test]
+fn linear_systems() {
+    assert_eq!(solve(&mut [2.0, 0.0, 0.0, 4.0], &mut [2.0, 8.0], 2), Ok(Some(vec![1.0, 2.0])));
+    assert_eq!(solve(&mut [0.0; 4], &mut [2.0, 8.0], 2), Ok(None));
+    let rows = [(vec![1.0, 0.0], 3.0), (vec![0.0, 1.0], 4.0), (vec![1.0, 1.0], 7.0)];
+    let x = least_squares(&rows, 2).unwrap().unwrap();
+    assert!((x[0] - 3.0).abs() < 1e-6 && (x[1] - 4.0).abs() < 1e-6);
+    let mut equations = NormalEquations::new(2);
+    for (row, target) in &rows {
+        equations.add_row(row, *target).unwrap();
+    }
+    assert_eq!(equations.finish(), Ok(Some(x)));
+    assert_eq!(least_squares(&rows[..1], 2), Ok(None));
+    assert_eq!(least_squares(&[], 4), Ok(None));
+}
+
+#[test]
+fn colours() {
+    let white = Srgb8::from_hex(0xFFFFFF);
+    assert_eq!((white, white.to_hex()), (Srgb8::new(255, 255, 255), 0xFFFFFF));
+    assert!((white.rec709_luma() - 255.0).abs() < 1e-3);
+    assert_eq!((color::srgb_to_linear(0), color::srgb_to_linear(255)), (0.0, 1.0));
+    assert_eq!(color::srgb_to_linear(9).to_bits(), 0x3B33070A);
+    assert_eq!(color::srgb8_to_linear(white), Linear::new(1.0, 1.0, 1.0));
+    assert_eq!(color::srgb8_to_lab(white), Lab::new(100.0, 0.0, 0.0));
+    assert_eq!(color::linear_to_lab(Linear::default()), Lab::default());
+    assert_eq!(color::lab_to_linear(Lab::default()), Linear::default());
+    let xyz = color::linear_to_xyz(Linear::new(1.0, 1.0, 1.0));
+    assert_eq!(xyz.map(f32::to_bits), [0x3F735201, 0x3F800001, 0x3F8B5EC8]);
+    assert_eq!(color::lab_to_xyz(Lab::new(100.0, 0.0, 0.0)), [0.95047, 1.0, 1.08883]);
+    assert_eq!(color::xyz_to_lab([0.95047, 1.0, 1.08883]), Lab::new(100.0, 0.0, 0.0));
+    assert!((color::xyz_to_linear([0.95047, 1.0, 1.08883]).g - 1.0).abs() < 1e-6);
+    let c = Linear::new(-1.0, 0.5, 2.0);
+    assert_eq!(c.clamped(), Linear::new(0.0, 0.5, 1.0));
+    assert!(c.clamped().in_gamut() && !c.in_gamut());
+    assert_eq!(Linear::new(1.0, 0.0, 0.0).luminance().to_bits(), 0x3E59B3D0);
+    assert_eq!(Lab::new(50.0, 3.0, 4.0).chroma(), 5.0);
+    assert_eq!(Lab::new(50.0, 3.0, 4.0).ab_distance(Lab::default()), 5.0);
+    let palette = black_and_white();
+    assert_eq!((palette.len(), palette.is_empty(), palette.index(true, 7)), (Ok(2), Ok(false), Ok(1)));
+}
+
+#[test]
+fn symbols_and_masks() {
+    assert_eq!((symbol::gray(2), symbol::gray_inverse(3)), (3, 2));
+    assert_eq!((symbol::chroma_symbol_to_hue(3, 4), symbol::hue_to_chroma_symbol(2, 4)), (Ok(2), Ok(3)));
+    assert!(mask::luma_mask(0, 0, 0) && !mask::luma_mask(0, 1, 0) && mask::luma_mask(8, 0, 0));
+    assert_eq!(mask::chroma_rotation(1, 2, 4), Ok(3));
+    assert_eq!((mask::chroma_mask_apply(3, 1, 0, 4), mask::chroma_mask_remove(0, 1, 0, 4)), (Ok(0), Ok(3)));
+    assert_eq!((symbol_of_bits(&[1, 0], 4), cell_hue(3, 1, 0, 4), ring_hue(3, 4)), (Ok(2), Ok(3), Ok(2)));
+    assert_eq!((grid_level(1, 0, 0, 0), ring_level(7)), (0, 1));
+    assert_eq!((read(-1.0), read(f32::NAN), read_list(&[1.0, -1.0, 0.0])), (1, 0, vec![0, 1, 0]));
+    let mut bits = vec![9.0; 7];
+    chroma_bit_llrs(&[0.0, -1.0, -4.0, -9.0], None, 4, &mut bits).unwrap();
+    assert_eq!(bits, [4.0, 1.0]);
+    chroma_bit_llrs(&[0.0, -1.0, -4.0, -9.0], Some((1, 0)), 4, &mut bits).unwrap();
+    assert_eq!(bits, [-1.0, 4.0]);
+}
+
+#[test]
+fn noise_figures() {
+    let palette = black_and_white();
+    assert_eq!(ChannelStats::nominal(&palette), Ok(stats(0.0, 100.0, 6.0, [0.0; 2])));
+    assert_eq!(stats(0.0, 100.0, 6.0, [2.0, 4.0]).sigma_ab_at(50.0), Ok(3.0));
+    let noise = stats(20.0, 80.0, 6.0, [0.0; 2]);
+    assert_eq!([50.0, 44.0, 20.0].map(|l| noise.luma_llr(l)), [Ok(0.0), Ok(10.0), Ok(20.0)]);
+    let noise = stats(0.0, 100.0, 6.0, [0.0; 2]);
+    assert_eq!(noise.reliability(Lab::default(), &palette), Ok(1.0));
+    let mut hues = vec![9.0; 7];
+    noise.hue_log_likelihoods(Lab::new(0.0, 6.0, 6.0), &palette, &mut hues).unwrap();
+    assert_eq!(hues, [-1.0]);
+    assert_eq!(noise.margin(&palette), Ok(true));
+    assert_eq!(stats(47.0, 53.0, 6.0, [0.0; 2]).margin(&palette), Ok(false));
+}
+
+#[test]
+fn models() {
+    let model = IlluminationModel::identity(21).unwrap();
+    assert_eq!((model.terms(), model.kept, model.rejected, model.residual_rms), (4, 0, 0, 0.0));
+    let colour = Linear::new(0.5, 0.25, 0.125);
+    assert_eq!(model.correct(3.5, 4.5, colour), Ok(colour));
+    assert_eq!(IlluminationModel::fit(&[], 21, BIQUADRATIC_FROM_VERSION - 1), Ok(model));
+    assert_eq!(IlluminationModel::fit(&[], 21, BIQUADRATIC_FROM_VERSION).map(|m| m.terms()), Ok(9));
+}
