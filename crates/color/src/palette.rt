@@ -108,7 +108,7 @@ pub fn linear_at(colours: &[f32], i: usize) -> Linear
     }
 }
 
-// Whether v is not finite or has a magnitude above 1,048,576, as sentence 8 has it.
+// Core: whether v is not finite or has a magnitude above 1,048,576, as sentence 8 has it.
 pub fn wild(v: f32) -> bool
     ensures { λ r. ⌜ r ≡ spec.wild v ⌝ }
 {
@@ -118,7 +118,7 @@ pub fn wild(v: f32) -> bool
     true
 }
 
-// The same of a component of a colour, as sentences 8 and 12 have it.
+// Core: the same of a component of a colour, as sentences 8 and 12 have it.
 pub fn wild_linear(c: Linear) -> bool
     ensures { λ r. ⌜ r ≡ spec.wildLinear c ⌝ }
 {

@@ -438,7 +438,7 @@ pub fn not_finite_model(m: IlluminationModel) -> bool
     not_finite(m.residual_rms)
 }
 
-// Sentence 10: the model's terms are neither 4 nor 9, its side is not a whole number from 1 to 1,024, or one of its numbers is
+// Core: sentence 10, the model's terms are neither 4 nor 9, its side is not a whole number from 1 to 1,024, or one of its numbers is
 // not finite.
 pub fn bad_model(m: IlluminationModel) -> bool
     ensures { λ r. ⌜ r ≡ badModel m ⌝ }

@@ -9,7 +9,7 @@ ghost use Rattle.limits.specs.Chroma.{log2, chromaOn, weighted, symbolBi
 
 // ---- the sentences
 
-// Sentence 2: the side is 0 or above 1,024.
+// Core: sentence 2, the side is 0 or above 1,024.
 pub fn bad_side(side: usize) -> bool
     ensures { λ r. ⌜ r ≡ badSide side ⌝ }
 {
@@ -19,7 +19,7 @@ pub fn bad_side(side: usize) -> bool
     1024 < side
 }
 
-// Sentence 3: the hue count is not 1, 2, 4, 8 or 16.
+// Core: sentence 3, the hue count is not 1, 2, 4, 8 or 16.
 pub fn bad_hues(hues: usize) -> bool
     ensures { λ r. ⌜ r ≡ badHues hues ⌝ }
 {
@@ -41,7 +41,7 @@ pub fn bad_hues(hues: usize) -> bool
     true
 }
 
-// Sentence 4: the chroma cell size is 0 or above 16.
+// Core: sentence 4, the chroma cell size is 0 or above 16.
 pub fn bad_cell_size(size: usize) -> bool
     ensures { λ r. ⌜ r ≡ badCellSize size ⌝ }
 {
@@ -51,7 +51,7 @@ pub fn bad_cell_size(size: usize) -> bool
     16 < size
 }
 
-// Sentence 6, of modules: there are more than 1,048,576, or fewer than grid modules.
+// Core: sentence 6, of modules: there are more than 1,048,576, or fewer than grid modules.
 pub fn bad_modules(modules: usize, grid: usize) -> bool
     ensures { λ r. ⌜ r ≡ badModules modules grid ⌝ }
 {
@@ -61,7 +61,7 @@ pub fn bad_modules(modules: usize, grid: usize) -> bool
     modules < grid
 }
 
-// Sentence 6, of modules and cells: the same, or there are more than 1,048,576 cells.
+// Core: sentence 6, of modules and cells: the same, or there are more than 1,048,576 cells.
 pub fn bad_counts(modules: usize, grid: usize, cells: usize) -> bool
     ensures { λ r. ⌜ r ≡ badCounts modules grid cells ⌝ }
 {
@@ -71,7 +71,7 @@ pub fn bad_counts(modules: usize, grid: usize, cells: usize) -> bool
     1048576 < cells
 }
 
-// Sentence 7, of one cell: a coordinate is above 1,023.
+// Core: sentence 7, of one cell: a coordinate is above 1,023.
 pub fn bad_cell(cx: u16, cy: u16) -> bool
     ensures { λ r. ⌜ r ≡ badCell cx cy ⌝ }
 {
@@ -96,7 +96,7 @@ pub fn bad_cells(cxs: &[u16], cys: &[u16]) -> bool
 
 // ---- the counts
 
-// The base-2 logarithm of n, rounded down, and 0 for 0: how often n can be halved before it is below 2.
+// Core: the base-2 logarithm of n, rounded down, and 0 for 0: how often n can be halved before it is below 2.
 pub fn log2(n: usize) -> usize
     ensures { λ r. ⌜ r ≡ log2 n ⌝ }
 {
@@ -109,21 +109,21 @@ pub fn log2(n: usize) -> usize
     count
 }
 
-// Whether chroma is on: cells are corrected, scored, listed and drawn.
+// Core: whether chroma is on: cells are corrected, scored, listed and drawn.
 pub fn chroma_on(hues: usize) -> bool
     ensures { λ r. ⌜ r ≡ chromaOn hues ⌝ }
 {
     1 < hues
 }
 
-// Whether luma is weighted by the reliability of a module's colour.
+// Core: whether luma is weighted by the reliability of a module's colour.
 pub fn weighted(hues: usize) -> bool
     ensures { λ r. ⌜ r ≡ weighted hues ⌝ }
 {
     1 < hues
 }
 
-// The bits of a symbol: log2 of the hue count, and 0 with chroma off.
+// Core: the bits of a symbol: log2 of the hue count, and 0 with chroma off.
 pub fn symbol_bits(hues: usize) -> usize
     ensures { λ r. ⌜ r ≡ symbolBits hues ⌝ }
 {
@@ -133,7 +133,7 @@ pub fn symbol_bits(hues: usize) -> usize
     0
 }
 
-// The modules that are listed after the grid modules; none where there are fewer modules than that.
+// Core: the modules that are listed after the grid modules; none where there are fewer modules than that.
 pub fn ring_modules(modules: usize, grid: usize) -> usize
     ensures { λ r. ⌜ r ≡ ringModules modules grid ⌝ }
 {
@@ -154,7 +154,7 @@ pub fn chroma_entries(cells: usize, ring: usize, size: usize) -> usize
     cells
 }
 
-// Whether n is below the number of places in the chroma list: one for each cell and, at cell size 1, each ring module.
+// Core: whether n is below the number of places in the chroma list: one for each cell and, at cell size 1, each ring module.
 pub fn below_entries(n: usize, cells: usize, ring: usize, size: usize) -> bool
     ensures { λ r. ⌜ r ≡ ltb n (chromaEntries cells ring size) ⌝ }
 {
@@ -167,7 +167,7 @@ pub fn below_entries(n: usize, cells: usize, ring: usize, size: usize) -> bool
     false
 }
 
-// Whether n is below the length of the chroma score list: symbol_bits for each of its places.
+// Core: whether n is below the length of the chroma score list: symbol_bits for each of its places.
 pub fn below_chroma(n: usize, hues: usize, cells: usize, ring: usize, size: usize) -> bool
     ensures { λ r. ⌜ r ≡ ltb n (chromaLength hues cells ring size) ⌝ }
 {

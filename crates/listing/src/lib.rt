@@ -217,7 +217,7 @@ pub fn listing(
     chroma_lines(out, b, places, chroma, symbols)
 }
 
-// The one line of a card that was refused by this number, and its length.
+// Core: the one line of a card that was refused by this number, and its length.
 pub fn refused_line(out: &mut [u8], number: u32) -> usize
     ensures { λ r. ⌜ text r (now (out .exit)) ≡ written (lines.refusedLine number) (text 0 (now (out .entry))) ⌝ }
 {

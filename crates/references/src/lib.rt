@@ -142,14 +142,14 @@ pub fn wild_colours(flat: &[f32], n: usize) -> bool
 
 // ---- the scratch
 
-// Sentence 5, of scratch of `lent` floats: it is shorter than 4 × n.
+// Core: sentence 5, of scratch of `lent` floats: it is shorter than 4 × n.
 pub fn short_scratch(lent: usize, n: usize) -> bool
     ensures { λ r. ⌜ r ≡ spec.shortScratch lent n ⌝ }
 {
     lent / 4 < n
 }
 
-// Sentence 6: there are more than 16,384 references.
+// Core: sentence 6, there are more than 16,384 references.
 pub fn too_many(n: usize) -> bool
     ensures { λ r. ⌜ r ≡ spec.tooMany n ⌝ }
 {

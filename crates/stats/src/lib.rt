@@ -199,7 +199,7 @@ fn put_likelihoods(sample: Lab, denom: f32, palette: &[f32], hues: usize, out: &
 
 // ---- the sentences
 
-// Sentence 5, of a palette: it is shorter than 2 + 8 × hues.
+// Core: sentence 5, of a palette: it is shorter than 2 + 8 × hues.
 pub fn short_palette(palette: &[f32], hues: usize) -> bool
     ensures { λ r. ⌜ r ≡ call.shortPalette (now (palette .entry)) hues ⌝ }
 {
@@ -219,7 +219,7 @@ fn wild_figure(v: f32) -> bool
     true
 }
 
-// Sentence 8, of a noise record.
+// Core: sentence 8, of a noise record.
 pub fn bad_noise_numbers(noise: ChannelStats) -> bool
     ensures { λ r. ⌜ r ≡ call.badNoiseNumbers noise ⌝ }
 {
@@ -251,7 +251,7 @@ fn bad_level_sigma(v: f32) -> bool
     !(0.75 <= v)
 }
 
-// Sentence 9, of a noise record.
+// Core: sentence 9, of a noise record.
 pub fn bad_sigmas(noise: ChannelStats) -> bool
     ensures { λ r. ⌜ r ≡ call.badSigmas noise ⌝ }
 {
