@@ -100,7 +100,7 @@ pub extern "C" fn purdolve_chroma_bit_llrs(
 ) -> u32
     ensures { λ r. ⌜ exits.exit1 r (now (out .exit)) ≡ exits.writeExit (scores.chromaBitLlrsOf (now (ll .entry)) (spec.cellOf masked cx cy) hues (now (out .entry))) ⌝ }
 {
-    replies::outcome_number(modulate::chroma_bit_llrs(
+    answers::outcome_number(modulate::chroma_bit_llrs(
         ll,
         replies::cell_of(masked, cx, cy),
         hues,
@@ -121,7 +121,7 @@ pub extern "C" fn purdolve_unmask_luma(
 ) -> u32
     ensures { λ r. ⌜ exits.exit1 r (now (luma .exit)) ≡ exits.writeExit (scores.unmaskLumaOf (now (luma .entry)) side (now (xs .entry)) (now (ys .entry)) grid mask) ⌝ }
 {
-    replies::outcome_number(modulate::unmask_luma(luma, side, xs, ys, grid, mask))
+    answers::outcome_number(modulate::unmask_luma(luma, side, xs, ys, grid, mask))
 }
 
 // The bit that a score stands for: 1 below zero, and else, NaN included, 0.
@@ -137,7 +137,7 @@ pub extern "C" fn purdolve_read(score: f32) -> u8
 pub extern "C" fn purdolve_read_list(scores: &[f32], bits: &mut [u8]) -> u32
     ensures { λ r. ⌜ exits.exit1 r (now (bits .exit)) ≡ exits.writeExit (reading.readListOf (now (scores .entry)) (now (bits .entry))) ⌝ }
 {
-    replies::outcome_number(modulate::read_list(scores, bits))
+    answers::outcome_number(modulate::read_list(scores, bits))
 }
 
 // The level of a grid module, 1 for light: its bit, other than 0 for 1, turned where the mask turns it.
@@ -199,7 +199,7 @@ pub extern "C" fn purdolve_draw(
 ) -> u32
     ensures { λ r. ⌜ exits.exit2 r (now (levels .exit)) (now (drawn .exit)) ≡ exits.drawExit (drawing_spec.drawOf (drawing_spec.card (now (bits .entry)) side hues size (now (xs .entry)) (now (ys .entry)) grid (now (cxs .entry)) (now (cys .entry)) mask (now (levels .entry)) (now (drawn .entry)))) ⌝ }
 {
-    replies::outcome_number(modulate::draw(
+    answers::outcome_number(modulate::draw(
         bits,
         side,
         hues,

@@ -1,7 +1,6 @@
 // What calls answer that answer an enum, as structs that C can take: document 01's number, 0 where the call is accepted, and
 // the values.
 ghost use mathlib.Core.Path.{_≡_};
-ghost use Rattle.answers.specs.Answers as told;
 ghost use Rattle.math.specs.Normal as normal;
 ghost use Rattle.exports.specs.Replies as spec;
 use answers::Number;
@@ -120,16 +119,6 @@ pub fn noise_answer(o: Noise) -> NoiseAnswer
             number: 0,
             noise: c,
         },
-    }
-}
-
-// Of the calls that write what they are lent: document 01's number.
-pub fn outcome_number(o: answers::Outcome) -> u32
-    ensures { λ r. ⌜ r ≡ told.outcomeNumber o ⌝ }
-{
-    match o {
-        answers::Outcome::Refused(n) => n,
-        answers::Outcome::Done => 0,
     }
 }
 

@@ -86,7 +86,7 @@ pub extern "C" fn purdolve_score(
 ) -> u32
     ensures { λ r. ⌜ exits.exit3 r (now (luma .exit)) (now (colours .exit)) (now (chroma .exit)) ≡ exits.scoreExit (demod_call.scoredOf (demod_call.request side hues size (now (xs .entry)) (now (ys .entry)) grid (now (raw .entry)) (now (cxs .entry)) (now (cys .entry)) (now (craw .entry)) (now (palette .entry)) model noise (now (luma .entry)) (now (colours .entry)) (now (chroma .entry)))) ⌝ }
 {
-    replies::outcome_number(demod::score(
+    answers::outcome_number(demod::score(
         side,
         hues,
         size,
@@ -123,7 +123,7 @@ pub extern "C" fn purdolve_add_local_luma(
 ) -> u32
     ensures { λ r. ⌜ exits.exit2 r (now (luma .exit)) (now (scratch .exit)) ≡ exits.refineExit (refine_call.refineOf (refine_call.request (now (luma .entry)) side hues (now (xs .entry)) (now (ys .entry)) grid (now (colours .entry)) (now (palette .entry)) noise (now (scratch .entry)))) ⌝ }
 {
-    replies::outcome_number(refine::add_local_luma(
+    answers::outcome_number(refine::add_local_luma(
         luma,
         side,
         hues,
@@ -194,7 +194,7 @@ pub extern "C" fn purdolve_hue_log_likelihoods(
 ) -> u32
     ensures { λ r. ⌜ exits.exit1 r (now (out .exit)) ≡ exits.writeExit (stats_call.likelihoodsAnswer noise sample (now (palette .entry)) hues (now (out .entry))) ⌝ }
 {
-    replies::outcome_number(noise.hue_log_likelihoods(sample, palette, hues, out))
+    answers::outcome_number(noise.hue_log_likelihoods(sample, palette, hues, out))
 }
 
 // The margin check. Refused: 3, 5, 8, 9.
