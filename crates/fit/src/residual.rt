@@ -40,7 +40,7 @@ fn residual(m: IlluminationModel, flat: &[f32], i: usize) -> f32
     distance(c, references::nominal_at(flat, i))
 }
 
-// Writes the residuals of n references, rejected ones too.
+// Core: writes the residuals of n references, rejected ones too.
 pub fn write_residuals(out: &mut [f32], m: IlluminationModel, flat: &[f32], n: usize)
     requires { ⌜ (length (now out) ≡ n) × (8 * n ≤ length (now flat)) ⌝ }
     ensures { λ _. ⌜ now (out .exit) ≡ spec.residualsOf m (now (flat .entry)) n ⌝ }
@@ -50,7 +50,7 @@ pub fn write_residuals(out: &mut [f32], m: IlluminationModel, flat: &[f32], n: u
     }
 }
 
-// Whether one of n residuals is not finite.
+// Core: whether one of n residuals is not finite.
 pub fn not_finite_in(l: &[f32], n: usize) -> bool
     requires { ⌜ n ≤ length (now l) ⌝ }
     ensures { λ r. ⌜ r ≡ notFiniteUpTo n (now (l .entry)) ⌝ }
@@ -97,7 +97,7 @@ fn at_least_one(k: usize) -> usize
     k
 }
 
-// The root of the mean square of the live ones of n residuals.
+// Core: the root of the mean square of the live ones of n residuals.
 pub fn residual_rms(residuals: &[f32], live: &[f32], n: usize) -> f32
     requires { ⌜ (n ≤ 16384) × (n ≤ length (now residuals)) × (n ≤ length (now live)) ⌝ }
     ensures { λ r. ⌜ r ≡ spec.rmsOf (now (residuals .entry)) (now (live .entry)) n ⌝ }
@@ -108,7 +108,7 @@ pub fn residual_rms(residuals: &[f32], live: &[f32], n: usize) -> f32
 
 // ---- rejection
 
-// Marks every reference live.
+// Core: marks every reference live.
 pub fn revive(live: &mut [f32])
     ensures { λ _. ⌜ now (live .exit) ≡ allLive (length (now (live .entry))) ⌝ }
 {
@@ -137,7 +137,7 @@ fn deviate_up(t: &mut [f32], n: usize, m: f32)
     }
 }
 
-// The scaled median absolute deviation of the first half of t, found in its second half: `order::mad_sigma` in place.
+// Core: the scaled median absolute deviation of the first half of t, found in its second half: `order::mad_sigma` in place.
 pub fn sigma_in(t: &mut [f32], n: usize) -> f32
     requires { ⌜ (1 ≤ n) × (length (now t) ≡ 2 * n) ⌝ }
     ensures { λ r. ⌜ (r ≡ sigmaOf (take n (now (t .entry)))) × (take n (now (t .exit)) ≡ take n (now (t .entry))) ⌝ }
@@ -148,7 +148,7 @@ pub fn sigma_in(t: &mut [f32], n: usize) -> f32
     1.4826 * order::median(&mut t[n..])
 }
 
-// 3 × sigma, sigma being at least 1e-4.
+// Core: 3 × sigma, sigma being at least 1e-4.
 pub fn limit(sigma: f32) -> f32
     ensures { λ r. ⌜ r ≡ spec.threeSigma sigma ⌝ }
 {
@@ -170,7 +170,7 @@ fn reject_at(t: &mut [f32], n: usize, limit: f32, i: usize, rejected: usize) -> 
     rejected
 }
 
-// Drops the references whose residual is above the limit, in list order, up to a quarter, and says how many.
+// Core: drops the references whose residual is above the limit, in list order, up to a quarter, and says how many.
 pub fn reject(t: &mut [f32], n: usize, limit: f32) -> usize
     requires { ⌜ length (now t) ≡ 2 * n ⌝ }
     ensures { λ r. ⌜ (rejection (take n (now (t .exit))) r ≡ spec.rejectAbove (drop n (now (t .entry))) limit n (take n (now (t .entry)))) × (r ≤ n) ⌝ }
