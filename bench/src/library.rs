@@ -66,6 +66,14 @@ pub struct Stats {
 }
 
 #[repr(C)]
+pub struct Reference {
+    pub x: f32,
+    pub y: f32,
+    pub observed: Linear,
+    pub nominal: Linear,
+}
+
+#[repr(C)]
 #[derive(Clone, Copy, Debug)]
 pub struct SolveAnswer {
     pub number: u32,
@@ -128,6 +136,25 @@ unsafe extern "C" {
         scratch: *mut f32,
         scratch_len: usize,
     ) -> Modelled;
+    pub fn purdolve_fit(
+        refs: *const Reference,
+        refs_len: usize,
+        side: usize,
+        version: u8,
+        scratch: *mut f32,
+        scratch_len: usize,
+    ) -> Modelled;
+    pub fn purdolve_measure(
+        refs: *const Reference,
+        refs_len: usize,
+        side: usize,
+        model: Model,
+        palette: *const f32,
+        palette_len: usize,
+        hues: usize,
+        scratch: *mut f32,
+        scratch_len: usize,
+    ) -> NoiseAnswer;
     pub fn purdolve_measure_flat(
         flat: *const f32,
         flat_len: usize,

@@ -70,6 +70,17 @@ impl<T: Element> Lent<T> {
         outside.copied().all(|v| v.bits() == T::GUARD.bits())
     }
 
+    /// The same as before the call, to be lent once more.
+    pub fn again(&self) -> Lent<T> {
+        Lent::new(self.before.clone())
+    }
+
+    /// Two calls left the same.
+    pub fn left(&self, other: &Lent<T>) -> bool {
+        let same = self.now().iter().zip(other.now()).all(|(a, b)| a.same(*b));
+        self.guarded() && self.len() == other.len() && same
+    }
+
     /// Nothing was written: every byte is as it was.
     pub fn untouched(&self) -> bool {
         self.guarded() && self.now().iter().zip(&self.before).all(|(a, b)| a.bits() == b.bits())

@@ -66,12 +66,18 @@ fn noise(t: &mut Record, r: NoiseAnswer) -> bool {
     if r.number as u64 != t.answer.word() {
         return false;
     }
-    let floats = |s: &Stats| [s.l0, s.l1, s.sigma_l, s.sigma_ab, s.sigma_ab_dark, s.sigma_ab_light];
     if r.number != 0 {
         return floats(&r.noise).iter().all(|v| v.bits() == 0) && r.noise.samples == 0;
     }
-    let want = t.answer.stats();
-    floats(&r.noise).iter().zip(floats(&want)).all(|(a, b)| a.same(b)) && r.noise.samples == want.samples
+    same_noise(&r.noise, &t.answer.stats())
+}
+
+fn floats(s: &Stats) -> [f32; 6] {
+    [s.l0, s.l1, s.sigma_l, s.sigma_ab, s.sigma_ab_dark, s.sigma_ab_light]
+}
+
+fn same_noise(a: &Stats, b: &Stats) -> bool {
+    floats(a).iter().zip(floats(b)).all(|(v, w)| v.same(w)) && a.samples == b.samples
 }
 
 /// The number and the float, which is zero beside a refusal.
@@ -106,6 +112,11 @@ fn references(t: &mut Record) -> Lent<f32> {
     Lent::new(flat)
 }
 
+/// The same floats as records, eight each, where the last is whole: the record forms must answer as the flat ones.
+fn records(flat: &Lent<f32>) -> Option<*const Reference> {
+    (flat.len() % 8 == 0).then(|| flat.ptr().cast())
+}
+
 /// A scratch of `len` elements, each `fill`.
 fn scratch(t: &mut Record) -> Lent<f32> {
     let len = t.inputs.count();
@@ -123,6 +134,12 @@ fn fit(t: &mut Record) {
     }
     same = same && work.zeroed(t.answer.count());
     t.add(r.number, same);
+    if let Some(refs) = records(&flat) {
+        let mut other = work.again();
+        let q = unsafe { purdolve_fit(refs, flat.len() / 8, side, version, other.ptr_mut(), other.len()) };
+        let alike = q.number == r.number && same_model(&q.model, &r.model);
+        t.add(q.number, alike && other.left(&work) && flat.untouched());
+    }
 }
 
 fn figures(t: &mut Record, call: impl Fn(Stats, f32) -> FloatAnswer) {
@@ -188,6 +205,13 @@ fn measure(t: &mut Record) {
     }
     same = same && work.zeroed(t.answer.count());
     t.add(r.number, same);
+    if let Some(refs) = records(&flat) {
+        let mut other = work.again();
+        let (n, p, w) = (flat.len() / 8, palette.ptr(), other.len());
+        let q = unsafe { purdolve_measure(refs, n, side, model, p, palette.len(), hues, other.ptr_mut(), w) };
+        let alike = q.number == r.number && same_noise(&q.noise, &r.noise);
+        t.add(q.number, alike && other.left(&work) && flat.untouched() && palette.untouched());
+    }
 }
 
 fn score(t: &mut Record) {
@@ -235,7 +259,8 @@ fn score(t: &mut Record) {
     same &= cxs.untouched() && cys.untouched() && craw.untouched() && palette.untouched();
     if r != 0 {
         same &= luma.untouched() && colours.untouched() && chroma.untouched();
-    } else if same {
+    }
+    if same {
         same &= luma.is(&t.answer.singles(), xs.len()) && colours.is(&t.answer.singles(), 3 * xs.len());
         same &= chroma.is(&t.answer.singles(), chroma.len());
     }
