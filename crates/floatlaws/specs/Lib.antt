@@ -7,6 +7,7 @@
 --             result is at most the rounded one (`above`), and so for at least (`under`)
 --   Ops       each operation's result is rounded from its exact result: `add-rounds`, `sub-rounds`, `mul-rounds`, `div-rounds`, `int-rounds`
 --   Finite    `Fin f x`, a finite value of f; where an operation's result is no NaN; what lies between finite values is finite
+--   Operands  a finite result has finite operands
 --   Const     a constant of a program and its worth, by one computed test
 --   Mono      the operations keep the order
 --   Tests     the same for a program's own test `le`
@@ -24,6 +25,7 @@ pub mod Order
 pub mod Near
 pub mod Ops
 pub mod Finite
+pub mod Operands
 pub mod Const
 pub mod Mono
 pub mod Tests

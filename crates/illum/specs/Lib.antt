@@ -2,4 +2,5 @@
 pub mod Surface
 pub mod Correct
 pub mod Refusals
+pub mod Shown
 pub mod Examples

@@ -7,11 +7,11 @@ ghost use mathlib.Core.Path.{_≡_};
 ghost use mathlib.Core.Bool.{not};
 ghost use Prim.Native.Nat.{_≤_};
 ghost use lib.Ieee.Scale.{finite};
-ghost use Rattle.sentences.specs.Sentences.{refusal};
 ghost use Rattle.color.specs.Palette.{wild, wildLinear};
 ghost use Rattle.illum.specs.Surface.{termsUsed, basisAt, summed, isHeld, holdGain, inverted, deshade, normalised};
 ghost use Rattle.illum.specs.Correct as spec;
-ghost use Rattle.illum.specs.Refusals.{badTerms, badModelSide, notFinite4, notFiniteUpTo, notFiniteAffine, notFiniteGains, notFiniteFlares, notFiniteModel, badModel, identityOf, sentencesOf, correctOf};
+ghost use Rattle.illum.specs.Refusals.{badTerms, badModelSide, notFinite4, notFiniteUpTo, notFiniteAffine, notFiniteGains, notFiniteFlares, notFiniteModel, badModel, identityOf, correctOf};
+ghost use Rattle.illum.specs.Shown.{leavesOpen};
 use color::Linear;
 
 // A fitted correction from observed to nominal linear light. The affine part is three rows of four; a gain and a flare surface
@@ -519,17 +519,27 @@ pub fn identity(side: usize) -> Modelled
     }
 }
 
-// The number of the first sentence that a colour or a model breaks, or 0.
-fn refused(model: IlluminationModel, colour: Linear) -> u32
-    ensures { λ r. ⌜ r ≡ refusal (sentencesOf model colour) ⌝ }
+// Whether a corrected colour leaves it open that a number of its model is not finite. Such a number makes a component wild or an
+// inverse 0, save for the residual.
+fn leaves_open(d: Unshaded, out: Linear, rms: f32) -> bool
+    ensures { λ v. ⌜ v ≡ leavesOpen d out rms ⌝ }
 {
-    if color::palette::wild_linear(colour) {
-        return 8;
+    if color::palette::wild_linear(out) {
+        return true;
     }
-    if bad_model(model) {
-        return 10;
+    let r = d.r;
+    if r.value == 0.0 {
+        return true;
     }
-    0
+    let g = d.g;
+    if g.value == 0.0 {
+        return true;
+    }
+    let b = d.b;
+    if b.value == 0.0 {
+        return true;
+    }
+    not_finite(rms)
 }
 
 // An observed colour at a position, corrected by the model. The position is any float, and so is what comes out. Refused by 8
@@ -537,11 +547,23 @@ fn refused(model: IlluminationModel, colour: Linear) -> u32
 pub fn correct(model: IlluminationModel, x: f32, y: f32, colour: Linear) -> Correction
     ensures { λ r. ⌜ r ≡ correctOf model x y colour ⌝ }
 {
-    let n = refused(model, colour);
-    if n != 0 {
-        return Correction::Refused(n);
+    if color::palette::wild_linear(colour) {
+        return Correction::Refused(8);
     }
-    let m = corrected(model, x, y, colour);
+    if bad_terms(model.terms) {
+        return Correction::Refused(10);
+    }
+    if bad_model_side(model.side) {
+        return Correction::Refused(10);
+    }
+    let d = unshade(model, x, y, colour);
+    let m = mix(model, d);
     let out = m.colour;
+    if !leaves_open(d, out, model.residual_rms) {
+        return Correction::Corrected(out);
+    }
+    if not_finite_model(model) {
+        return Correction::Refused(10);
+    }
     Correction::Corrected(out)
 }
