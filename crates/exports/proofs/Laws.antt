@@ -15,7 +15,6 @@ use Rattle.modulate.specs.Draw as draw
 use Rattle.modulate.specs.Score as write
 use Rattle.order.specs.Deviation as deviation
 use Rattle.refine.specs.Calls as refine
-use Rattle.math.specs.declared.Added as adding
 use Rattle.math.specs.declared.Outcome as solving
 use Rattle.modulate.specs.declared.Cell as cell
 use Rattle.order.specs.declared.Sigma as sigma
@@ -47,8 +46,8 @@ pub refine-exit : {o : writing.Outcome} {r : ℕ} {a b : List Float} {f : refine
 unfolding refineExit
 refine-exit p q = rw (p, ← q)
 
-pub add-row-exit : {o : adding.Added} {r : ℕ} {a b : List Float} {f : normal.Grown} →
-    r ≡ normal.addedNumberOf o → normal.grown o (gauss.system a b) ≡ f → exit2 r a b ≡ addRowExit f
+pub add-row-exit : {o : writing.Outcome} {r : ℕ} {a b : List Float} {f : normal.Grown} →
+    r ≡ told.outcomeNumber o → normal.grown o (gauss.system a b) ≡ f → exit2 r a b ≡ addRowExit f
 unfolding addRowExit
 add-row-exit p q = rw (p, ← q)
 

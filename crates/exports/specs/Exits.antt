@@ -58,7 +58,7 @@ refineExit f = exit2 (outcomeNumber (f .answer)) (f .luma) (f .scratch)
 
 -- `add_row`
 unfoldable pub addRowExit : normal.Grown → Exit2 ℕ Float Float
-addRowExit f = exit2 (normal.addedNumberOf (f .answer)) (f .equations .a) (f .equations .b)
+addRowExit f = exit2 (outcomeNumber (f .answer)) (f .equations .a) (f .equations .b)
 
 -- `least_squares`
 unfoldable pub fittedExit : normal.Fitted → Exit1 SolveAnswer Float

@@ -43,7 +43,7 @@ pub extern "C" fn purdolve_add_row(
 ) -> u32
     ensures { λ r. ⌜ exits.exit2 r (now (ata .exit)) (now (atb .exit)) ≡ exits.addRowExit (normal.addRowOf terms (now (row .entry)) target (gauss.system (now (ata .entry)) (now (atb .entry)))) ⌝ }
 {
-    replies::add_number(math::add_row(ata, atb, row, target, terms))
+    answers::outcome_number(math::add_row(ata, atb, row, target, terms))
 }
 
 // Finishes the normal equations: 1e-9 on the diagonal, then as `purdolve_solve`. Refused: 5, 6; nothing is written then.

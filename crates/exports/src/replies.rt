@@ -1,13 +1,11 @@
 // What calls answer that answer an enum, as structs that C can take: document 01's number, 0 where the call is accepted, and
 // the values.
 ghost use mathlib.Core.Path.{_≡_};
-ghost use Rattle.math.specs.Normal as normal;
 ghost use Rattle.exports.specs.Replies as spec;
 use answers::Number;
 use color::Linear;
 use color::palette::Flag;
 use illum::Correction;
-use math::Added;
 use math::Outcome;
 use modulate::Cell;
 use order::Sigma;
@@ -119,16 +117,6 @@ pub fn noise_answer(o: Noise) -> NoiseAnswer
             number: 0,
             noise: c,
         },
-    }
-}
-
-// Of `add_row`.
-pub fn add_number(o: Added) -> u32
-    ensures { λ r. ⌜ r ≡ normal.addedNumberOf o ⌝ }
-{
-    match o {
-        Added::Done => 0,
-        Added::Refused(n) => n,
     }
 }
 

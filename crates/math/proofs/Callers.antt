@@ -12,7 +12,7 @@ use lib.Ieee.{Float}
 use Rattle.loops.specs.Loops.{Turn, go, out}
 use Rattle.sentences.specs.Sentences.{decided}
 use Rattle.math.specs.declared.Outcome.the-variants.{NoSolution, Refused}
-use Rattle.math.specs.declared.Added.the-variants as added
+use Rattle.answers.specs.declared.Outcome.the-variants as added
 use Rattle.math.specs.Gauss.{numbered, shortSystem, badSize, System, system, eliminate, unknowns, Settled, concluded, gauss, numberOf, outcomeOf, Final, final, finalOf, solveOf}
 use Rattle.math.specs.Normal.{shortPair, shortRows, addRow, finish, Grown, grown, addRowOf, finishOf, equationsOf, Fitted, fitted, fittedOf, leastSquares, leastSquaresOf}
 use Rattle.math.proofs.Fresh.{unknowns-long}

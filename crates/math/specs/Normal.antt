@@ -10,8 +10,9 @@ use Rattle.loops.specs.Loops.{forUp}
 use Rattle.sentences.specs.Sentences.{decided}
 use Rattle.math.specs.declared.Outcome.{Outcome}
 use Rattle.math.specs.declared.Outcome.the-variants.{NoSolution, Refused}
-use Rattle.math.specs.declared.Added.{Added}
-use Rattle.math.specs.declared.Added.the-variants as added
+use Rattle.answers.specs.declared.Outcome as written
+use Rattle.answers.specs.declared.Outcome.the-variants as added
+use Rattle.answers.specs.Answers.{outcomeNumber}
 use Rattle.math.specs.Gauss.{zero64, at, put, System, system, Settled, gauss, numberOf, outcomeOf, Final, final, finalOf, badSize, numbered}
 
 -- ---- one row with its target: a i j gains row i * row j, and b i gains row i * target
@@ -46,17 +47,13 @@ finish terms s x = gauss terms (nudged terms (s .a)) (s .b) x
 -- ---- the two calls
 
 -- what `add_row` gives back: its answer, with document 01's number, and the equations
-abbrev pub addedNumberOf : Added → ℕ
-addedNumberOf added.Done = 0
-addedNumberOf (added.Refused n) = n
-
 pub record Grown : Type 0 where
   pub number : ℕ
-  pub answer : Added
+  pub answer : written.Outcome
   pub equations : System
 
-abbrev pub grown : Added → System → Grown
-grown r s = record { number = addedNumberOf r; answer = r; equations = s }
+abbrev pub grown : written.Outcome → System → Grown
+grown r s = record { number = outcomeNumber r; answer = r; equations = s }
 
 -- 5: one of two slices, of p and q elements, has fewer than `terms`
 unfoldable pub shortPair : ℕ → ℕ → ℕ → Bool

@@ -22,12 +22,6 @@ pub enum Outcome {
     Refused(u32),
 }
 
-// The answer of `add_row`.
-pub enum Added {
-    Done,
-    Refused(u32),
-}
-
 // ---- a matrix
 
 // The element at row r and column k.
@@ -378,15 +372,15 @@ pub fn add_row(
     row: &[f64],
     target: f64,
     terms: usize,
-) -> Added
+) -> answers::Outcome
     ensures { λ r. ⌜ grown r (system (now (ata .exit)) (now (atb .exit))) ≡ normal.addRowOf terms (now (row .entry)) target (system (now (ata .entry)) (now (atb .entry))) ⌝ }
 {
     let refused = number(short_pair(terms, atb.len(), row.len()), bad_size(terms));
     if refused != 0 {
-        return Added::Refused(refused);
+        return answers::Outcome::Refused(refused);
     }
     add_row_core(ata, atb, row, target, terms);
-    Added::Done
+    answers::Outcome::Done
 }
 
 fn nudge_at(ata: &mut [f64], terms: usize, i: usize)

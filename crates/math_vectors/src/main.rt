@@ -1,6 +1,5 @@
 // Replays the stored answers of the crates `math` and `order`: the answer of each call, and every slice that it leaves
 // behind, every bit.
-use math::Added;
 use math::Outcome;
 use order::Sigma;
 use vectors::Compared;
@@ -87,13 +86,6 @@ fn store_matrix(matrix: &[f64], m: usize, got: &mut [u64], at: usize) -> usize {
     vectors::put(got, next, 1)
 }
 
-fn added(a: Added) -> u64 {
-    match a {
-        Added::Done => 0,
-        Added::Refused(n) => n as u64,
-    }
-}
-
 fn add_row_in(
     matrix: &mut [f64; 324],
     m: usize,
@@ -104,7 +96,7 @@ fn add_row_in(
     got: &mut [u64],
 ) -> usize {
     let answer = math::add_row(matrix, side, values, target, terms);
-    let to_matrix = vectors::put(got, 0, added(answer));
+    let to_matrix = vectors::put(got, 0, answers::outcome_number(answer) as u64);
     let to_side = store_matrix(matrix, m, got, to_matrix);
     vectors::store_f64(side, got, to_side)
 }

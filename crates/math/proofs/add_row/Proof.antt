@@ -6,7 +6,7 @@ use Prim.Native.Nat.{ℕ}
 use borrow.Author.Needs.{needs}
 use lib.ListN.{length}
 use lib.Ieee.{Float}
-use Rattle.math.specs.declared.Added.the-variants.{Done, Refused}
+use Rattle.answers.specs.declared.Outcome.the-variants.{Done, Refused}
 use Rattle.math.specs.Gauss.{numbered, badSize, system}
 use Rattle.math.specs.Normal.{shortPair, addRow, addRowOf, grown}
 use Rattle.math.proofs.Accepted.{turned-away, taken, sized, first-fits, second-fits}
