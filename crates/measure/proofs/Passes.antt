@@ -1,4 +1,4 @@
--- A record that `measure` gives passes sentences 8 and 9: its levels are medians of lightnesses within 2 ^ 36 or the palette's, its sigmas are
+-- A record that `measure` gives passes sentences 8 and 9 and holds f32 values: its levels are medians of lightnesses within 2 ^ 36 or the palette's, its sigmas are
 -- within 2 ^ 40 and at least 0.75, or 0 for a level. Assumes nothing.
 use mathlib.Core.Path.{_≡_, refl, sym, ap, _∙_}
 use mathlib.Core.Bool.{Bool, true, false, not, cond, _&&_, _||_}
@@ -34,6 +34,7 @@ use Rattle.illum.specs.Correct.{affineRow, mixed}
 use Rattle.references.specs.References.{nominalAt, wildColourAt, wildColours}
 use Rattle.stats.specs.declared.ChannelStats.{ChannelStats}
 use Rattle.stats.specs.Noise.{nominal}
+use Rattle.stats.proofs.Range.{Held}
 use Rattle.stats.specs.Calls.{wildFigure, badNoiseNumbers, badLevelSigma, badSigmas}
 use Rattle.measure.specs.Measure.{correctedAt, correctedLab, nominalLab, lightnessAt, errorAt, picked, levelOf, leastSigma, spreadAbout, lumaSigma, chromaSigma, figuresOf, recordOf, measuredOf, measured, wildCorrectedAt, wildCorrected, badCorrected, Request, sentencesOf, Final, final, turnedAway, done, measureOf}
 use Rattle.stats.specs.declared.Noise.the-variants.{Record, Refused}
@@ -45,6 +46,7 @@ use Rattle.measure.proofs.Bounds.{each-append, spread-sigma-in, error-s
 pub record Passing (r : ChannelStats) : Type 0 where
   pub eight : badNoiseNumbers r ≡ false
   pub nine : badSigmas r ≡ false
+  pub held : Held r
 
 is-true : (b : Bool) → T b → b ≡ true
 is-true true t = refl
@@ -128,6 +130,15 @@ passing r a b c d e f =
             figure-fine (r .«sigma_ab_light») (f .small),
           );
       nine = rw (not-less (r .«sigma_l») c, not-less (r .«sigma_ab») d, e .fine, f .fine);
+      held =
+          record {
+            l0 = a .is .fit;
+            l1 = b .is .fit;
+            sigma-l = c .small .is .fit;
+            sigma-ab = d .small .is .fit;
+            sigma-ab-dark = e .small .is .fit;
+            sigma-ab-light = f .small .is .fit;
+          };
     }
 
 pooled : (xs : List Float) → Each (Within 38) xs → Sigma (chromaSigma 1 leastSigma xs)
@@ -260,20 +271,20 @@ pub answer-passes : (m : IlluminationModel) (palette flat : List Float) (n side 
     → Passing (measured m palette flat n)
 answer-passes m palette flat n side hues lent ff fp a = passes m palette flat n hues ff fp (a .colours) (a .numbers) (a .corrected)
 
--- The theorem: a record that a call gives passes sentences 8 and 9.
-module _ (q : Request) (ff : F32 (q .flat)) (fp : F32 (q .palette)) (r : ChannelStats) (s : List Float) where
-  by-number : (k : ℕ) → k ≡ refusal (sentencesOf q) → final (Record r) s ≡ decided k (turnedAway q) (done q) → Passing r
+-- The theorem: a record that a call gives passes sentences 8 and 9, and holds f32 values.
+module _ (q : Request) (ff : F32 (q .flat)) (fp : F32 (q .palette)) (r : ChannelStats) where
+  by-number : (k : ℕ) → k ≡ refusal (sentencesOf q) → decided k (turnedAway q) (done q) .answer ≡ Record r → Passing r
   unfolding decided
   by-number zero e h =
-      let a : Record r ≡ Record (measured (q .model) (q .palette) (q .flat) (q .n)) = ap (λ (x : Final). x .answer) h in
       let g : r ≡ measured (q .model) (q .palette) (q .flat) (q .n) = cc in
       rw g
       (answer-passes (q .model) (q .palette) (q .flat) (q .n) (q .side) (q .hues) (length (q .scratch)) ff fp
       (accepted (q .flat) (q .cut) (q .n) (q .side) (q .model) (q .palette) (q .hues) (length (q .scratch)) zero e refl))
-  by-number (suc k) e h =
-      let a : Record r ≡ Refused (suc k) = ap (λ (x : Final). x .answer) h in
-      let z : _≡_ {A = ℕ} 0 1 = cc in absurd (omega arith)
+  by-number (suc k) e h = let z : _≡_ {A = ℕ} 0 1 = cc in absurd (omega arith)
 
-  pub given-passes : final (Record r) s ≡ measureOf q → Passing r
+  pub answered-passes : measureOf q .answer ≡ Record r → Passing r
   unfolding measureOf
-  given-passes h = by-number (refusal (sentencesOf q)) refl h
+  answered-passes h = by-number (refusal (sentencesOf q)) refl h
+
+  pub given-passes : (s : List Float) → final (Record r) s ≡ measureOf q → Passing r
+  given-passes s h = answered-passes (ap (λ (x : Final). x .answer) (sym h))

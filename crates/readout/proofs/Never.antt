@@ -188,16 +188,16 @@ reads-chroma chroma = read-done chroma (noBits (length chroma)) (omega (arith, l
 
 -- the card is listed: the refined scores, and the bits read from them unmasked
 module _ (c : Sheet) (m : IlluminationModel) (n : ChannelStats) where
-  abbrev scored : scoring.Final
+  abbrev pub scored : scoring.Final
   scored = scoring.scoredOf (toScore c m n)
 
-  abbrev luma : List Float
+  abbrev pub luma : List Float
   luma = refining.refineOf (toRefine (c .settings) (c .palette) (c .xs) (c .ys) n (scored .luma) (scored .colours)) .luma
 
-  abbrev bits : List ℕ
+  abbrev pub bits : List ℕ
   bits = readList (unmasked (c .settings .mask) (c .xs) (c .ys) (c .settings .grid) luma) (noBits (length luma))
 
-  abbrev symbols : List ℕ
+  abbrev pub symbols : List ℕ
   symbols = readList (scored .chroma) (noBits (length (scored .chroma)))
 
   pub is-listed : Held n → scored .answer ≡ outcome.Done →
