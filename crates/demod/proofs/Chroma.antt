@@ -3,6 +3,7 @@ use mathlib.Core.Path.{_≡_, sym, ap, _∙_}
 use mathlib.Core.Bool.{false}
 use mathlib.Core.List.{List}
 use Prim.Native.Nat.{ℕ, _+_, _*_, _≤_, _<_}
+use native.Mathlib.Omega.{arith}
 use native.Mathlib.Nat.{le-trans, le-of-eq, suc-mul, mul-le-mul-right}
 use lib.ListN.{length, replicate}
 use lib.Ieee.{Float, nan, binary32, ofBits}
@@ -33,6 +34,9 @@ bits-are ll cell hues out h = reached nan (bitLlrAt ll cell hues) out (log2 hues
 module _ (hues : ℕ) (g : badHues hues ≡ false) where
   pub few : hues ≤ 16
   few = hues-in hues g .most
+
+  pub few-colours : 2 * hues ≤ 32
+  few-colours = omega (arith, few)
 
   pub short : log2 hues ≤ 4
   short = hues-in hues g .bits

@@ -15,6 +15,7 @@ ghost use Rattle.limits.specs.Limits.{badHues};
 ghost use Rattle.limits.specs.Chroma.{symbolBits, chromaLength, ringModules};
 ghost use Rattle.color.specs.Color.{linearToLab};
 ghost use Rattle.color.specs.Palette.{paletteLen};
+ghost use Rattle.stats.specs.Noise.{Sigmas};
 ghost use Rattle.demod.specs.Score as spec;
 ghost use Rattle.demod.specs.Score.{Exact, sheet};
 ghost use Rattle.demod.specs.Call as call;
@@ -122,15 +123,21 @@ fn lightness(c: Linear) -> f32
     lab.l
 }
 
-// Core: the luma score of a corrected colour, of a palette that is long enough.
-pub fn luma_score(noise: ChannelStats, palette: &[f32], hues: usize, c: Linear) -> f32
-    requires { ⌜ paletteLen hues ≤ length (now palette) ⌝ }
+// Core: the luma score of a corrected colour, of a palette that is long enough and its chroma noises.
+pub fn luma_score(
+    noise: ChannelStats,
+    palette: &[f32],
+    hues: usize,
+    sigmas: &[f32],
+    c: Linear,
+) -> f32
+    requires { ⌜ (paletteLen hues ≤ length (now palette)) × Sigmas noise (now palette) hues (now sigmas) ⌝ }
     ensures { λ r. ⌜ r ≡ spec.lumaScore noise (now (palette .entry)) hues c ⌝ }
 {
     if limits::weighted(hues) {
         let lab = linear_to_lab(c);
         let llr = noise.luma_llr_of(lab.l);
-        return weigh(llr, noise.reliability_of(lab, palette, hues));
+        return weigh(llr, noise.reliability_by(lab, palette, hues, sigmas));
     }
     noise.luma_llr_of(lightness(c))
 }
@@ -149,15 +156,16 @@ fn write_module(
     noise: ChannelStats,
     palette: &[f32],
     hues: usize,
+    sigmas: &[f32],
     c: Linear,
     i: usize,
     luma: &mut [f32],
     colours: &mut [f32],
 )
-    requires { ⌜ (paletteLen hues ≤ length (now palette)) × (i < length (now luma)) × (3 * i + 2 < length (now colours)) ⌝ }
+    requires { ⌜ (paletteLen hues ≤ length (now palette)) × Sigmas noise (now palette) hues (now sigmas) × (i < length (now luma)) × (3 * i + 2 < length (now colours)) ⌝ }
     ensures { λ _. ⌜ sheet (now (luma .exit)) (now (colours .exit)) ≡ spec.writeModule noise (now (palette .entry)) hues (spec.only c) i (sheet (now (luma .entry)) (now (colours .entry))) ⌝ }
 {
-    luma[i] = luma_score(noise, palette, hues, c);
+    luma[i] = luma_score(noise, palette, hues, sigmas, c);
     put_colour(colours, i, c);
 }
 
@@ -165,6 +173,7 @@ fn write_modules(
     noise: ChannelStats,
     palette: &[f32],
     hues: usize,
+    sigmas: &[f32],
     model: IlluminationModel,
     xs: &[i32],
     ys: &[i32],
@@ -172,14 +181,14 @@ fn write_modules(
     luma: &mut [f32],
     colours: &mut [f32],
 )
-    requires { ⌜ (paletteLen hues ≤ length (now palette)) × (length (now xs) ≡ length (now ys)) × Exact (now xs) (length (now xs)) × Exact (now ys) (length (now xs)) × (3 * length (now xs) ≤ length (now raw)) × (length (now xs) ≤ length (now luma)) × (3 * length (now xs) ≤ length (now colours)) ⌝ }
+    requires { ⌜ (paletteLen hues ≤ length (now palette)) × Sigmas noise (now palette) hues (now sigmas) × (length (now xs) ≡ length (now ys)) × Exact (now xs) (length (now xs)) × Exact (now ys) (length (now xs)) × (3 * length (now xs) ≤ length (now raw)) × (length (now xs) ≤ length (now luma)) × (3 * length (now xs) ≤ length (now colours)) ⌝ }
     ensures { λ _. ⌜ sheet (now (luma .exit)) (now (colours .exit)) ≡ spec.writeModules noise (now (palette .entry)) hues (spec.moduleColour model (now (xs .entry)) (now (ys .entry)) (now (raw .entry))) (length (now (xs .entry))) (sheet (now (luma .entry)) (now (colours .entry))) ⌝ }
 {
     for i in 0..xs.len() {
         let s = module_spot(xs, ys, raw, i);
         let d = illum::unshade(model, s.x, s.y, s.colour);
         let m = illum::mix(model, d);
-        write_module(noise, palette, hues, m.colour, i, luma, colours);
+        write_module(noise, palette, hues, sigmas, m.colour, i, luma, colours);
     }
 }
 
@@ -208,17 +217,18 @@ fn put_scores(bits: &[f32], weight: f32, n: usize, at: usize, chroma: &mut [f32]
     }
 }
 
-// Core: the scores of entry e of the chroma list, for a corrected colour.
+// Core: the scores of entry e of the chroma list, for a corrected colour, the palette's chroma noises being given.
 pub fn write_entry(
     noise: ChannelStats,
     palette: &[f32],
     hues: usize,
+    sigmas: &[f32],
     cell: Cell,
     c: Linear,
     e: usize,
     chroma: &mut [f32],
 )
-    requires { ⌜ (badHues hues ≡ false) × (paletteLen hues ≤ length (now palette)) × (e * symbolBits hues + symbolBits hues ≤ length (now chroma)) ⌝ }
+    requires { ⌜ (badHues hues ≡ false) × (paletteLen hues ≤ length (now palette)) × Sigmas noise (now palette) hues (now sigmas) × (e * symbolBits hues + symbolBits hues ≤ length (now chroma)) ⌝ }
     ensures { λ _. ⌜ now (chroma .exit) ≡ spec.writeEntry noise (now (palette .entry)) hues cell c e (now (chroma .entry)) ⌝ }
 {
     let lab = linear_to_lab(c);
@@ -226,7 +236,7 @@ pub fn write_entry(
     noise.hue_log_likelihoods_of(lab, palette, hues, &mut ll);
     let mut bits = [0.0f32; 4];
     modulate::bit_llrs(&ll, cell, hues, &mut bits);
-    let weight = noise.reliability_of(lab, palette, hues);
+    let weight = noise.reliability_by(lab, palette, hues, sigmas);
     let n = limits::symbol_bits(hues);
     put_scores(&bits, weight, n, e * n, chroma);
 }
@@ -236,23 +246,25 @@ fn write_cell(
     noise: ChannelStats,
     palette: &[f32],
     hues: usize,
+    sigmas: &[f32],
     cxs: &[u16],
     cys: &[u16],
     c: Linear,
     i: usize,
     chroma: &mut [f32],
 )
-    requires { ⌜ (badHues hues ≡ false) × (paletteLen hues ≤ length (now palette)) × (i < length (now cxs)) × (i < length (now cys)) × (i * symbolBits hues + symbolBits hues ≤ length (now chroma)) ⌝ }
+    requires { ⌜ (badHues hues ≡ false) × (paletteLen hues ≤ length (now palette)) × Sigmas noise (now palette) hues (now sigmas) × (i < length (now cxs)) × (i < length (now cys)) × (i * symbolBits hues + symbolBits hues ≤ length (now chroma)) ⌝ }
     ensures { λ _. ⌜ now (chroma .exit) ≡ spec.writeCell noise (now (palette .entry)) hues (now (cxs .entry)) (now (cys .entry)) (spec.only c) i (now (chroma .entry)) ⌝ }
 {
     let cell = Cell::At(cxs[i], cys[i]);
-    write_entry(noise, palette, hues, cell, c, i, chroma);
+    write_entry(noise, palette, hues, sigmas, cell, c, i, chroma);
 }
 
 fn write_cells(
     noise: ChannelStats,
     palette: &[f32],
     hues: usize,
+    sigmas: &[f32],
     model: IlluminationModel,
     size: usize,
     cxs: &[u16],
@@ -260,14 +272,14 @@ fn write_cells(
     raw: &[f32],
     chroma: &mut [f32],
 )
-    requires { ⌜ (badHues hues ≡ false) × (paletteLen hues ≤ length (now palette)) × (size ≤ 16) × (length (now cxs) ≡ length (now cys)) × (3 * length (now cxs) ≤ length (now raw)) × (length (now cxs) * symbolBits hues ≤ length (now chroma)) ⌝ }
+    requires { ⌜ (badHues hues ≡ false) × (paletteLen hues ≤ length (now palette)) × Sigmas noise (now palette) hues (now sigmas) × (size ≤ 16) × (length (now cxs) ≡ length (now cys)) × (3 * length (now cxs) ≤ length (now raw)) × (length (now cxs) * symbolBits hues ≤ length (now chroma)) ⌝ }
     ensures { λ _. ⌜ now (chroma .exit) ≡ spec.writeCells noise (now (palette .entry)) hues (now (cxs .entry)) (now (cys .entry)) (spec.cellColour model size (now (cxs .entry)) (now (cys .entry)) (now (raw .entry))) (length (now (cxs .entry))) (now (chroma .entry)) ⌝ }
 {
     for i in 0..cxs.len() {
         let s = cell_spot(size, cxs, cys, raw, i);
         let d = illum::unshade(model, s.x, s.y, s.colour);
         let m = illum::mix(model, d);
-        write_cell(noise, palette, hues, cxs, cys, m.colour, i, chroma);
+        write_cell(noise, palette, hues, sigmas, cxs, cys, m.colour, i, chroma);
     }
 }
 
@@ -275,6 +287,7 @@ fn write_ring(
     noise: ChannelStats,
     palette: &[f32],
     hues: usize,
+    sigmas: &[f32],
     model: IlluminationModel,
     xs: &[i32],
     ys: &[i32],
@@ -284,18 +297,19 @@ fn write_ring(
     i: usize,
     chroma: &mut [f32],
 )
-    requires { ⌜ (badHues hues ≡ false) × (paletteLen hues ≤ length (now palette)) × (grid ≤ i) × (cells ≤ 1048576) × (i < length (now xs)) × (i < length (now ys)) × T (inFloat binary32 (getD (now xs) i (pos 0))) × T (inFloat binary32 (getD (now ys) i (pos 0))) × (3 * i + 2 < length (now raw)) × ((cells + (i - grid)) * symbolBits hues + symbolBits hues ≤ length (now chroma)) ⌝ }
+    requires { ⌜ (badHues hues ≡ false) × (paletteLen hues ≤ length (now palette)) × Sigmas noise (now palette) hues (now sigmas) × (grid ≤ i) × (cells ≤ 1048576) × (i < length (now xs)) × (i < length (now ys)) × T (inFloat binary32 (getD (now xs) i (pos 0))) × T (inFloat binary32 (getD (now ys) i (pos 0))) × (3 * i + 2 < length (now raw)) × ((cells + (i - grid)) * symbolBits hues + symbolBits hues ≤ length (now chroma)) ⌝ }
     ensures { λ _. ⌜ now (chroma .exit) ≡ spec.writeRing noise (now (palette .entry)) hues cells grid (spec.moduleColour model (now (xs .entry)) (now (ys .entry)) (now (raw .entry))) i (now (chroma .entry)) ⌝ }
 {
     let c = module_colour(model, xs, ys, raw, i);
     let e = cells + (i - grid);
-    write_entry(noise, palette, hues, Cell::Unmasked, c, e, chroma);
+    write_entry(noise, palette, hues, sigmas, Cell::Unmasked, c, e, chroma);
 }
 
 fn write_rings(
     noise: ChannelStats,
     palette: &[f32],
     hues: usize,
+    sigmas: &[f32],
     model: IlluminationModel,
     xs: &[i32],
     ys: &[i32],
@@ -304,7 +318,7 @@ fn write_rings(
     grid: usize,
     chroma: &mut [f32],
 )
-    requires { ⌜ (badHues hues ≡ false) × (paletteLen hues ≤ length (now palette)) × (cells ≤ 1048576) × (grid ≤ length (now xs)) × (length (now xs) ≡ length (now ys)) × Exact (now xs) (length (now xs)) × Exact (now ys) (length (now xs)) × (3 * length (now xs) ≤ length (now raw)) × ((cells + (length (now xs) - grid)) * symbolBits hues ≤ length (now chroma)) ⌝ }
+    requires { ⌜ (badHues hues ≡ false) × (paletteLen hues ≤ length (now palette)) × Sigmas noise (now palette) hues (now sigmas) × (cells ≤ 1048576) × (grid ≤ length (now xs)) × (length (now xs) ≡ length (now ys)) × Exact (now xs) (length (now xs)) × Exact (now ys) (length (now xs)) × (3 * length (now xs) ≤ length (now raw)) × ((cells + (length (now xs) - grid)) * symbolBits hues ≤ length (now chroma)) ⌝ }
     ensures { λ _. ⌜ now (chroma .exit) ≡ spec.writeRings noise (now (palette .entry)) hues cells grid (spec.moduleColour model (now (xs .entry)) (now (ys .entry)) (now (raw .entry))) (length (now (xs .entry))) (now (chroma .entry)) ⌝ }
 {
     for i in grid..xs.len() {
@@ -312,6 +326,7 @@ fn write_rings(
             noise,
             palette,
             hues,
+            sigmas,
             model,
             xs,
             ys,
@@ -329,6 +344,7 @@ fn ring_chroma(
     noise: ChannelStats,
     palette: &[f32],
     hues: usize,
+    sigmas: &[f32],
     model: IlluminationModel,
     size: usize,
     xs: &[i32],
@@ -338,7 +354,7 @@ fn ring_chroma(
     grid: usize,
     chroma: &mut [f32],
 )
-    requires { ⌜ (badHues hues ≡ false) × (paletteLen hues ≤ length (now palette)) × (cells ≤ 1048576) × (grid ≤ length (now xs)) × (length (now xs) ≡ length (now ys)) × Exact (now xs) (length (now xs)) × Exact (now ys) (length (now xs)) × (3 * length (now xs) ≤ length (now raw)) × (chromaLength hues cells (ringModules (length (now xs)) grid) size ≤ length (now chroma)) ⌝ }
+    requires { ⌜ (badHues hues ≡ false) × (paletteLen hues ≤ length (now palette)) × Sigmas noise (now palette) hues (now sigmas) × (cells ≤ 1048576) × (grid ≤ length (now xs)) × (length (now xs) ≡ length (now ys)) × Exact (now xs) (length (now xs)) × Exact (now ys) (length (now xs)) × (3 * length (now xs) ≤ length (now raw)) × (chromaLength hues cells (ringModules (length (now xs)) grid) size ≤ length (now chroma)) ⌝ }
     ensures { λ _. ⌜ now (chroma .exit) ≡ spec.ringChroma noise (now (palette .entry)) hues size cells grid (spec.moduleColour model (now (xs .entry)) (now (ys .entry)) (now (raw .entry))) (length (now (xs .entry))) (now (chroma .entry)) ⌝ }
 {
     if size == 1 {
@@ -346,6 +362,7 @@ fn ring_chroma(
             noise,
             palette,
             hues,
+            sigmas,
             model,
             xs,
             ys,
@@ -362,6 +379,7 @@ fn write_chroma(
     noise: ChannelStats,
     palette: &[f32],
     hues: usize,
+    sigmas: &[f32],
     model: IlluminationModel,
     size: usize,
     xs: &[i32],
@@ -373,15 +391,27 @@ fn write_chroma(
     craw: &[f32],
     chroma: &mut [f32],
 )
-    requires { ⌜ (badHues hues ≡ false) × (paletteLen hues ≤ length (now palette)) × (size ≤ 16) × (grid ≤ length (now xs)) × (length (now xs) ≡ length (now ys)) × Exact (now xs) (length (now xs)) × Exact (now ys) (length (now xs)) × (3 * length (now xs) ≤ length (now raw)) × (length (now cxs) ≡ length (now cys)) × (length (now cxs) ≤ 1048576) × (3 * length (now cxs) ≤ length (now craw)) × (chromaLength hues (length (now cxs)) (ringModules (length (now xs)) grid) size ≤ length (now chroma)) ⌝ }
+    requires { ⌜ (badHues hues ≡ false) × (paletteLen hues ≤ length (now palette)) × Sigmas noise (now palette) hues (now sigmas) × (size ≤ 16) × (grid ≤ length (now xs)) × (length (now xs) ≡ length (now ys)) × Exact (now xs) (length (now xs)) × Exact (now ys) (length (now xs)) × (3 * length (now xs) ≤ length (now raw)) × (length (now cxs) ≡ length (now cys)) × (length (now cxs) ≤ 1048576) × (3 * length (now cxs) ≤ length (now craw)) × (chromaLength hues (length (now cxs)) (ringModules (length (now xs)) grid) size ≤ length (now chroma)) ⌝ }
     ensures { λ _. ⌜ now (chroma .exit) ≡ spec.chromaWritten noise (now (palette .entry)) hues size grid (spec.moduleColour model (now (xs .entry)) (now (ys .entry)) (now (raw .entry))) (length (now (xs .entry))) (now (cxs .entry)) (now (cys .entry)) (spec.cellColour model size (now (cxs .entry)) (now (cys .entry)) (now (craw .entry))) (now (chroma .entry)) ⌝ }
 {
     if limits::chroma_on(hues) {
-        write_cells(noise, palette, hues, model, size, cxs, cys, craw, chroma);
+        write_cells(
+            noise,
+            palette,
+            hues,
+            sigmas,
+            model,
+            size,
+            cxs,
+            cys,
+            craw,
+            chroma,
+        );
         ring_chroma(
             noise,
             palette,
             hues,
+            sigmas,
             model,
             size,
             xs,
@@ -675,11 +705,25 @@ pub fn score(
     if n != 0 {
         return Outcome::Refused(n);
     }
-    write_modules(noise, palette, hues, model, xs, ys, raw, luma, colours);
+    let mut sigmas = [0.0f32; 32];
+    noise.palette_sigmas(palette, hues, &mut sigmas);
+    write_modules(
+        noise,
+        palette,
+        hues,
+        &sigmas,
+        model,
+        xs,
+        ys,
+        raw,
+        luma,
+        colours,
+    );
     write_chroma(
         noise,
         palette,
         hues,
+        &sigmas,
         model,
         size,
         xs,

@@ -1,9 +1,10 @@
 -- `ChannelStats` of demod.rs: what each method computes, for every float. The operations stand in the Rust's order. Definitions only.
+use mathlib.Core.Path.{_≡_}
 use mathlib.Core.Bool.{false, cond, _||_}
 use mathlib.Core.List.{List}
-use Prim.Native.Nat.{ℕ, _*_}
-use lib.ListN.{set}
-use lib.Ieee.{Float, inf, neg, le}
+use Prim.Native.Nat.{ℕ, _*_, _≤_, _<_}
+use lib.ListN.{length, getD, set}
+use lib.Ieee.{Float, nan, inf, neg, le}
 use Rattle.loops.specs.Loops.{forUp}
 use Rattle.float.specs.Select.{max, min, clamp}
 use Rattle.float.specs.Root.{sqrtOf}
@@ -52,6 +53,21 @@ weight d = whole 1 ⊘ (whole 1 ⊕ squared (squared (sqrtOf d ⊘ whole 3)))
 
 unfoldable pub reliability : ChannelStats → Lab → List Float → ℕ → Float
 reliability n sample palette hues = weight (nearest n sample palette hues)
+
+-- ---- the chroma noise of the palette's colours, which no sample changes
+
+-- that of palette colour i at its place
+unfoldable pub putSigma : ChannelStats → List Float → ℕ → ℕ → List Float → List Float
+putSigma n palette hues i sigmas = set sigmas i (sigmaAbAt n (paletteLab palette hues i .l))
+
+-- one a colour, at the front of `sigmas`
+abbrev pub paletteSigmas : ChannelStats → List Float → ℕ → List Float → List Float
+paletteSigmas n palette hues sigmas = forUp 0 (2 * hues) (putSigma n palette hues) sigmas
+
+-- they stand at the front of `sigmas`
+pub record Sigmas (n : ChannelStats) (palette : List Float) (hues : ℕ) (sigmas : List Float) : Type 0 where
+  pub long : 2 * hues ≤ length sigmas
+  pub at : (i : ℕ) → i < 2 * hues → getD sigmas i nan ≡ sigmaAbAt n (paletteLab palette hues i .l)
 
 -- ---- `hue_log_likelihoods`
 

@@ -87,11 +87,12 @@ impl ChannelStats {
         float::clamp(v, -20.0, 20.0)
     }
 
-    // The squared distance of a sample from a palette colour c, in units of the noise at c's lightness.
-    fn distance(self, sample: Lab, c: Lab) -> f32
+    // The squared distance of a sample from a palette colour c, in units of the noise at c's lightness;
+    // s_ab is the chroma noise there.
+    fn distance(self, sample: Lab, c: Lab, s_ab: f32) -> f32
+        requires { ⌜ «s_ab» ≡ spec.sigmaAbAt self (c .l) ⌝ }
         ensures { λ r. ⌜ r ≡ spec.distance self sample c ⌝ }
     {
-        let s_ab = self.sigma_ab_of(c.l);
         let dl = (sample.l - c.l) / self.sigma_l;
         let da = (sample.a - c.a) / s_ab;
         let db = (sample.b - c.b) / s_ab;
@@ -104,7 +105,8 @@ impl ChannelStats {
         ensures { λ r. ⌜ r ≡ spec.closer self sample (now (palette .entry)) hues i best ⌝ }
     {
         let c = palette_lab(palette, hues, i);
-        float::min(best, self.distance(sample, c))
+        let s_ab = self.sigma_ab_of(c.l);
+        float::min(best, self.distance(sample, c, s_ab))
     }
 
     // The distance from the nearest palette colour.
@@ -125,6 +127,62 @@ impl ChannelStats {
         ensures { λ r. ⌜ r ≡ spec.reliability self sample (now (palette .entry)) hues ⌝ }
     {
         weight(self.nearest(sample, palette, hues))
+    }
+
+    // Writes the chroma noise at the lightness of palette colour i to its place.
+    fn put_sigma(self, palette: &[f32], hues: usize, i: usize, sigmas: &mut [f32])
+        requires { ⌜ (i < 2 * hues) × (paletteLen hues ≤ length (now palette)) × (i < length (now sigmas)) ⌝ }
+        ensures { λ _. ⌜ now (sigmas .exit) ≡ spec.putSigma self (now (palette .entry)) hues i (now (sigmas .entry)) ⌝ }
+    {
+        let c = palette_lab(palette, hues, i);
+        sigmas[i] = self.sigma_ab_of(c.l);
+    }
+
+    // Core: writes the chroma noise at the lightness of each palette colour to the front of `sigmas`.
+    pub fn palette_sigmas(self, palette: &[f32], hues: usize, sigmas: &mut [f32])
+        requires { ⌜ (paletteLen hues ≤ length (now palette)) × (2 * hues ≤ length (now sigmas)) ⌝ }
+        ensures { λ _. ⌜ now (sigmas .exit) ≡ spec.paletteSigmas self (now (palette .entry)) hues (now (sigmas .entry)) ⌝ }
+    {
+        for i in 0..2 * hues {
+            self.put_sigma(palette, hues, i, sigmas);
+        }
+    }
+
+    // `closer`, the palette's chroma noises being given.
+    fn closer_by(
+        self,
+        sample: Lab,
+        palette: &[f32],
+        hues: usize,
+        sigmas: &[f32],
+        i: usize,
+        best: f32,
+    ) -> f32
+        requires { ⌜ (i < 2 * hues) × (paletteLen hues ≤ length (now palette)) × spec.Sigmas self (now palette) hues (now sigmas) ⌝ }
+        ensures { λ r. ⌜ r ≡ spec.closer self sample (now (palette .entry)) hues i best ⌝ }
+    {
+        let c = palette_lab(palette, hues, i);
+        float::min(best, self.distance(sample, c, sigmas[i]))
+    }
+
+    // `nearest`, the palette's chroma noises being given.
+    fn nearest_by(self, sample: Lab, palette: &[f32], hues: usize, sigmas: &[f32]) -> f32
+        requires { ⌜ (paletteLen hues ≤ length (now palette)) × spec.Sigmas self (now palette) hues (now sigmas) ⌝ }
+        ensures { λ r. ⌜ r ≡ spec.nearest self sample (now (palette .entry)) hues ⌝ }
+    {
+        let mut best = 1.0f32 / 0.0f32;
+        for i in 0..2 * hues {
+            best = self.closer_by(sample, palette, hues, sigmas, i, best);
+        }
+        best
+    }
+
+    // Core: `reliability_of`, the palette's chroma noises being given.
+    pub fn reliability_by(self, sample: Lab, palette: &[f32], hues: usize, sigmas: &[f32]) -> f32
+        requires { ⌜ (paletteLen hues ≤ length (now palette)) × spec.Sigmas self (now palette) hues (now sigmas) ⌝ }
+        ensures { λ r. ⌜ r ≡ spec.reliability self sample (now (palette .entry)) hues ⌝ }
+    {
+        weight(self.nearest_by(sample, palette, hues, sigmas))
     }
 
     // Twice the squared chroma noise at the sample's lightness.

@@ -29,7 +29,7 @@ module _ (n : ChannelStats) (palette : List Float) (hues size cells grid : ℕ) 
 
 write-rings-requires : tie.Need-write-rings-requires
 write-rings-requires c κs =
-    (search needs, search needs, search needs, search needs, search needs, search needs, search needs, search needs, search (long))
+    (search needs, search needs, search needs, search needs, search needs, search needs, search needs, search needs, search needs, search (long))
 
 returns : tie.Need-returns
 returns c = search (rings)

@@ -6,9 +6,11 @@ use Prim.Native.Nat.{ℕ}
 use lib.Ieee.{Float}
 use Rattle.sentences.specs.Sentences.{refusal}
 use Rattle.answers.specs.declared.Outcome.the-variants.{Refused, Done}
+use Rattle.stats.proofs.Given.{are-sigmas}
 use Rattle.demod.specs.Score.{Sheet, sheet}
 use Rattle.demod.specs.Call.{Request, sentencesOf, scoredOf, final, writtenModules, writtenChroma}
 use Rattle.demod.proofs.Accepted.{turned-away, taken, accepted}
+use Rattle.demod.proofs.Chroma.{few-colours}
 use Rattle.demod.proofs.score.Statement.{statement}
 use Rattle.demod.proofs.score.Tie as tie
 
@@ -25,19 +27,28 @@ returns c = search (away)
 returns-2 : tie.Need-returns-2
 returns-2 c = search (wrote)
 
+palette-sigmas-requires : tie.Need-palette-sigmas-requires
+palette-sigmas-requires c κs =
+    let a = accepted _ _ (c .before .before .refused .ensures) (c .before .if1 .left) in
+    (a .lengths .palette-long, few-colours _ (a .hues-good))
+
 write-modules-requires : tie.Need-write-modules-requires
 write-modules-requires c κs =
-    let a = accepted _ _ (c .before .before .before .refused .ensures) (c .before .before .if1 .left) in
-    (a .lengths .palette-long, a .lengths .modules, a .xs-exact, a .ys-exact, a .lengths .raw-three, a .lengths .scores, a .lengths .places)
+    let a = accepted _ _ (c .before .before .before .before .before .before .before .refused .ensures) (c .before .before .before .before .before .before .if1 .left) in
+    let l = a .lengths in
+    let s = are-sigmas _ _ _ _ (few-colours _ (a .hues-good)) _ (c .before .before .before .before .palette-sigmas .ensures) in
+    (l .palette-long, s, l .modules, a .xs-exact, a .ys-exact, l .raw-three, l .scores, l .places)
 
 write-chroma-requires : tie.Need-write-chroma-requires
 write-chroma-requires c κs =
-    let a = accepted _ _ (c .before .before .before .before .before .before .before .before .before .refused .ensures) (c .before .before .before .before .before .before .before .before .if1 .left) in
+    let a = accepted _ _ (c .before .before .before .before .before .before .before .before .before .before .before .before .before .before .refused .ensures) (c .before .before .before .before .before .before .before .before .before .before .before .before .before .if1 .left) in
     let l = a .lengths in
-    (a .hues-good, l .palette-long, a .size-most, a .counts .1, l .modules, a .xs-exact, a .ys-exact, l .raw-three, l .cells, a .counts .2, l .craw-three, l .chroma-long)
+    let s = are-sigmas _ _ _ _ (few-colours _ (a .hues-good)) _ (c .before .before .before .before .before .before .before .before .before .before .before .palette-sigmas .ensures) in
+    (a .hues-good, l .palette-long, s, a .size-most, a .counts .1, l .modules, a .xs-exact, a .ys-exact, l .raw-three, l .cells, a .counts .2, l .craw-three, l .chroma-long)
 
 pub score-spec : {M : Type 1} → statement M
 score-spec =
     tie.close
-    (tie.spec (λ c κs. search needs) (λ c. search needs) (λ c. search needs) (λ c. search needs) returns write-modules-requires write-chroma-requires
-    (λ c. search needs) (λ c. search needs) (λ c. search needs) returns-2)
+    (tie.spec (λ c κs. search needs) (λ c. search needs) (λ c. search needs) (λ c. search needs) returns (λ c. search needs) palette-sigmas-requires
+    (λ c. search needs) write-modules-requires (λ c. search needs) write-chroma-requires (λ c. search needs) (λ c. search needs) (λ c. search needs)
+    returns-2)

@@ -12,19 +12,21 @@ use Rattle.demod.proofs.write_cells.Statement.{statement}
 use Rattle.demod.proofs.write_cells.Tie as tie
 
 abbrev Inv : tie.InvT-loop
-Inv noise palette hues model size cxs cys raw chroma₀ i₀ n chroma i =
+Inv noise palette hues sigmas model size cxs cys raw chroma₀ i₀ n chroma i =
     (n ≡ length cxs) × (length chroma ≡ length chroma₀) ×
     Left (writeCell noise palette hues cxs cys (cellColour model size cxs cys raw)) n i chroma (writeCells noise palette hues cxs cys (cellColour model size cxs cys raw) (length cxs) chroma₀)
 
 abbrev μ : tie.MeasureT-loop
-μ noise palette hues model size cxs cys raw chroma₀ i₀ n chroma i = n - i
+μ noise palette hues sigmas model size cxs cys raw chroma₀ i₀ n chroma i = n - i
 
 -- n is the number of cells, and the list keeps its length
 cell-entry : (hues i n cells long lent : ℕ) → i < n → n ≡ cells → long ≡ lent → cells * symbolBits hues ≤ lent → i * symbolBits hues + symbolBits hues ≤ long
 cell-entry hues i n cells long lent h e f l = entry-of hues i cells long (rw e at h) (rw f l)
 
 write-cell-requires : tie.Need-write-cell-requires Inv μ
-write-cell-requires c κs = (search needs, search needs, search needs, search needs, search (cell-entry))
+write-cell-requires c κs =
+    let p = c .before .before .before .before .before .before .before .before .before .before .before .before .pre in
+    (search (p), search (p), search (p), search needs, search needs, search (cell-entry))
 
 loop-again : tie.Need-loop-again Inv μ
 loop-again c =
@@ -36,13 +38,7 @@ add-i c =
     search (
       c .before .before .before .before .before .before .before .loop-test,
       c .before .before .before .before .before .before .before .before .loop,
-      c .before .before .before .before .before .before .before .before .before .slice-known,
-      c .before .before .before .before .before .before .before .before .before .before .shared-slice-known4,
-      c .before .before .before .before .before .before .before .before .before .before .before .shared-slice-known3,
-      c .before .before .before .before .before .before .before .before .before .before .before .before .shared-slice-known2,
-      c .before .before .before .before .before .before .before .before .before .before .before .before .before .shared-slice-known,
-      c .before .before .before .before .before .before .before .before .before .before .before .before .before .before .good,
-      c .before .before .before .before .before .before .before .before .before .before .before .before .before .before .fits,
+      c .before .before .before .before .before .before .before .before .before .before .before .before .before .before .before .good,
       needs,
     )
 

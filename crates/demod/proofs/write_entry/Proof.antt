@@ -20,7 +20,9 @@ small : (hues e k long : ℕ) → k ≡ symbolBits hues → e * symbolBits hues 
 small hues e k long h l f = record { fits = omega (arith, entry-in hues e k long h l) }
 
 mul-put-scores : tie.Need-mul-put-scores
-mul-put-scores c = search (small, needs)
+mul-put-scores c =
+    let start = c .before .before .before .before .before .before .before .before .before .before .before .before .before .before in
+    search (small, c .before .symbol-bits .ensures, start .pre, start .good, needs)
 
 put-scores-requires : tie.Need-put-scores-requires
 put-scores-requires c κs = (search (bits-room), search (entry-in))

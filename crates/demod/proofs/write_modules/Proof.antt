@@ -11,15 +11,18 @@ use Rattle.demod.proofs.write_modules.Statement.{statement}
 use Rattle.demod.proofs.write_modules.Tie as tie
 
 abbrev Inv : tie.InvT-loop
-Inv noise palette hues model xs ys raw luma₀ colours₀ i₀ n luma colours i =
+Inv noise palette hues sigmas model xs ys raw luma₀ colours₀ i₀ n luma colours i =
     (n ≡ length xs) × (length luma ≡ length luma₀) × (length colours ≡ length colours₀) ×
     Left (writeModule noise palette hues (moduleColour model xs ys raw)) n i (sheet luma colours) (writeModules noise palette hues (moduleColour model xs ys raw) (length xs) (sheet luma₀ colours₀))
 
 abbrev μ : tie.MeasureT-loop
-μ noise palette hues model xs ys raw luma₀ colours₀ i₀ n luma colours i = n - i
+μ noise palette hues sigmas model xs ys raw luma₀ colours₀ i₀ n luma colours i = n - i
 
 module-spot-requires : tie.Need-module-spot-requires Inv μ
 module-spot-requires c κs = (search needs, search needs, search (exact-at), search (exact-at), search needs)
+
+write-module-requires : tie.Need-write-module-requires Inv μ
+write-module-requires c κs = (search needs, search needs, search needs, search needs)
 
 loop-again : tie.Need-loop-again Inv μ
 loop-again c =
@@ -31,17 +34,12 @@ add-i c =
     search (
       c .before .before .before .before .before .before .before .before .before .before .loop-test,
       c .before .before .before .before .before .before .before .before .before .before .before .loop,
-      c .before .before .before .before .before .before .before .before .before .before .before .before .slice-known2,
-      c .before .before .before .before .before .before .before .before .before .before .before .before .before .slice-known,
-      c .before .before .before .before .before .before .before .before .before .before .before .before .before .before .shared-slice-known2,
-      c .before .before .before .before .before .before .before .before .before .before .before .before .before .before .before .shared-slice-known,
-      c .before .before .before .before .before .before .before .before .before .before .before .before .before .before .before .before .good,
-      c .before .before .before .before .before .before .before .before .before .before .before .before .before .before .before .before .fits,
+      c .before .before .before .before .before .before .before .before .before .before .before .before .before .before .before .before .before .good,
       needs,
     )
 
 pub write-modules-spec : {M : Type 1} → statement M
 write-modules-spec =
     tie.close
-    (tie.spec Inv μ (λ c. search (loops, needs)) module-spot-requires (λ c κs. search needs) (λ c κs. search needs) (λ c κs. search needs) add-i
+    (tie.spec Inv μ (λ c. search (loops, needs)) module-spot-requires (λ c κs. search needs) (λ c κs. search needs) write-module-requires add-i
     (λ c. search needs) loop-again (λ c. search needs) (λ c. search needs) (λ c. search (loops, needs)))

@@ -13,12 +13,12 @@ use Rattle.demod.proofs.write_rings.Statement.{statement}
 use Rattle.demod.proofs.write_rings.Tie as tie
 
 abbrev Inv : tie.InvT-loop
-Inv noise palette hues model xs ys raw cells grid chroma₀ i₀ n chroma i =
+Inv noise palette hues sigmas model xs ys raw cells grid chroma₀ i₀ n chroma i =
     (n ≡ length xs) × (grid ≤ i) × (length chroma ≡ length chroma₀) ×
     Left (writeRing noise palette hues cells grid (moduleColour model xs ys raw)) n i chroma (writeRings noise palette hues cells grid (moduleColour model xs ys raw) (length xs) chroma₀)
 
 abbrev μ : tie.MeasureT-loop
-μ noise palette hues model xs ys raw cells grid chroma₀ i₀ n chroma i = n - i
+μ noise palette hues sigmas model xs ys raw cells grid chroma₀ i₀ n chroma i = n - i
 
 -- n is the number of modules, and the list keeps its length
 ring-entry : (hues cells grid i n m long lent : ℕ) → grid ≤ i → i < n → n ≡ m → long ≡ lent → (cells + (m - grid)) * symbolBits hues ≤ lent → (cells + (i - grid)) * symbolBits hues + symbolBits hues ≤ long
@@ -26,7 +26,7 @@ ring-entry hues cells grid i n m long lent g h e f l = entry-of hues (cells + (i
 
 write-ring-requires : tie.Need-write-ring-requires Inv μ
 write-ring-requires c κs =
-    (search needs, search needs, search needs, search needs, search needs, search needs, search (exact-at), search (exact-at), search needs, search (ring-entry))
+    (search needs, search needs, search needs, search needs, search needs, search needs, search needs, search (exact-at), search (exact-at), search needs, search (ring-entry))
 
 pub write-rings-spec : {M : Type 1} → statement M
 write-rings-spec =

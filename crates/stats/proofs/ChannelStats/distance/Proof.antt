@@ -1,6 +1,5 @@
 -- `ChannelStats::distance` meets its contract: the operations of the definition, in its order. Assumes nothing.
 use Rattle.stats.specs.Noise.{distance}
-use borrow.Author.Needs.{needs}
 use Rattle.stats.proofs.ChannelStats.distance.Statement.{statement}
 use Rattle.stats.proofs.ChannelStats.distance.Tie as tie
 
@@ -11,4 +10,4 @@ returns c = cc
 pub distance-spec : {M : Type 1} → statement M
 distance-spec =
     tie.close
-    (tie.spec (λ c κs. search needs) returns)
+    (tie.spec returns)
