@@ -4,6 +4,7 @@ pub mod Lists
 mod Literals
 mod Listing
 mod Noting
+mod Above
 mod Observed
 mod Sigmas
 pub mod Accepted

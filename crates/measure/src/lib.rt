@@ -91,11 +91,12 @@ fn at_level(palette: &[f32], nominal: Lab) -> bool
     float::abs(nominal.l - level_at(palette, nominal)) <= 12.0
 }
 
-// Whether it says anything about chroma noise: white and black would report a hue error that is only a lightness error.
+// Whether it says anything about chroma noise, by a chroma above 20: white and black would report a hue error that is only a
+// lightness error. No root is taken: 400.00003 is the largest number whose root rounds to 20, and a larger number has no smaller root.
 fn colourful(nominal: Lab) -> bool
     ensures { λ r. ⌜ r ≡ spec.colourful nominal ⌝ }
 {
-    nominal.chroma() > 20.0
+    nominal.a * nominal.a + nominal.b * nominal.b > 400.00003
 }
 
 // ---- the columns of the scratch: room for one list, the corrected lightness, the chroma error and the mark of each reference
@@ -126,13 +127,24 @@ fn mark_of(near: bool, light: bool, colourful: bool) -> f32
     0.0
 }
 
-fn mark_for(palette: &[f32], nominal: Lab) -> f32
+fn mark_for(palette: &[f32], nominal: Lab, colourful: bool) -> f32
     requires { ⌜ 2 ≤ length (now palette) ⌝ }
-    ensures { λ r. ⌜ r ≡ column.markFor (now (palette .entry)) nominal ⌝ }
+    ensures { λ r. ⌜ r ≡ column.markFor (now (palette .entry)) nominal colourful ⌝ }
 {
     let near = at_level(palette, nominal);
     let light = is_light(palette, nominal);
-    mark_of(near, light, colourful(nominal))
+    mark_of(near, light, colourful)
+}
+
+// The chroma error of a colourful reference, how far it is from its nominal colour in the plane of a and b. Any other is listed
+// nowhere, so it takes no root and is 0.
+fn chroma_error(corrected: Lab, nominal: Lab, colourful: bool) -> f32
+    ensures { λ r. ⌜ r ≡ column.chromaError corrected nominal colourful ⌝ }
+{
+    if colourful {
+        return corrected.ab_distance(nominal);
+    }
+    0.0
 }
 
 // Writes the three numbers of reference i of n, whose corrected colour is c.
@@ -142,9 +154,10 @@ fn note_at(palette: &[f32], flat: &[f32], n: usize, i: usize, c: Linear, s: &mut
 {
     let corrected = color::linear_to_lab(c);
     let nominal = nominal_lab(flat, i);
+    let is_colourful = colourful(nominal);
     s[n + i] = corrected.l;
-    s[2 * n + i] = corrected.ab_distance(nominal);
-    s[3 * n + i] = mark_for(palette, nominal);
+    s[2 * n + i] = chroma_error(corrected, nominal, is_colourful);
+    s[3 * n + i] = mark_for(palette, nominal, is_colourful);
 }
 
 // Writes them of all n.
