@@ -68,7 +68,7 @@ module _ {m : IlluminationModel} {palette flat : List Float} {n : ℕ} where
     unfolding noted notedAt lightnessAt errorAt chromaError
     written =
         let a = lightnessAt m flat i in
-        let b = chromaError (correctedLab m flat i) (nominalLab flat i) (colourful (nominalLab flat i)) in
+        let b = chromaError (correctedLab m flat i) (nominalLab flat i) in
         let c = markAt palette flat i in
         record {
           l = λ j k. l-at a b c refl j (ℕ-discrete j i) k;
@@ -136,23 +136,23 @@ level-colour-mark false false false false = refl
 -- ---- the lists of the columns
 
 module _ (palette : List Float) (nominal : Lab) where
-  dark-counts : marked m1 m2 (markFor palette nominal (colourful nominal)) ≡ forLevel false palette nominal
+  dark-counts : marked m1 m2 (markFor palette nominal) ≡ forLevel false palette nominal
   unfolding markFor forLevel
   dark-counts = level-mark false (atLevel palette nominal) (isLight palette nominal) (colourful nominal)
 
-  light-counts : marked m5 m6 (markFor palette nominal (colourful nominal)) ≡ forLevel true palette nominal
+  light-counts : marked m5 m6 (markFor palette nominal) ≡ forLevel true palette nominal
   unfolding markFor forLevel
   light-counts = level-mark true (atLevel palette nominal) (isLight palette nominal) (colourful nominal)
 
-  colour-counts : marked m2 m5 (markFor palette nominal (colourful nominal)) ≡ colourful nominal
+  colour-counts : marked m2 m5 (markFor palette nominal) ≡ colourful nominal
   unfolding markFor
   colour-counts = colour-mark (atLevel palette nominal) (isLight palette nominal) (colourful nominal)
 
-  dark-colour-counts : marked m2 m3 (markFor palette nominal (colourful nominal)) ≡ forLevelChroma false palette nominal
+  dark-colour-counts : marked m2 m3 (markFor palette nominal) ≡ forLevelChroma false palette nominal
   unfolding markFor forLevelChroma
   dark-colour-counts = level-colour-mark false (atLevel palette nominal) (isLight palette nominal) (colourful nominal)
 
-  light-colour-counts : marked m4 m5 (markFor palette nominal (colourful nominal)) ≡ forLevelChroma true palette nominal
+  light-colour-counts : marked m4 m5 (markFor palette nominal) ≡ forLevelChroma true palette nominal
   unfolding markFor forLevelChroma
   light-colour-counts = level-colour-mark true (atLevel palette nominal) (isLight palette nominal) (colourful nominal)
 

@@ -51,11 +51,11 @@ markOf true true false = m6
 markOf false true false = m0
 markOf false false false = m0
 
-unfoldable pub markFor : List Float → Lab → Bool → Float
-markFor palette nominal chromatic = markOf (atLevel palette nominal) (isLight palette nominal) chromatic
+unfoldable pub markFor : List Float → Lab → Float
+markFor palette nominal = markOf (atLevel palette nominal) (isLight palette nominal) (colourful nominal)
 
 abbrev pub markAt : List Float → List Float → ℕ → Float
-markAt palette flat i = markFor palette (nominalLab flat i) (colourful (nominalLab flat i))
+markAt palette flat i = markFor palette (nominalLab flat i)
 
 -- a mark from lo to hi
 unfoldable pub marked : Float → Float → Float → Bool
@@ -64,14 +64,13 @@ marked lo hi mark = le lo mark && le mark hi
 -- ---- what is written of reference i of n
 
 -- the chroma error of a colourful reference; 0 of any other, which is listed nowhere
-unfoldable pub chromaError : Lab → Lab → Bool → Float
-chromaError c nominal chromatic = cond chromatic (abDistance c nominal) m0
+unfoldable pub chromaError : Lab → Lab → Float
+chromaError c nominal = cond (colourful nominal) (abDistance c nominal) m0
 
 -- of a reference whose corrected Lab is c
 unfoldable pub noted : Lab → List Float → List Float → ℕ → ℕ → List Float → List Float
 noted c palette flat n i s =
-    let nominal = nominalLab flat i in
-    set (set (set s (n + i) (c .l)) (2 * n + i) (chromaError c nominal (colourful nominal))) (3 * n + i) (markAt palette flat i)
+    set (set (set s (n + i) (c .l)) (2 * n + i) (chromaError c (nominalLab flat i))) (3 * n + i) (markAt palette flat i)
 
 unfoldable pub notedAt : IlluminationModel → List Float → List Float → ℕ → ℕ → List Float → List Float
 notedAt m palette flat n i s = noted (correctedLab m flat i) palette flat n i s

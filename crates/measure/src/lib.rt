@@ -64,31 +64,23 @@ fn middle(palette: &[f32]) -> f32
     (level_l(palette, 0) + level_l(palette, 1)) / 2.0
 }
 
-// Whether a nominal colour is of the light level.
-fn is_light(palette: &[f32], nominal: Lab) -> bool
-    requires { ⌜ 2 ≤ length (now palette) ⌝ }
-    ensures { λ r. ⌜ r ≡ spec.isLight (now (palette .entry)) nominal ⌝ }
-{
-    nominal.l >= middle(palette)
-}
-
-// The lightness of its level.
-fn level_at(palette: &[f32], nominal: Lab) -> f32
-    requires { ⌜ 2 ≤ length (now palette) ⌝ }
+// The lightness of the level of a nominal colour: of the light one, or of the dark one.
+fn level_at(palette: &[f32], nominal: Lab, light: bool) -> f32
+    requires { ⌜ (2 ≤ length (now palette)) × (light ≡ spec.isLight (now palette) nominal) ⌝ }
     ensures { λ r. ⌜ r ≡ spec.levelAt (now (palette .entry)) nominal ⌝ }
 {
-    if is_light(palette, nominal) {
+    if light {
         return level_l(palette, 1);
     }
     level_l(palette, 0)
 }
 
 // Whether its lightness is at most 12 from that of its level.
-fn at_level(palette: &[f32], nominal: Lab) -> bool
-    requires { ⌜ 2 ≤ length (now palette) ⌝ }
+fn at_level(palette: &[f32], nominal: Lab, light: bool) -> bool
+    requires { ⌜ (2 ≤ length (now palette)) × (light ≡ spec.isLight (now palette) nominal) ⌝ }
     ensures { λ r. ⌜ r ≡ spec.atLevel (now (palette .entry)) nominal ⌝ }
 {
-    float::abs(nominal.l - level_at(palette, nominal)) <= 12.0
+    float::abs(nominal.l - level_at(palette, nominal, light)) <= 12.0
 }
 
 // Whether it says anything about chroma noise, by a chroma above 20: white and black would report a hue error that is only a
@@ -127,19 +119,21 @@ fn mark_of(near: bool, light: bool, colourful: bool) -> f32
     0.0
 }
 
-fn mark_for(palette: &[f32], nominal: Lab, colourful: bool) -> f32
-    requires { ⌜ 2 ≤ length (now palette) ⌝ }
-    ensures { λ r. ⌜ r ≡ column.markFor (now (palette .entry)) nominal colourful ⌝ }
+// The mark of a reference with this nominal colour, mid being the lightness between the palette's two levels.
+fn mark_for(palette: &[f32], mid: f32, nominal: Lab, colourful: bool) -> f32
+    requires { ⌜ (2 ≤ length (now palette)) × (mid ≡ spec.middle (now palette)) × (colourful ≡ spec.colourful nominal) ⌝ }
+    ensures { λ r. ⌜ r ≡ column.markFor (now (palette .entry)) nominal ⌝ }
 {
-    let near = at_level(palette, nominal);
-    let light = is_light(palette, nominal);
+    let light = nominal.l >= mid;
+    let near = at_level(palette, nominal, light);
     mark_of(near, light, colourful)
 }
 
 // The chroma error of a colourful reference, how far it is from its nominal colour in the plane of a and b. Any other is listed
 // nowhere, so it takes no root and is 0.
 fn chroma_error(corrected: Lab, nominal: Lab, colourful: bool) -> f32
-    ensures { λ r. ⌜ r ≡ column.chromaError corrected nominal colourful ⌝ }
+    requires { ⌜ colourful ≡ spec.colourful nominal ⌝ }
+    ensures { λ r. ⌜ r ≡ column.chromaError corrected nominal ⌝ }
 {
     if colourful {
         return corrected.ab_distance(nominal);
@@ -148,8 +142,16 @@ fn chroma_error(corrected: Lab, nominal: Lab, colourful: bool) -> f32
 }
 
 // Writes the three numbers of reference i of n, whose corrected colour is c.
-fn note_at(palette: &[f32], flat: &[f32], n: usize, i: usize, c: Linear, s: &mut [f32])
-    requires { ⌜ (n ≤ 16384) × (i < n) × (8 * n ≤ length (now flat)) × (2 ≤ length (now palette)) × (length (now s) ≡ 4 * n) ⌝ }
+fn note_at(
+    palette: &[f32],
+    mid: f32,
+    flat: &[f32],
+    n: usize,
+    i: usize,
+    c: Linear,
+    s: &mut [f32],
+)
+    requires { ⌜ (n ≤ 16384) × (i < n) × (8 * n ≤ length (now flat)) × (2 ≤ length (now palette)) × (mid ≡ spec.middle (now palette)) × (length (now s) ≡ 4 * n) ⌝ }
     ensures { λ _. ⌜ now (s .exit) ≡ column.noted (linearToLab c) (now (palette .entry)) (now (flat .entry)) n i (now (s .entry)) ⌝ }
 {
     let corrected = color::linear_to_lab(c);
@@ -157,7 +159,7 @@ fn note_at(palette: &[f32], flat: &[f32], n: usize, i: usize, c: Linear, s: &mut
     let is_colourful = colourful(nominal);
     s[n + i] = corrected.l;
     s[2 * n + i] = chroma_error(corrected, nominal, is_colourful);
-    s[3 * n + i] = mark_for(palette, nominal, is_colourful);
+    s[3 * n + i] = mark_for(palette, mid, nominal, is_colourful);
 }
 
 // Writes them of all n.
@@ -165,11 +167,12 @@ fn note(model: IlluminationModel, palette: &[f32], flat: &[f32], n: usize, s: &m
     requires { ⌜ (n ≤ 16384) × (8 * n ≤ length (now flat)) × (2 ≤ length (now palette)) × (length (now s) ≡ 4 * n) ⌝ }
     ensures { λ _. ⌜ column.Noted model (now (palette .entry)) (now (flat .entry)) n n (now (s .exit)) ⌝ }
 {
+    let mid = middle(palette);
     for i in 0..n {
         let o = seen_at(flat, i);
         let d = illum::unshade(model, o.x, o.y, o.colour);
         let m = illum::mix(model, d);
-        note_at(palette, flat, n, i, m.colour, s);
+        note_at(palette, mid, flat, n, i, m.colour, s);
     }
 }
 
