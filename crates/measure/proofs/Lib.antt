@@ -4,7 +4,6 @@ pub mod Lists
 mod Literals
 mod Listing
 mod Noting
-mod Above
 mod Observed
 mod Sigmas
 pub mod Accepted

@@ -64,7 +64,7 @@ fn middle(palette: &[f32]) -> f32
     (level_l(palette, 0) + level_l(palette, 1)) / 2.0
 }
 
-// The lightness of the level of a nominal colour: of the light one, or of the dark one.
+// The lightness of the level of a nominal colour, the light level or the dark one.
 fn level_at(palette: &[f32], nominal: Lab, light: bool) -> f32
     requires { ⌜ (2 ≤ length (now palette)) × (light ≡ spec.isLight (now palette) nominal) ⌝ }
     ensures { λ r. ⌜ r ≡ spec.levelAt (now (palette .entry)) nominal ⌝ }
@@ -84,7 +84,7 @@ fn at_level(palette: &[f32], nominal: Lab, light: bool) -> bool
 }
 
 // Whether it says anything about chroma noise, by a chroma above 20: white and black would report a hue error that is only a
-// lightness error. No root is taken: 400.00003 is the largest number whose root rounds to 20, and a larger number has no smaller root.
+// lightness error. No root is taken: a larger number has no smaller root, and 400.00003 is the largest whose root rounds to 20.
 fn colourful(nominal: Lab) -> bool
     ensures { λ r. ⌜ r ≡ spec.colourful nominal ⌝ }
 {
@@ -129,8 +129,8 @@ fn mark_for(palette: &[f32], mid: f32, nominal: Lab, colourful: bool) -> f32
     mark_of(near, light, colourful)
 }
 
-// The chroma error of a colourful reference, how far it is from its nominal colour in the plane of a and b. Any other is listed
-// nowhere, so it takes no root and is 0.
+// The chroma error: how far a colourful reference is from its nominal colour in the plane of a and b. That of any other is listed
+// nowhere, so no root is taken and it is 0.
 fn chroma_error(corrected: Lab, nominal: Lab, colourful: bool) -> f32
     requires { ⌜ colourful ≡ spec.colourful nominal ⌝ }
     ensures { λ r. ⌜ r ≡ column.chromaError corrected nominal ⌝ }
@@ -141,16 +141,8 @@ fn chroma_error(corrected: Lab, nominal: Lab, colourful: bool) -> f32
     0.0
 }
 
-// Writes the three numbers of reference i of n, whose corrected colour is c.
-fn note_at(
-    palette: &[f32],
-    mid: f32,
-    flat: &[f32],
-    n: usize,
-    i: usize,
-    c: Linear,
-    s: &mut [f32],
-)
+// Writes the three numbers of reference i of n, whose corrected colour is c; mid as in `mark_for`.
+fn note_at(palette: &[f32], mid: f32, flat: &[f32], n: usize, i: usize, c: Linear, s: &mut [f32])
     requires { ⌜ (n ≤ 16384) × (i < n) × (8 * n ≤ length (now flat)) × (2 ≤ length (now palette)) × (mid ≡ spec.middle (now palette)) × (length (now s) ≡ 4 * n) ⌝ }
     ensures { λ _. ⌜ now (s .exit) ≡ column.noted (linearToLab c) (now (palette .entry)) (now (flat .entry)) n i (now (s .entry)) ⌝ }
 {

@@ -1,15 +1,14 @@
 -- `measure::colourful` meets its contract: the sum of squares is above 400.00003, the last f32 whose root rounds to 20, exactly where its root is
 -- above 20. Assumes nothing.
-use mathlib.Core.Path.{_≡_, refl, sym, _∙_}
+use mathlib.Core.Path.{_≡_, refl, sym}
 use lib.Dec.{T, lit≤}
-use lib.Ieee.{Float, binary32, ofBits, round, add, mul, lt, fits, isNan}
+use lib.Ieee.{Float, binary32, ofBits, round, lt, fits, isNan}
 use lib.Ieee.Fits.{add-fits}
 use Rattle.floatlaws.specs.Value.{hi, mag}
 use Rattle.float.specs.Root.{sqrtOf}
-use Rattle.measure.proofs.Above.{sqrt-above}
+use Rattle.float.proofs.Above.{sqrt-above}
 use Rattle.color.specs.Color.{fraction, whole, chroma, length2}
 use Rattle.measure.specs.Measure.{colourful}
-use borrow.Author.Needs.{needs}
 use Rattle.measure.proofs.colourful.Statement.{statement}
 use Rattle.measure.proofs.colourful.Tie as tie
 
@@ -25,5 +24,4 @@ returns c = sym (above-20 _ (add-fits binary32 _ _))
 
 pub colourful-spec : {M : Type 1} → statement M
 colourful-spec =
-    tie.close
-    (tie.spec returns)
+    tie.close (tie.spec returns)

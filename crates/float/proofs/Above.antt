@@ -1,10 +1,10 @@
 -- Where a square root is above a number c: exactly where its radicand is above d, the last f32 whose root is not. A larger number has no smaller
 -- root (`sqrt-mono`), and between d and the next f32, e, there is none (`spaced-up`); so a test of a root needs no root. Assumes nothing.
-use mathlib.Core.Path.{_≡_, refl, sym, ap, _∙_}
+use mathlib.Core.Path.{_≡_, refl, sym, _∙_}
 use mathlib.Core.Logic.{_⊎_, inl, inr}
 use mathlib.Core.Bool.{true, false, not}
 use Prim.Native.Nat.{ℕ, zero, suc, _+_, _*_, _^_, _≤_, _<_}
-use native.Mathlib.Nat.{lt-of-lt-of-le, lt-irrefl, le-of-eq, mul-pos}
+use native.Mathlib.Nat.{lt-of-lt-of-le, le-of-eq, mul-pos}
 use native.Mathlib.Omega.{arith}
 use lib.Dec.{T}
 use lib.Pow.{pow-pos}
