@@ -16,8 +16,8 @@ use lib.Seq.{getD-set-same, getD-set-other, getD-drop}
 use lib.Ieee.{Float, nan, le, lt, eq, ofBits}
 use Rattle.color.specs.declared.Lab.{Lab}
 use Rattle.illum.specs.declared.IlluminationModel.{IlluminationModel}
-use Rattle.measure.specs.Measure.{picked, sameLevel, atLevel, isLight, colourful, nominalLab, lightnessAt, errorAt, forLevel, forLevelChroma, levelOf, errorsOf, levelErrorsOf, recordOf, measuredOf, measured}
-use Rattle.measure.specs.Columns.{m0, m1, m2, m3, m4, m5, m6, markOf, markFor, markAt, marked, notedAt, Noted, pickedIn, levelIn, recordIn}
+use Rattle.measure.specs.Measure.{picked, sameLevel, atLevel, isLight, colourful, correctedLab, nominalLab, lightnessAt, errorAt, forLevel, forLevelChroma, levelOf, errorsOf, levelErrorsOf, recordOf, measuredOf, measured}
+use Rattle.measure.specs.Columns.{m0, m1, m2, m3, m4, m5, m6, markOf, markFor, markAt, marked, chromaError, noted, notedAt, Noted, pickedIn, levelIn, recordIn}
 use Rattle.measure.proofs.Lists.{picked-same, picked-two}
 
 -- ---- three writes at x < y < z
@@ -55,23 +55,24 @@ module _ {m : IlluminationModel} {palette flat : List Float} {n : ℕ} where
       l-at ea j (yes q) k = rw q (at-x s (n + i) (2 * n + i) (3 * n + i) a b c (omega arith) (omega arith) (omega arith) ∙ ea)
       l-at ea j (no q) k = kept (n + j) (λ e. q (omega arith)) (λ e. omega arith) (λ e. omega arith) _ (inv .l j (omega arith))
 
-      e-at : b ≡ errorAt m flat i → (j : ℕ) → Dec (j ≡ i) → j < i + 1 → getD after (2 * n + j) nan ≡ errorAt m flat j
-      e-at eb j (yes q) k = rw q (at-y s (n + i) (2 * n + i) (3 * n + i) a b c (omega arith) (omega arith) (omega arith) ∙ eb)
-      e-at eb j (no q) k = kept (2 * n + j) (λ e. omega arith) (λ e. q (omega arith)) (λ e. omega arith) _ (inv .e j (omega arith))
+      e-at : (colourful (nominalLab flat i) ≡ true → b ≡ errorAt m flat i) → (j : ℕ) → Dec (j ≡ i) → j < i + 1 → colourful (nominalLab flat j) ≡ true
+          → getD after (2 * n + j) nan ≡ errorAt m flat j
+      e-at eb j (yes q) k = rw q (λ t. at-y s (n + i) (2 * n + i) (3 * n + i) a b c (omega arith) (omega arith) (omega arith) ∙ eb t)
+      e-at eb j (no q) k = λ t. kept (2 * n + j) (λ e. omega arith) (λ e. q (omega arith)) (λ e. omega arith) _ (inv .e j (omega arith) t)
 
       mark-at : c ≡ markAt palette flat i → (j : ℕ) → Dec (j ≡ i) → j < i + 1 → getD after (3 * n + j) nan ≡ markAt palette flat j
       mark-at ec j (yes q) k = rw q (at-z s (n + i) (2 * n + i) (3 * n + i) a b c (omega arith) (omega arith) (omega arith) ∙ ec)
       mark-at ec j (no q) k = kept (3 * n + j) (λ e. omega arith) (λ e. omega arith) (λ e. q (omega arith)) _ (inv .mark j (omega arith))
 
     written : Noted m palette flat n (i + 1) (notedAt m palette flat n i s)
-    unfolding notedAt
+    unfolding noted notedAt lightnessAt errorAt chromaError
     written =
         let a = lightnessAt m flat i in
-        let b = errorAt m flat i in
+        let b = chromaError (correctedLab m flat i) (nominalLab flat i) in
         let c = markAt palette flat i in
         record {
           l = λ j k. l-at a b c refl j (ℕ-discrete j i) k;
-          e = λ j k. e-at a b c refl j (ℕ-discrete j i) k;
+          e = λ j k. e-at a b c (λ t. rw t) j (ℕ-discrete j i) k;
           mark = λ j k. mark-at a b c refl j (ℕ-discrete j i) k;
         }
 
@@ -155,6 +156,15 @@ module _ (palette : List Float) (nominal : Lab) where
   unfolding markFor forLevelChroma
   light-colour-counts = level-colour-mark true (atLevel palette nominal) (isLight palette nominal) (colourful nominal)
 
+  -- a reference that counts for a level's chroma noise is colourful
+  level-colourful : (light : Bool) → forLevelChroma light palette nominal ≡ true → colourful nominal ≡ true
+  unfolding forLevelChroma
+  level-colourful light = go (colourful nominal) (sameLevel light (isLight palette nominal))
+    where
+      go : (a b : Bool) → (a && b) ≡ true → a ≡ true
+      go true b e = refl
+      go false b e = e
+
   -- a reference of the dark level is none of the light one
   one-level : forLevel false palette nominal ≡ true → forLevel true palette nominal ≡ false
   unfolding forLevel
@@ -172,19 +182,20 @@ module _ {m : IlluminationModel} {palette flat : List Float} {n : ℕ} {s : List
   read : (a j b : ℕ) (v : Float) → n + a ≡ b → getD s (b + j) nan ≡ v → getD (drop n s) (a + j) nan ≡ v
   read a j b v e h = getD-drop n s (a + j) nan ∙ ap (λ (k : ℕ). getD s k nan) (spot a j ∙ ap (λ (k : ℕ). k + j) e) ∙ h
 
-  module _ (at b : ℕ) (e : n + at ≡ b) (f : ℕ → Float) (reads : (j : ℕ) → j < n → getD s (b + j) nan ≡ f j) (lo hi : Float) (q : ℕ → Bool)
-      (counts : (j : ℕ) → marked lo hi (markAt palette flat j) ≡ q j) where
+  module _ (at b : ℕ) (e : n + at ≡ b) (f : ℕ → Float) (lo hi : Float) (q : ℕ → Bool)
+      (reads : (j : ℕ) → j < n → q j ≡ true → getD s (b + j) nan ≡ f j) (counts : (j : ℕ) → marked lo hi (markAt palette flat j) ≡ q j) where
     same-list : pickedIn n at lo hi (drop n s) ≡ picked n 0 q f
     same-list =
         picked-same n 0 _ q _ f (λ j a k. ap (marked lo hi) (read (2 * n) j (3 * n) _ (omega arith) (inv .mark j (omega arith))) ∙ counts j)
-        (λ j a k. read at j b _ e (reads j (omega arith)))
+        (λ j a k t. read at j b _ e (reads j (omega arith) t))
 
   level-list : (light : Bool) → levelIn light n (drop n s) ≡ levelOf light m palette flat n
-  level-list true = same-list 0 n (omega arith) (lightnessAt m flat) (inv .l) m5 m6 _ (λ j. light-counts palette (nominalLab flat j))
-  level-list false = same-list 0 n (omega arith) (lightnessAt m flat) (inv .l) m1 m2 _ (λ j. dark-counts palette (nominalLab flat j))
+  level-list true = same-list 0 n (omega arith) (lightnessAt m flat) m5 m6 _ (λ j k t. inv .l j k) (λ j. light-counts palette (nominalLab flat j))
+  level-list false = same-list 0 n (omega arith) (lightnessAt m flat) m1 m2 _ (λ j k t. inv .l j k) (λ j. dark-counts palette (nominalLab flat j))
 
-  error-list : (lo hi : Float) (q : ℕ → Bool) → ((j : ℕ) → marked lo hi (markAt palette flat j) ≡ q j) → pickedIn n n lo hi (drop n s) ≡ picked n 0 q (errorAt m flat)
-  error-list lo hi q counts = same-list n (2 * n) (omega arith) (errorAt m flat) (inv .e) lo hi q counts
+  error-list : (lo hi : Float) (q : ℕ → Bool) → ((j : ℕ) → q j ≡ true → colourful (nominalLab flat j) ≡ true)
+      → ((j : ℕ) → marked lo hi (markAt palette flat j) ≡ q j) → pickedIn n n lo hi (drop n s) ≡ picked n 0 q (errorAt m flat)
+  error-list lo hi q only counts = same-list n (2 * n) (omega arith) (errorAt m flat) lo hi q (λ j k t. inv .e j k (only j t)) counts
 
   -- the two levels' lists fit in one column
   pub levels-fit : length (levelIn false n (drop n s)) + length (levelIn true n (drop n s)) ≤ n
@@ -196,9 +207,9 @@ module _ {m : IlluminationModel} {palette flat : List Float} {n : ℕ} {s : List
       rw (
         level-list false,
         level-list true,
-        error-list m2 m5 _ (λ j. colour-counts palette (nominalLab flat j)),
-        error-list m2 m3 _ (λ j. dark-colour-counts palette (nominalLab flat j)),
-        error-list m4 m5 _ (λ j. light-colour-counts palette (nominalLab flat j)),
+        error-list m2 m5 _ (λ j t. t) (λ j. colour-counts palette (nominalLab flat j)),
+        error-list m2 m3 _ (λ j. level-colourful palette (nominalLab flat j) false) (λ j. dark-colour-counts palette (nominalLab flat j)),
+        error-list m4 m5 _ (λ j. level-colourful palette (nominalLab flat j) true) (λ j. light-colour-counts palette (nominalLab flat j)),
       )
 
   pub enough : {r : ChannelStats} → 8 ≤ n → r ≡ recordIn palette n (drop n s) → r ≡ measured m palette flat n

@@ -12,7 +12,7 @@ use Rattle.illum.specs.declared.Unshaded.{Unshaded}
 use Rattle.illum.specs.declared.Marked.{Marked}
 use Rattle.illum.specs.Correct.{unshaded, mixed}
 use Rattle.measure.specs.declared.Seen.{Seen}
-use Rattle.measure.specs.Measure.{seenAt, correctedAt, correctedLab, lightnessAt, errorAt, wildCorrectedAt}
+use Rattle.measure.specs.Measure.{seenAt, correctedAt, correctedLab, wildCorrectedAt}
 use Rattle.measure.specs.Columns.{noted, notedAt}
 
 module _ (model : IlluminationModel) (flat : List Float) (i : ℕ) (o : Seen) (d : Unshaded) (m : Marked)
@@ -26,5 +26,5 @@ module _ (model : IlluminationModel) (flat : List Float) (i : ℕ) (o : Seen) (d
   seen-wild r e = rw (← colour) e
 
   pub seen-noted : (palette : List Float) (n : ℕ) (before after : List Float) → after ≡ noted (linearToLab (m .colour)) palette flat n i before → after ≡ notedAt model palette flat n i before
-  unfolding noted notedAt lightnessAt errorAt correctedLab
+  unfolding notedAt correctedLab
   seen-noted palette n before after e = e ∙ ap (λ (c : Linear). noted (linearToLab c) palette flat n i before) colour

@@ -15,7 +15,7 @@ use Rattle.measure.specs.declared.Level.{Level}
 use Rattle.measure.specs.declared.Form.{Form}
 use Rattle.measure.specs.declared.Form.the-variants.{Plain, Less, Apart, LessApart}
 use Rattle.stats.specs.declared.ChannelStats.{ChannelStats}
-use Rattle.measure.specs.Measure.{figuresOf, recordOf, less, isLight, atLevel, colourful, nominalLab, lightnessAt, errorAt, picked}
+use Rattle.measure.specs.Measure.{figuresOf, recordOf, less, isLight, atLevel, colourful, correctedLab, nominalLab, lightnessAt, errorAt, picked}
 
 -- ---- marks: which lists a reference counts for. From 1 to 2 dark lightness, 5 to 6 light lightness, 2 to 5 chroma, 2 to 3 dark chroma, 4 to 5 light chroma.
 
@@ -63,19 +63,22 @@ marked lo hi mark = le lo mark && le mark hi
 
 -- ---- what is written of reference i of n
 
+-- the chroma error of a colourful reference; 0 of any other, which is listed nowhere
+unfoldable pub chromaError : Lab → Lab → Float
+chromaError c nominal = cond (colourful nominal) (abDistance c nominal) m0
+
 -- of a reference whose corrected Lab is c
 unfoldable pub noted : Lab → List Float → List Float → ℕ → ℕ → List Float → List Float
 noted c palette flat n i s =
-    set (set (set s (n + i) (c .l)) (2 * n + i) (abDistance c (nominalLab flat i))) (3 * n + i) (markAt palette flat i)
+    set (set (set s (n + i) (c .l)) (2 * n + i) (chromaError c (nominalLab flat i))) (3 * n + i) (markAt palette flat i)
 
 unfoldable pub notedAt : IlluminationModel → List Float → List Float → ℕ → ℕ → List Float → List Float
-notedAt m palette flat n i s =
-    set (set (set s (n + i) (lightnessAt m flat i)) (2 * n + i) (errorAt m flat i)) (3 * n + i) (markAt palette flat i)
+notedAt m palette flat n i s = noted (correctedLab m flat i) palette flat n i s
 
--- the columns of k references are written
+-- the columns of k references are written, the chroma errors of the colourful ones
 pub record Noted (m : IlluminationModel) (palette flat : List Float) (n k : ℕ) (s : List Float) : Type 0 where
   pub l : (j : ℕ) → j < k → getD s (n + j) nan ≡ lightnessAt m flat j
-  pub e : (j : ℕ) → j < k → getD s (2 * n + j) nan ≡ errorAt m flat j
+  pub e : (j : ℕ) → j < k → colourful (nominalLab flat j) ≡ true → getD s (2 * n + j) nan ≡ errorAt m flat j
   pub mark : (j : ℕ) → j < k → getD s (3 * n + j) nan ≡ markAt palette flat j
 
 -- ---- the list of a column's elements whose mark is from lo to hi. t has the three columns after the first, and `column` is where one starts.

@@ -64,38 +64,31 @@ fn middle(palette: &[f32]) -> f32
     (level_l(palette, 0) + level_l(palette, 1)) / 2.0
 }
 
-// Whether a nominal colour is of the light level.
-fn is_light(palette: &[f32], nominal: Lab) -> bool
-    requires { ⌜ 2 ≤ length (now palette) ⌝ }
-    ensures { λ r. ⌜ r ≡ spec.isLight (now (palette .entry)) nominal ⌝ }
-{
-    nominal.l >= middle(palette)
-}
-
-// The lightness of its level.
-fn level_at(palette: &[f32], nominal: Lab) -> f32
-    requires { ⌜ 2 ≤ length (now palette) ⌝ }
+// The lightness of the level of a nominal colour, the light level or the dark one.
+fn level_at(palette: &[f32], nominal: Lab, light: bool) -> f32
+    requires { ⌜ (2 ≤ length (now palette)) × (light ≡ spec.isLight (now palette) nominal) ⌝ }
     ensures { λ r. ⌜ r ≡ spec.levelAt (now (palette .entry)) nominal ⌝ }
 {
-    if is_light(palette, nominal) {
+    if light {
         return level_l(palette, 1);
     }
     level_l(palette, 0)
 }
 
 // Whether its lightness is at most 12 from that of its level.
-fn at_level(palette: &[f32], nominal: Lab) -> bool
-    requires { ⌜ 2 ≤ length (now palette) ⌝ }
+fn at_level(palette: &[f32], nominal: Lab, light: bool) -> bool
+    requires { ⌜ (2 ≤ length (now palette)) × (light ≡ spec.isLight (now palette) nominal) ⌝ }
     ensures { λ r. ⌜ r ≡ spec.atLevel (now (palette .entry)) nominal ⌝ }
 {
-    float::abs(nominal.l - level_at(palette, nominal)) <= 12.0
+    float::abs(nominal.l - level_at(palette, nominal, light)) <= 12.0
 }
 
-// Whether it says anything about chroma noise: white and black would report a hue error that is only a lightness error.
+// Whether it says anything about chroma noise, by a chroma above 20: white and black would report a hue error that is only a
+// lightness error. No root is taken: a larger number has no smaller root, and 400.00003 is the largest whose root rounds to 20.
 fn colourful(nominal: Lab) -> bool
     ensures { λ r. ⌜ r ≡ spec.colourful nominal ⌝ }
 {
-    nominal.chroma() > 20.0
+    nominal.a * nominal.a + nominal.b * nominal.b > 400.00003
 }
 
 // ---- the columns of the scratch: room for one list, the corrected lightness, the chroma error and the mark of each reference
@@ -126,25 +119,39 @@ fn mark_of(near: bool, light: bool, colourful: bool) -> f32
     0.0
 }
 
-fn mark_for(palette: &[f32], nominal: Lab) -> f32
-    requires { ⌜ 2 ≤ length (now palette) ⌝ }
+// The mark of a reference with this nominal colour, mid being the lightness between the palette's two levels.
+fn mark_for(palette: &[f32], mid: f32, nominal: Lab, colourful: bool) -> f32
+    requires { ⌜ (2 ≤ length (now palette)) × (mid ≡ spec.middle (now palette)) × (colourful ≡ spec.colourful nominal) ⌝ }
     ensures { λ r. ⌜ r ≡ column.markFor (now (palette .entry)) nominal ⌝ }
 {
-    let near = at_level(palette, nominal);
-    let light = is_light(palette, nominal);
-    mark_of(near, light, colourful(nominal))
+    let light = nominal.l >= mid;
+    let near = at_level(palette, nominal, light);
+    mark_of(near, light, colourful)
 }
 
-// Writes the three numbers of reference i of n, whose corrected colour is c.
-fn note_at(palette: &[f32], flat: &[f32], n: usize, i: usize, c: Linear, s: &mut [f32])
-    requires { ⌜ (n ≤ 16384) × (i < n) × (8 * n ≤ length (now flat)) × (2 ≤ length (now palette)) × (length (now s) ≡ 4 * n) ⌝ }
+// The chroma error: how far a colourful reference is from its nominal colour in the plane of a and b. That of any other is listed
+// nowhere, so no root is taken and it is 0.
+fn chroma_error(corrected: Lab, nominal: Lab, colourful: bool) -> f32
+    requires { ⌜ colourful ≡ spec.colourful nominal ⌝ }
+    ensures { λ r. ⌜ r ≡ column.chromaError corrected nominal ⌝ }
+{
+    if colourful {
+        return corrected.ab_distance(nominal);
+    }
+    0.0
+}
+
+// Writes the three numbers of reference i of n, whose corrected colour is c; mid as in `mark_for`.
+fn note_at(palette: &[f32], mid: f32, flat: &[f32], n: usize, i: usize, c: Linear, s: &mut [f32])
+    requires { ⌜ (n ≤ 16384) × (i < n) × (8 * n ≤ length (now flat)) × (2 ≤ length (now palette)) × (mid ≡ spec.middle (now palette)) × (length (now s) ≡ 4 * n) ⌝ }
     ensures { λ _. ⌜ now (s .exit) ≡ column.noted (linearToLab c) (now (palette .entry)) (now (flat .entry)) n i (now (s .entry)) ⌝ }
 {
     let corrected = color::linear_to_lab(c);
     let nominal = nominal_lab(flat, i);
+    let is_colourful = colourful(nominal);
     s[n + i] = corrected.l;
-    s[2 * n + i] = corrected.ab_distance(nominal);
-    s[3 * n + i] = mark_for(palette, nominal);
+    s[2 * n + i] = chroma_error(corrected, nominal, is_colourful);
+    s[3 * n + i] = mark_for(palette, mid, nominal, is_colourful);
 }
 
 // Writes them of all n.
@@ -152,11 +159,12 @@ fn note(model: IlluminationModel, palette: &[f32], flat: &[f32], n: usize, s: &m
     requires { ⌜ (n ≤ 16384) × (8 * n ≤ length (now flat)) × (2 ≤ length (now palette)) × (length (now s) ≡ 4 * n) ⌝ }
     ensures { λ _. ⌜ column.Noted model (now (palette .entry)) (now (flat .entry)) n n (now (s .exit)) ⌝ }
 {
+    let mid = middle(palette);
     for i in 0..n {
         let o = seen_at(flat, i);
         let d = illum::unshade(model, o.x, o.y, o.colour);
         let m = illum::mix(model, d);
-        note_at(palette, flat, n, i, m.colour, s);
+        note_at(palette, mid, flat, n, i, m.colour, s);
     }
 }
 

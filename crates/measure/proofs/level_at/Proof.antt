@@ -28,4 +28,4 @@ returns-2 c = search (dark)
 pub level-at-spec : {M : Type 1} → statement M
 level-at-spec =
     tie.close
-    (tie.spec (λ c κs. search needs) (λ c κs. search needs) returns (λ c κs. search needs) returns-2)
+    (tie.spec (λ c κs. search needs) returns (λ c κs. search needs) returns-2)

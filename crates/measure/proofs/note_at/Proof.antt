@@ -19,6 +19,6 @@ returns c = cc
 pub note-at-spec : {M : Type 1} → statement M
 note-at-spec =
     tie.close
-    (tie.spec (λ c κs. search needs) (λ c κs. search needs) (λ c. search needs) (λ c. search needs) (λ c. search needs)
-    (λ c κs. search needs) (λ c. search needs) (λ c. search needs) (λ c. search needs) slice-write-s-2 (λ c κs. search needs)
-    (λ c. search needs) (λ c. search needs) (λ c. search needs) slice-write-s-3 (λ c. search needs) returns)
+    (tie.spec (λ c κs. search needs) (λ c κs. search needs) (λ c κs. search needs) (λ c. search needs) (λ c. search needs) (λ c. search needs)
+    (λ c κs. search needs) (λ c. search needs) (λ c. search needs) (λ c. search needs) slice-write-s-2 (λ c κs. search needs) (λ c. search needs)
+    (λ c. search needs) (λ c. search needs) slice-write-s-3 (λ c. search needs) returns)
