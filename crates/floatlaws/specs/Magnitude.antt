@@ -1,10 +1,10 @@
 -- Magnitudes: `Within f b x` says that the finite x is from -b to b. The magnitude of a sum or a difference is at most the sum of the magnitudes, rounded;
 -- of a product at most the product, of a quotient at most the quotient by the least magnitude of the divisor: rounding keeps the order, and treats
 -- both signs alike. With closed bounds antt runs the operation on them, and one test `finite` is left. Assumes nothing.
-use mathlib.Core.Path.{_≡_, refl, sym, ap, subst}
+use mathlib.Core.Path.{_≡_, refl, ap, subst}
 use mathlib.Core.Logic.{_⊎_, inl, inr}
 use Prim.Native.Nat.{ℕ, _+_, _-_, _*_, _≤_, _<_}
-use native.Mathlib.Nat.{le-trans, le-of-eq, lt-of-lt-of-le, lt-of-le-of-lt, mul-le-mul, mul-le-mul-right}
+use native.Mathlib.Nat.{le-trans, le-of-eq, lt-of-lt-of-le, mul-le-mul, mul-le-mul-right}
 use native.Mathlib.Omega.{arith}
 use mathlib.Core.Bool.{Bool, true, false, not, _&&_, cond}
 use lib.IntN.{pos}
@@ -14,7 +14,7 @@ use lib.Ieee.Fits.{add-fits, mul-fits, div-fits, and-l, and-r}
 use lib.Ieee.Positive.{positive}
 use lib.Ieee.Scale.{finite}
 use Rattle.floatlaws.specs.Value.{unit, hi, lo, negative, Num, one-side}
-use Rattle.floatlaws.specs.Order.{Le, of-le, sides, neg-num, hi-neg, lo-neg}
+use Rattle.floatlaws.specs.Order.{Le, of-le, to-le, sides, of-sides, neg-num, hi-neg, lo-neg}
 use Rattle.floatlaws.specs.Near.{near, near-le, near-mono, Rounds}
 use Rattle.floatlaws.specs.Ops.{add-rounds, mul-rounds, div-rounds, mul-plus, div-plus, hi-positive}
 use Rattle.floatlaws.specs.Finite.{Fin, num, fin-under, fin-of, neg-fin, add-num, mul-num, div-num'}
@@ -39,6 +39,13 @@ module _ {f : Format} {b x : Float} (B : Fin f b) (s : T (not (negative b))) whe
       let i = sides (of-le (neg-num (num B)) n t) in
       let j = sides (of-le n (num B) u) in
       of-sizes n (j .0) (le-trans (i .1) (le-of-eq (lo-neg f b)))
+
+-- and back
+pub to-tests : {f : Format} {b x : Float} → Within f b x → T (le (neg b) x) × T (le x b)
+to-tests {f} {b} {x} p =
+    let n = num (p .is) in
+    let z = plain f b (p .sign) in
+    (to-le (neg-num (num (p .bound))) n (of-sides (omega (arith, hi-neg f b)) (omega (arith, lo-neg f b))), to-le n (num (p .bound)) (of-sides (p .high) (omega arith)))
 
 -- the bound of itself
 pub self : {f : Format} {b : Float} → Fin f b → T (not (negative b)) → Within f b b
