@@ -1,5 +1,5 @@
 -- No moderate colour in reach of a model is wild: on the scale of the surfaces the position is from -3 to 3, so a surface is 8 × 169 at most, an inverse (256 + 1,352) / 0.05 at most, and a row of the affine part 8 × (3 × 32,160 + 1) at most, which is under 1,048,576. Each operation keeps such a bound, since rounding keeps the order. Assumes nothing.
-use mathlib.Core.Path.{_≡_, refl, sym, _∙_, subst}
+use mathlib.Core.Path.{_≡_, refl, sym, ap, _∙_, subst}
 use mathlib.Core.Logic.{_⊎_, inl, inr}
 use mathlib.Core.Bool.{Bool, true, false, not, _&&_, _||_, cond}
 use mathlib.Core.List.{List}
@@ -23,6 +23,7 @@ use Rattle.float.specs.Single.{toSingle}
 use Rattle.float.specs.Select.{abs}
 use Rattle.color.specs.declared.Linear.{Linear}
 use Rattle.color.specs.Palette.{wild, wildLinear}
+use Rattle.illum.specs.declared.Span.{Span}
 use Rattle.illum.specs.declared.IlluminationModel.{IlluminationModel}
 use Rattle.illum.specs.Surface.{zero64, one64, two64, leastGain, termsUsed, normalised, bilinear, biquadratic, basisAt, addTerm, surfaceAt, isHeld, holdGain, deshade}
 use Rattle.illum.specs.Correct.{affineRow, unshaded, mixed, corrected}
@@ -351,10 +352,20 @@ module _ (m : IlluminationModel) (x y : Float) (c : Linear) (M : Typed m) (P : P
       let n : Num binary32 x = record { fit = P .at-x; real = right-real one64 x (and-l a b Q) } in
       to-le (num one-32) (num zero-32) (le-trans (of-le (num one-32) n (and-l a b Q)) (of-le n (num zero-32) (and-r a b Q)))
 
-  pub not-wild : isWithin (reachOf m) x y c ≡ true → wildLinear (corrected m x y c .colour) ≡ false
+  not-wild : isWithin (reachOf m) x y c ≡ true → wildLinear (corrected m x y c .colour) ≡ false
   unfolding reachOf
   not-wild = go some refl
     where
       go : (b : Bool) → some ≡ b → isWithin (cond b (span (neg (m .side)) (add binary32 (m .side) (m .side))) (span one64 zero64)) x y c ≡ true → wildLinear (corrected m x y c .colour) ≡ false
       go true e h = in-some (subst T (sym e) tt) (subst T (sym h) tt)
       go false e h = absurd (in-none (subst T (sym h) tt))
+
+-- the same of what a program was told
+true-of : (w : Bool) → not w ≡ false → w ≡ true
+true-of true e = refl
+true-of false e = absurd (subst T e tt)
+
+pub in-reach : (m : IlluminationModel) (x y : Float) (c : Linear) (s : Span) (w : Bool) → (s ≡ reachOf m) × Typed m
+    → (w ≡ isWithin s x y c) × Placed x y c → not w ≡ false → wildLinear (corrected m x y c .colour) ≡ false
+in-reach m x y c s w r i h =
+    not-wild m x y c (r .1) (i .1) (sym (ap (λ (z : Span). isWithin z x y c) (r .0)) ∙ sym (i .0) ∙ true-of w h)
