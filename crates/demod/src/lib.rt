@@ -505,11 +505,14 @@ fn bad_module_colours(model: IlluminationModel, xs: &[i32], ys: &[i32], raw: &[f
     requires { ⌜ (length (now xs) ≡ length (now ys)) × Exact (now xs) (length (now xs)) × Exact (now ys) (length (now xs)) × (3 * length (now xs) ≤ length (now raw)) ⌝ }
     ensures { λ r. ⌜ r ≡ call.wildColours (spec.moduleColour model (now (xs .entry)) (now (ys .entry)) (now (raw .entry))) (length (now (xs .entry))) ⌝ }
 {
+    let reach = illum::reach(model);
     for i in 0..xs.len() {
         let s = module_spot(xs, ys, raw, i);
-        let d = illum::unshade(model, s.x, s.y, s.colour);
-        if illum::wild_mix(model, d) {
-            return true;
+        if !illum::within(reach, s.x, s.y, s.colour) {
+            let d = illum::unshade(model, s.x, s.y, s.colour);
+            if illum::wild_mix(model, d) {
+                return true;
+            }
         }
     }
     false
@@ -526,11 +529,14 @@ fn bad_cell_colours(
     requires { ⌜ (size ≤ 16) × (length (now cxs) ≡ length (now cys)) × (3 * length (now cxs) ≤ length (now raw)) ⌝ }
     ensures { λ r. ⌜ r ≡ call.wildColours (spec.cellColour model size (now (cxs .entry)) (now (cys .entry)) (now (raw .entry))) (length (now (cxs .entry))) ⌝ }
 {
+    let reach = illum::reach(model);
     for i in 0..cxs.len() {
         let s = cell_spot(size, cxs, cys, raw, i);
-        let d = illum::unshade(model, s.x, s.y, s.colour);
-        if illum::wild_mix(model, d) {
-            return true;
+        if !illum::within(reach, s.x, s.y, s.colour) {
+            let d = illum::unshade(model, s.x, s.y, s.colour);
+            if illum::wild_mix(model, d) {
+                return true;
+            }
         }
     }
     false

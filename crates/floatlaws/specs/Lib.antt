@@ -12,6 +12,7 @@
 --   Mono      the operations keep the order
 --   Tests     the same for a program's own test `le`
 --   Interval  `In f a b x`: bounds on a formula from its values at the ends
+--   Magnitude `Within f b x`: bounds on a formula of numbers of either sign
 --   Error     relative and absolute error; ratios (`gap`); from the rounded number back to the exact one (`over`, `short`, `at-most`); a number
 --             that is twice another rounds above it (`apart`, `div-apart`)
 --   Nearest   no value of the format is nearer to the exact result than the rounded one
@@ -30,6 +31,7 @@ pub mod Const
 pub mod Mono
 pub mod Tests
 pub mod Interval
+pub mod Magnitude
 pub mod Error
 pub mod Nearest
 pub mod Exact

@@ -2,6 +2,7 @@ pub mod Bound
 pub mod First
 pub mod Gaps
 pub mod Inverses
+pub mod Moderate
 pub mod Passes
 pub mod Shown
 pub mod Side

@@ -7,9 +7,11 @@ ghost use mathlib.Core.Path.{_≡_};
 ghost use mathlib.Core.Bool.{not};
 ghost use Prim.Native.Nat.{_≤_};
 ghost use lib.Ieee.Scale.{finite};
+ghost use lib.ListN.{length};
 ghost use Rattle.color.specs.Palette.{wild, wildLinear};
 ghost use Rattle.illum.specs.Surface.{termsUsed, basisAt, summed, isHeld, holdGain, inverted, deshade, normalised};
 ghost use Rattle.illum.specs.Correct as spec;
+ghost use Rattle.illum.specs.Reach.{Typed, Placed, largeUpTo, largeAffine, largeGains, largeFlares, inScale, reachOf, isWithin};
 ghost use Rattle.illum.specs.Refusals.{badTerms, badModelSide, notFinite4, notFiniteUpTo, notFiniteAffine, notFiniteGains, notFiniteFlares, notFiniteModel, badModel, identityOf, correctOf};
 ghost use Rattle.illum.specs.Shown.{leavesOpen};
 use color::Linear;
@@ -66,6 +68,12 @@ pub struct Marked {
     pub held_r: bool,
     pub held_g: bool,
     pub held_b: bool,
+}
+
+// Core: the positions from lo to hi on each axis; none where lo is above hi.
+pub struct Span {
+    pub lo: f32,
+    pub hi: f32,
 }
 
 // What `correct` answers: a refusal by its number, or the corrected colour.
@@ -287,6 +295,100 @@ pub fn corrected(model: IlluminationModel, x: f32, y: f32, colour: Linear) -> Ma
     ensures { λ r. ⌜ r ≡ spec.corrected model x y colour ⌝ }
 {
     mix(model, unshade(model, x, y, colour))
+}
+
+// ---- reach: where no corrected colour is wild
+
+// Whether one of the first n numbers is not from -8 to 8.
+fn large(c: &[f64], n: usize) -> bool
+    requires { ⌜ n ≤ length (now c) ⌝ }
+    ensures { λ r. ⌜ r ≡ largeUpTo n (now (c .entry)) ⌝ }
+{
+    for i in 0..n {
+        let v = c[i];
+        if !((-8.0 <= v) & (v <= 8.0)) {
+            return true;
+        }
+    }
+    false
+}
+
+// Whether an affine row has one.
+fn large_row(a: [f64; 4]) -> bool
+    ensures { λ r. ⌜ r ≡ largeUpTo 4 a ⌝ }
+{
+    large(&a, 4)
+}
+
+// Whether a surface has one among its terms.
+fn large_surface(terms: usize, c: [f64; 9]) -> bool
+    ensures { λ r. ⌜ r ≡ largeUpTo (termsUsed terms) c ⌝ }
+{
+    large(&c, terms_used(terms))
+}
+
+// Whether the affine part has one.
+fn large_affine(m: IlluminationModel) -> bool
+    ensures { λ r. ⌜ r ≡ largeAffine m ⌝ }
+{
+    let r = m.affine_r;
+    let g = m.affine_g;
+    let b = m.affine_b;
+    large_row(r) | large_row(g) | large_row(b)
+}
+
+// Whether a gain surface has one.
+fn large_gains(m: IlluminationModel) -> bool
+    ensures { λ r. ⌜ r ≡ largeGains m ⌝ }
+{
+    let r = m.gain_r;
+    let g = m.gain_g;
+    let b = m.gain_b;
+    large_surface(m.terms, r) | large_surface(m.terms, g) | large_surface(m.terms, b)
+}
+
+// Whether a flare surface has one.
+fn large_flares(m: IlluminationModel) -> bool
+    ensures { λ r. ⌜ r ≡ largeFlares m ⌝ }
+{
+    let r = m.flare_r;
+    let g = m.flare_g;
+    let b = m.flare_b;
+    large_surface(m.terms, r) | large_surface(m.terms, g) | large_surface(m.terms, b)
+}
+
+// Whether the positions from -side to 2 × side are from -3 to 3 on the scale of the surfaces.
+fn in_scale(side: f32) -> bool
+    ensures { λ r. ⌜ r ≡ inScale side ⌝ }
+{
+    (-3.0 <= normalise(side, -side)) & (normalise(side, side + side) <= 3.0)
+}
+
+// Core: the positions at which this model takes no moderate colour beyond sentence 12: from -side to 2 × side, and none where one
+// of the model's numbers is not from -8 to 8.
+pub fn reach(model: IlluminationModel) -> Span
+    ensures { λ r. ⌜ (r ≡ reachOf model) × Typed model ⌝ }
+{
+    let large = large_affine(model) | large_gains(model) | large_flares(model);
+    if (1.0 <= model.side) & (model.side <= 1024.0) & in_scale(model.side) & !large {
+        return Span {
+            lo: -model.side,
+            hi: model.side + model.side,
+        };
+    }
+    Span { lo: 1.0, hi: 0.0 }
+}
+
+// Core: whether a position is in a span, and each component of the colour from -256 to 256.
+pub fn within(s: Span, x: f32, y: f32, colour: Linear) -> bool
+    ensures { λ v. ⌜ (v ≡ isWithin s x y colour) × Placed x y colour ⌝ }
+{
+    let in_x = (s.lo <= x) & (x <= s.hi);
+    let in_y = (s.lo <= y) & (y <= s.hi);
+    let r = (-256.0 <= colour.r) & (colour.r <= 256.0);
+    let g = (-256.0 <= colour.g) & (colour.g <= 256.0);
+    let b = (-256.0 <= colour.b) & (colour.b <= 256.0);
+    in_x & in_y & r & g & b
 }
 
 // ---- sentence 10
