@@ -11,6 +11,7 @@ ghost use Rattle.float.specs.Parts.{Split};
 ghost use lib.Ieee.{binary32};
 ghost use Rattle.floatlaws.specs.Bits.{valueOf};
 
+mod rows; // rows.rt: tables for the guesses at roots
 mod whole; // whole.rt: whole parts of roots
 
 // |x| of an f32: the sign cleared. Either zero gives +0, either infinity +∞, and a NaN stays one.

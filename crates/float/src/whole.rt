@@ -3,6 +3,8 @@
 ghost use mathlib.Core.Path.{_≡_};
 ghost use mathlib.Core.Bool.{true, false};
 ghost use Prim.Native.Nat.{_+_, _*_, _^_, _≤_, _<_};
+use super::rows::INVERSE_CBRT;
+use super::rows::INVERSE_SQRT;
 
 // The whole part of the square root of w, by halving an interval.
 fn isqrt_slow(w: u64) -> u64
@@ -64,8 +66,8 @@ fn icbrt_slow(a: u64) -> u64
     q
 }
 
-// A guess at the square root of w, by Newton's method for 1 / √w. Nothing is proved of it but its
-// range: who calls it tests it.
+// A guess at the square root of w, which is meant to have 49 or 50 binary digits: with y from the row of w near
+// 1 / √w, one step of Newton's method for √w / w, times w. Nothing is proved of it but its range: who calls it tests it.
 fn guess_sqrt(w: u64) -> u64
     requires { ⌜ w < 2 ^ 50 ⌝ }
     ensures { λ r. ⌜ r < 67108864 ⌝ }
@@ -74,25 +76,23 @@ fn guess_sqrt(w: u64) -> u64
     if x != x {
         return 0;
     }
-    let h = f64::to_bits(x) / 2;
-    if 0x5fe6_eb50_c7b5_37a9 < h {
+    let i = std::num::wrapping_sub_u64(f64::to_bits(x) / 0x1_0000_0000_0000, 17136);
+    if 32 <= i {
         return 0;
     }
-    let y = f64::from_bits(0x5fe6_eb50_c7b5_37a9 - h);
-    let z = x * 0.5;
-    let y1 = y * (1.5 - z * y * y);
-    let y2 = y1 * (1.5 - z * y1 * y1);
-    let y3 = y2 * (1.5 - z * y2 * y2);
-    // from 2 ^ 52 on the last digit of an f64 counts ones, so the pattern ends in the nearest whole
-    // number: with 0.49 less, mostly the whole part
-    let g = x * y3 - 0.49 + 4503599627370496.0;
+    let k = (i * 3) as usize;
+    let y = (INVERSE_SQRT[k] + INVERSE_SQRT[k + 1] * x) + INVERSE_SQRT[k + 2] * (x * x);
+    let v = x * y;
+    // from 2 ^ 52 on the last digit of an f64 counts ones, so with a half less the pattern ends in the whole part. A step gives
+    // a little less than the root: with a little more than 3 the whole part is never missed from below
+    let g = (v * 0.5) * (3.00000000002 - v * y) + 4503599627370495.5;
     if g != g {
         return 0;
     }
     f64::to_bits(g) % 67108864
 }
 
-// The same for the cube root of a * 2 ^ 48.
+// The same for the cube root of a * 2 ^ 48, where a is meant to have 25 to 27 digits.
 fn guess_cbrt(a: u64) -> u64
     requires { ⌜ a < 2 ^ 27 ⌝ }
     ensures { λ r. ⌜ r < 67108864 ⌝ }
@@ -101,17 +101,14 @@ fn guess_cbrt(a: u64) -> u64
     if x != x {
         return 0;
     }
-    let h = f64::to_bits(x) / 3;
-    if 0x553e_f0ff_289d_d796 < h {
+    let i = std::num::wrapping_sub_u64(f64::to_bits(x) / 0x1_0000_0000_0000, 16752);
+    if 48 <= i {
         return 0;
     }
-    let y = f64::from_bits(0x553e_f0ff_289d_d796 - h);
-    let third = 0.3333333333333333;
-    let y1 = (y * third) * (4.0 - (x * y) * (y * y));
-    let y2 = (y1 * third) * (4.0 - (x * y1) * (y1 * y1));
-    let y3 = (y2 * third) * (4.0 - (x * y2) * (y2 * y2));
-    // y3 is a little below the inverse root: with a little more than 2 ^ 16 the whole part is never missed from below
-    let g = (x * y3) * (y3 * 65536.00003) + 4503599627370495.5;
+    let k = (i * 3) as usize;
+    let y = (INVERSE_CBRT[k] + INVERSE_CBRT[k + 1] * x) + INVERSE_CBRT[k + 2] * (x * x);
+    let v = x * y;
+    let g = (v * y) * (109226.6666674 - (v * 43690.66666666667) * (y * y)) + 4503599627370495.5;
     if g != g {
         return 0;
     }
