@@ -3,8 +3,7 @@
 ghost use mathlib.Core.Path.{_≡_};
 ghost use mathlib.Core.Bool.{true, false};
 ghost use Prim.Native.Nat.{_+_, _*_, _^_, _≤_, _<_};
-use super::rows::INVERSE_CBRT;
-use super::rows::INVERSE_SQRT;
+use super::rows;
 
 // The whole part of the square root of w, by halving an interval.
 fn isqrt_slow(w: u64) -> u64
@@ -76,12 +75,8 @@ fn guess_sqrt(w: u64) -> u64
     if x != x {
         return 0;
     }
-    let i = std::num::wrapping_sub_u64(f64::to_bits(x) / 0x1_0000_0000_0000, 17136);
-    if 32 <= i {
-        return 0;
-    }
-    let k = (i * 3) as usize;
-    let y = (INVERSE_SQRT[k] + INVERSE_SQRT[k + 1] * x) + INVERSE_SQRT[k + 2] * (x * x);
+    let r = rows::inverse_sqrt(f64::to_bits(x) / 0x1_0000_0000_0000);
+    let y = (r.0 + r.1 * x) + r.2 * (x * x);
     let v = x * y;
     // from 2 ^ 52 on the last digit of an f64 counts ones, so with a half less the pattern ends in the whole part. A step gives
     // a little less than the root: with a little more than 3 the whole part is never missed from below
@@ -101,12 +96,8 @@ fn guess_cbrt(a: u64) -> u64
     if x != x {
         return 0;
     }
-    let i = std::num::wrapping_sub_u64(f64::to_bits(x) / 0x1_0000_0000_0000, 16752);
-    if 48 <= i {
-        return 0;
-    }
-    let k = (i * 3) as usize;
-    let y = (INVERSE_CBRT[k] + INVERSE_CBRT[k + 1] * x) + INVERSE_CBRT[k + 2] * (x * x);
+    let r = rows::inverse_cbrt(f64::to_bits(x) / 0x1_0000_0000_0000);
+    let y = (r.0 + r.1 * x) + r.2 * (x * x);
     let v = x * y;
     let g = (v * y) * (109226.6666674 - (v * 43690.66666666667) * (y * y)) + 4503599627370495.5;
     if g != g {
