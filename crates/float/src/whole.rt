@@ -1,7 +1,5 @@
 // Whole parts of roots of whole numbers: a guess by floats, of which nothing is trusted, an exact test of it,
 // and the slow way behind it where the test fails.
-ghost use mathlib.Core.Path.{_≡_};
-ghost use mathlib.Core.Bool.{true, false};
 ghost use Prim.Native.Nat.{_+_, _*_, _^_, _≤_, _<_};
 use super::rows;
 
@@ -106,55 +104,41 @@ fn guess_cbrt(a: u64) -> u64
     f64::to_bits(g) % 67108864
 }
 
-// Whether t * t * t is at most a * 2 ^ 48, which takes 75 bits. Both are compared in units of 2 ^ 24,
-// the cube rounded up.
-fn cube_le(t: u64, a: u64) -> bool
-    requires { ⌜ (t ≤ 67108864) × (a < 2 ^ 27) ⌝ }
-    ensures { λ r. ⌜ (r ≡ true → t * t * t ≤ a * 2 ^ 48) × (r ≡ false → a * 2 ^ 48 < t * t * t) ⌝ }
-{
-    let s = t * t;
-    let high = s / 16777216 * t;
-    let low = s % 16777216 * t;
-    high + (low + 16777215) / 16777216 <= a * 16777216
-}
-
-// Core: the whole part of the square root of w: the guess, or one less, if a test shows it to be that.
+// Core: the whole part of the square root of w: the guess g, if what is left of w after g * g shows it to be that.
 pub fn isqrt(w: u64) -> u64
     requires { ⌜ w < 2 ^ 50 ⌝ }
     ensures { λ r. ⌜ (r * r ≤ w) × (w < (r + 1) * (r + 1)) ⌝ }
 {
     let g = guess_sqrt(w);
-    if g * g <= w {
-        if w < (g + 1) * (g + 1) {
+    let s = g * g;
+    if s <= w {
+        if w - s <= 2 * g {
             return g;
-        }
-        return isqrt_slow(w);
-    }
-    if 0 < g {
-        let t = g - 1;
-        if t * t <= w {
-            return t;
         }
     }
     isqrt_slow(w)
 }
 
-// Core: the whole part of the cube root of a * 2 ^ 48, in the same way.
+// Core: the whole part of the cube root of a * 2 ^ 48: the guess g, if what is left after g * g * g shows it to be
+// that. The cube takes 75 bits: high counts its units of 2 ^ 24, and low is the rest.
 pub fn icbrt_long(a: u64) -> u64
     requires { ⌜ a < 2 ^ 27 ⌝ }
     ensures { λ r. ⌜ (r * r * r ≤ a * 2 ^ 48) × (a * 2 ^ 48 < (r + 1) * (r + 1) * (r + 1)) ⌝ }
 {
     let g = guess_cbrt(a);
-    if cube_le(g, a) {
-        if cube_le(g + 1, a) {
-            return icbrt_slow(a);
-        }
-        return g;
-    }
-    if 0 < g {
-        let t = g - 1;
-        if cube_le(t, a) {
-            return t;
+    let s = g * g;
+    let high = s / 0x100_0000 * g;
+    let low = s % 0x100_0000 * g;
+    let units = a * 0x100_0000;
+    if high <= units {
+        let d = units - high;
+        if d < 0x1_0000_0000 {
+            let r = d * 0x100_0000;
+            if low <= r {
+                if r - low <= 3 * (s + g) {
+                    return g;
+                }
+            }
         }
     }
     icbrt_slow(a)
