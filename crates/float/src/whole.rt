@@ -1,5 +1,7 @@
 // Whole parts of roots of whole numbers: a guess by floats, of which nothing is trusted, an exact test of it,
 // and the slow way behind it where the test fails.
+ghost use mathlib.Core.Path.{_≡_};
+ghost use mathlib.Core.Bool.{true};
 ghost use Prim.Native.Nat.{_+_, _*_, _^_, _≤_, _<_};
 use super::rows;
 
@@ -63,69 +65,36 @@ fn icbrt_slow(a: u64) -> u64
     q
 }
 
-// A guess at the square root of w, which is meant to have 49 or 50 binary digits: with y from the row of w near
-// 1 / √w, one step of Newton's method for √w / w, times w. Nothing is proved of it but its range: who calls it tests it.
-fn guess_sqrt(w: u64) -> u64
+// A float whose last 26 bits are a guess at the whole part of √w, by the row i. With z near k / √w, where k ^ 3 = -1 / 2, one step of
+// Newton's method is v * (v * z + 3 / (2 * k)), a little below √w: the constant is a little more, so that the whole part is hardly
+// ever missed, and never from below. From 2 ^ 52 on the last bit of an f64 counts ones. Nothing is proved of it: who calls it tests it.
+fn guess_sqrt(w: u64, i: u32) -> f64
     requires { ⌜ w < 2 ^ 50 ⌝ }
-    ensures { λ r. ⌜ r < 67108864 ⌝ }
 {
     let x = w as f64;
-    if x != x {
-        return 0;
-    }
-    let r = rows::inverse_sqrt(f64::to_bits(x) / 0x1_0000_0000_0000);
-    let y = (r.0 + r.1 * x) + r.2 * (x * x);
-    let v = x * y;
-    // from 2 ^ 52 on the last digit of an f64 counts ones, so with a half less the pattern ends in the whole part. A step gives
-    // a little less than the root: with a little more than 3 the whole part is never missed from below
-    let g = (v * 0.5) * (3.00000000002 - v * y) + 4503599627370495.5;
-    if g != g {
-        return 0;
-    }
-    f64::to_bits(g) % 67108864
+    let r = rows::inverse_sqrt(i);
+    let z = (r.0 * x + r.1) * x + r.2;
+    let v = x * z;
+    v * (v * z - 1.889881574855) + 4503599627370495.5
 }
 
-// The same for the cube root of a * 2 ^ 48, where a is meant to have 25 to 27 digits.
-fn guess_cbrt(a: u64) -> u64
+// The same for the cube root of a * 2 ^ 48, with k ^ 5 = -2 ^ 17 / 3 and the constant 5 * 2 ^ 16 / (3 * k ^ 2).
+fn guess_cbrt(a: u64, i: u32) -> f64
     requires { ⌜ a < 2 ^ 27 ⌝ }
-    ensures { λ r. ⌜ r < 67108864 ⌝ }
 {
     let x = a as f64;
-    if x != x {
-        return 0;
-    }
-    let r = rows::inverse_cbrt(f64::to_bits(x) / 0x1_0000_0000_0000);
-    let y = (r.0 + r.1 * x) + r.2 * (x * x);
-    let v = x * y;
-    let g = (v * y) * (109226.6666674 - (v * 43690.66666666667) * (y * y)) + 4503599627370495.5;
-    if g != g {
-        return 0;
-    }
-    f64::to_bits(g) % 67108864
+    let r = rows::inverse_cbrt(i);
+    let z = (r.0 * x + r.1) * x + r.2;
+    let v = x * z;
+    (v * z) * (v * (z * z) + 1521.1540974745) + 4503599627370495.5
 }
 
-// Core: the whole part of the square root of w: the guess g, if what is left of w after g * g shows it to be that.
-pub fn isqrt(w: u64) -> u64
-    requires { ⌜ w < 2 ^ 50 ⌝ }
-    ensures { λ r. ⌜ (r * r ≤ w) × (w < (r + 1) * (r + 1)) ⌝ }
+// Whether g is the whole part of the cube root of a * 2 ^ 48, by what is left of that after g * g * g. The cube takes 75 bits: high counts
+// its units of 2 ^ 24, and low is the rest.
+fn is_icbrt(g: u64, a: u64) -> bool
+    requires { ⌜ (g < 67108864) × (a < 2 ^ 27) ⌝ }
+    ensures { λ r. ⌜ (r ≡ true → (g * g * g ≤ a * 2 ^ 48) × (a * 2 ^ 48 < (g + 1) * (g + 1) * (g + 1))) ⌝ }
 {
-    let g = guess_sqrt(w);
-    let s = g * g;
-    if s <= w {
-        if w - s <= 2 * g {
-            return g;
-        }
-    }
-    isqrt_slow(w)
-}
-
-// Core: the whole part of the cube root of a * 2 ^ 48: the guess g, if what is left after g * g * g shows it to be
-// that. The cube takes 75 bits: high counts its units of 2 ^ 24, and low is the rest.
-pub fn icbrt_long(a: u64) -> u64
-    requires { ⌜ a < 2 ^ 27 ⌝ }
-    ensures { λ r. ⌜ (r * r * r ≤ a * 2 ^ 48) × (a * 2 ^ 48 < (r + 1) * (r + 1) * (r + 1)) ⌝ }
-{
-    let g = guess_cbrt(a);
     let s = g * g;
     let high = s / 0x100_0000 * g;
     let low = s % 0x100_0000 * g;
@@ -133,12 +102,44 @@ pub fn icbrt_long(a: u64) -> u64
     if high <= units {
         let d = units - high;
         if d < 0x1_0000_0000 {
-            let r = d * 0x100_0000;
-            if low <= r {
-                if r - low <= 3 * (s + g) {
-                    return g;
-                }
+            let left = d * 0x100_0000;
+            if low <= left {
+                return left - low <= 3 * (s + g);
             }
+        }
+    }
+    false
+}
+
+// Core: the whole part of the square root of w: the guess g, if what is left of w after g * g shows it to be that. i is the row that it is
+// guessed by, which any number may be.
+pub fn isqrt(w: u64, i: u32) -> u64
+    requires { ⌜ w < 2 ^ 50 ⌝ }
+    ensures { λ r. ⌜ (r * r ≤ w) × (w < (r + 1) * (r + 1)) ⌝ }
+{
+    let x = guess_sqrt(w, i);
+    if x == x {
+        let g = f64::to_bits(x) % 67108864;
+        let s = g * g;
+        if s <= w {
+            if w - s <= 2 * g {
+                return g;
+            }
+        }
+    }
+    isqrt_slow(w)
+}
+
+// Core: the whole part of the cube root of a * 2 ^ 48, in the same way.
+pub fn icbrt_long(a: u64, i: u32) -> u64
+    requires { ⌜ a < 2 ^ 27 ⌝ }
+    ensures { λ r. ⌜ (r * r * r ≤ a * 2 ^ 48) × (a * 2 ^ 48 < (r + 1) * (r + 1) * (r + 1)) ⌝ }
+{
+    let x = guess_cbrt(a, i);
+    if x == x {
+        let g = f64::to_bits(x) % 67108864;
+        if is_icbrt(g, a) {
+            return g;
         }
     }
     icbrt_slow(a)

@@ -61,6 +61,12 @@ cast-w-2 c = search needs
 shl-w : tie.Need-shl-w
 shl-w c = search needs
 
+mul-isqrt : tie.Need-mul-isqrt
+mul-isqrt c = search needs
+
+add-isqrt : tie.Need-add-isqrt
+add-isqrt c = search needs
+
 -- what `split` gave
 parts : (c : tie.After-split)
     → Split (valueOf binary32 (toBits binary32 (c .before .before .before .before .before .args .x))) (c .split .result .m) (c .split .result .s)
@@ -75,18 +81,18 @@ moved c = moved-lt (c .split .result .m) (25 + c .split .result .s % 2) (parts c
 
 isqrt-requires : tie.Need-isqrt-requires
 isqrt-requires c κs =
-    let p = c .before .before in
+    let p = c .before .before .before .before in
     subst (λ (a : ℕ). a < 2 ^ 50) (sym (moved p)) (moved-below _ (25 + p .split .result .s % 2) 26 (parts p .under) (omega arith))
 
 module _ (c : tie.After-isqrt) where
-  at-least : c .isqrt .result * c .isqrt .result ≤ c .before .before .before .split .result .m * 2 ^ (25 + c .before .before .before .split .result .s % 2)
-  at-least = subst (λ (a : ℕ). c .isqrt .result * c .isqrt .result ≤ a) (moved (c .before .before .before)) (c .isqrt .ensures .0)
+  at-least : c .isqrt .result * c .isqrt .result ≤ c .before .before .before .before .before .split .result .m * 2 ^ (25 + c .before .before .before .before .before .split .result .s % 2)
+  at-least = subst (λ (a : ℕ). c .isqrt .result * c .isqrt .result ≤ a) (moved (c .before .before .before .before .before)) (c .isqrt .ensures .0)
 
-  below : c .before .before .before .split .result .m * 2 ^ (25 + c .before .before .before .split .result .s % 2) < (c .isqrt .result + 1) * (c .isqrt .result + 1)
-  below = subst (λ (a : ℕ). a < (c .isqrt .result + 1) * (c .isqrt .result + 1)) (moved (c .before .before .before)) (c .isqrt .ensures .1)
+  below : c .before .before .before .before .before .split .result .m * 2 ^ (25 + c .before .before .before .before .before .split .result .s % 2) < (c .isqrt .result + 1) * (c .isqrt .result + 1)
+  below = subst (λ (a : ℕ). a < (c .isqrt .result + 1) * (c .isqrt .result + 1)) (moved (c .before .before .before .before .before)) (c .isqrt .ensures .1)
 
   digits : (0x100_0000 ≤ c .isqrt .result) × (c .isqrt .result < 0x200_0000)
-  digits = sqrt-digits _ _ _ (c .isqrt .result) (parts (c .before .before .before)) at-least below
+  digits = sqrt-digits _ _ _ (c .isqrt .result) (parts (c .before .before .before .before .before)) at-least below
 
 add-q : tie.Need-add-q
 add-q c = omega (arith, digits c)
@@ -101,19 +107,19 @@ cast-result : tie.Need-cast-result
 cast-result c = omega (arith, digits (c .before))
 
 add-result-2 : tie.Need-add-result-2
-add-result-2 c = omega (arith, digits (c .before), parts (c .before .before .before .before) .far)
+add-result-2 c = omega (arith, digits (c .before), parts (c .before .before .before .before .before .before) .far)
 
 float-from-bits-result : tie.Need-float-from-bits-result
-float-from-bits-result c = real-pattern binary32 _ (omega (arith, digits (c .before), parts (c .before .before .before .before) .far))
+float-from-bits-result c = real-pattern binary32 _ (omega (arith, digits (c .before), parts (c .before .before .before .before .before .before) .far))
 
 returns-5 : tie.Need-returns-5
 returns-5 c =
-    let at = c .before .before .before .before .before .before .before .before .before in
+    let at = c .before .before .before .before .before .before .before .before .before .before .before in
     let x = at .args .x in
-    let p = pattern (c .before .before .before .before .before .before) in
+    let p = pattern (c .before .before .before .before .before .before .before .before) in
     sym (sqrt-finite x (held at) (p .1) (omega arith) (omega arith)
     ∙ ap (λ (b : ℕ). Rattle.float.specs.Root.rootOfUnits 2 Bool.false (valueOf binary32 b)) (p .0)
-    ∙ sqrt-made _ _ _ (c .before .isqrt .result) (parts (c .before .before .before .before)) (at-least (c .before)) (below (c .before)))
+    ∙ sqrt-made _ _ _ (c .before .isqrt .result) (parts (c .before .before .before .before .before .before)) (at-least (c .before)) (below (c .before)))
 
 pub sqrt-spec : {M : Type 1} → statement M
 sqrt-spec =
@@ -129,6 +135,8 @@ sqrt-spec =
     add-w
     cast-w-2
     shl-w
+    mul-isqrt
+    add-isqrt
     isqrt-requires
     add-q
     add-result
