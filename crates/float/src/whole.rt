@@ -65,13 +65,14 @@ fn icbrt_slow(a: u64) -> u64
     q
 }
 
-// A float whose last 26 bits are a guess at the whole part of √w, by the row i. With z near k / √w, where k ^ 3 = -1 / 2, one step of
-// Newton's method is v * (v * z + 3 / (2 * k)), a little below √w: the constant is a little more, so that the whole part is hardly
-// ever missed, and never from below. From 2 ^ 52 on the last bit of an f64 counts ones. Nothing is proved of it: who calls it tests it.
+// A float whose last 26 bits are a guess at the whole part of √w, by the row i. From 2 ^ 52 on the last bit of an f64 counts ones, so x
+// is w (`w as f64` would wait for what its register held). With z near k / √x, where k ^ 3 = -1 / 2, one step of Newton's method is
+// v * (v * z + 3 / (2 * k)), a little below √x: the constant is a little more, so that the whole part is hardly ever missed, and never
+// from below. Nothing is proved of it: who calls it tests it.
 fn guess_sqrt(w: u64, i: u32) -> f64
     requires { ⌜ w < 2 ^ 50 ⌝ }
 {
-    let x = w as f64;
+    let x = f64::from_bits(0x4330_0000_0000_0000 + w) - 4503599627370496.0;
     let r = rows::inverse_sqrt(i);
     let z = (r.0 * x + r.1) * x + r.2;
     let v = x * z;
@@ -82,7 +83,7 @@ fn guess_sqrt(w: u64, i: u32) -> f64
 fn guess_cbrt(a: u64, i: u32) -> f64
     requires { ⌜ a < 2 ^ 27 ⌝ }
 {
-    let x = a as f64;
+    let x = f64::from_bits(0x4330_0000_0000_0000 + a) - 4503599627370496.0;
     let r = rows::inverse_cbrt(i);
     let z = (r.0 * x + r.1) * x + r.2;
     let v = x * z;
