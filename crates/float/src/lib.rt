@@ -173,7 +173,7 @@ pub fn sqrt(x: f32) -> f32
     }
     let p = split(bits);
     let w = (p.m as u64) << (25 + p.s % 2);
-    let q = (whole::isqrt(w, p.m / 0x8_0000 + p.s % 2 * 16) + 1) / 2;
+    let q = (whole::isqrt(w, p.m / 0x8_0000 % 16 + p.s % 2 * 16) + 1) / 2;
     f32::from_bits((p.s / 2 + 51) * 0x80_0000 + (q as u32))
 }
 
@@ -195,6 +195,6 @@ pub fn cbrt(x: f32) -> f32
     }
     let p = split(mag);
     let a = (p.m as u64) << (1 + p.s % 3);
-    let q = (whole::icbrt_long(a, p.m / 0x8_0000 + p.s % 3 * 16) + 1) / 2;
+    let q = (whole::icbrt_long(a, p.m / 0x8_0000 % 16 + p.s % 3 * 16) + 1) / 2;
     f32::from_bits((bits - mag) + ((p.s / 3 + 76) * 0x80_0000 + (q as u32)))
 }
