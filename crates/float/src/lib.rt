@@ -80,30 +80,29 @@ pub fn widen(x: f32) -> f64
 
 // n / 2^k to the nearest whole number, a tie to the even one.
 fn round_shift(n: u64, k: u64) -> u64
-    requires { ⌜ n < 2 ^ 62 ⌝ ∗ ⌜ 1 ≤ k ⌝ ∗ ⌜ k < 63 ⌝ }
+    requires { ⌜ n < 2 ^ 63 ⌝ ∗ ⌜ 1 ≤ k ⌝ ∗ ⌜ k < 63 ⌝ }
     ensures { λ r. ⌜ r ≡ closest n (2 ^ k) ⌝ }
 {
     let half = 1u64 << (k - 1);
     (n + (half - 1) + (n >> k) % 2) >> k
 }
 
-// The f32 pattern of the magnitude whose f64 pattern is m, a number's or the infinity's. From the field 1151 on
-// it is 2^128 or more, the infinity; from 897 on a normal f32, whose pattern counts its 24 digits on from the
-// field's, so that a carry out of the digits is right; from 864 on a subnormal one; and below that nothing.
+// The f32 pattern of the magnitude whose f64 pattern is m, a number's or the infinity's. From the field 897 on it is a normal f32, whose
+// pattern is that of the f64 without 29 digits, its field 896 less, so that a carry out of the digits is right; from 1151 on it is 2^128
+// or more, the infinity; from 864 on a subnormal f32; and below that nothing.
 fn magnitude(m: u64) -> u64
     requires { ⌜ m ≤ 0x7ff0_0000_0000_0000 ⌝ }
     ensures { λ r. ⌜ Narrows m r ⌝ }
 {
     let field = m / 0x10_0000_0000_0000;
-    let digits = 0x10_0000_0000_0000 + m % 0x10_0000_0000_0000;
-    if field >= 1151 {
+    if field >= 897 {
+        if field < 1151 {
+            return round_shift(m, 29) - 0x1_c000_0000;
+        }
         return 0x7f80_0000;
     }
-    if field >= 897 {
-        return (field - 897) * 0x80_0000 + round_shift(digits, 29);
-    }
     if field >= 864 {
-        return round_shift(digits, 926 - field);
+        return round_shift(0x10_0000_0000_0000 + m % 0x10_0000_0000_0000, 926 - field);
     }
     0
 }
