@@ -87,22 +87,22 @@ fn round_shift(n: u64, k: u64) -> u64
     (n + (half - 1) + (n >> k) % 2) >> k
 }
 
-// The f32 pattern of the magnitude whose f64 pattern is m, a number's or the infinity's. From the field 897 on it is a normal f32, whose
-// pattern is that of the f64 without 29 digits, its field 896 less, so that a carry out of the digits is right; from 1151 on it is 2^128
-// or more, the infinity; from 864 on a subnormal f32; and below that nothing.
-fn magnitude(m: u64) -> u64
+// The f32 pattern of the magnitude whose f64 pattern is m, a number's or the infinity's. With a field from 897 to 1150 it is a normal
+// f32, whose pattern is that of the f64 without 29 digits and 896 off the field, so that a carry out of the digits is right; from 1151 on
+// it is 2^128 or more, the infinity; from 864 on a subnormal f32; and below that nothing.
+fn magnitude(m: u64) -> u32
     requires { ⌜ m ≤ 0x7ff0_0000_0000_0000 ⌝ }
     ensures { λ r. ⌜ Narrows m r ⌝ }
 {
     let field = m / 0x10_0000_0000_0000;
-    if field >= 897 {
-        if field < 1151 {
-            return round_shift(m, 29) - 0x1_c000_0000;
-        }
+    if std::num::wrapping_sub_u64(field, 897) < 254 {
+        return (round_shift(m, 29) - 0x1_c000_0000) as u32;
+    }
+    if field >= 1151 {
         return 0x7f80_0000;
     }
     if field >= 864 {
-        return round_shift(0x10_0000_0000_0000 + m % 0x10_0000_0000_0000, 926 - field);
+        return round_shift(0x10_0000_0000_0000 + m % 0x10_0000_0000_0000, 926 - field) as u32;
     }
     0
 }
@@ -117,8 +117,8 @@ pub fn narrow(x: f64) -> f32
         return 0.0f32 / 0.0f32;
     }
     let bits: u64 = f64::to_bits(x);
-    let sign = bits / 0x8000_0000_0000_0000 * 0x8000_0000;
-    f32::from_bits((sign + magnitude(bits % 0x8000_0000_0000_0000)) as u32)
+    let sign = (bits / 0x8000_0000_0000_0000 * 0x8000_0000) as u32;
+    f32::from_bits(sign + magnitude(bits % 0x8000_0000_0000_0000))
 }
 
 // An f32 above zero: m * 2 ^ (s - 24) units of 2 ^ -149, where m has exactly 24 binary digits.
