@@ -161,13 +161,16 @@ pub fn sqrt(x: f32) -> f32
         return x;
     }
     let bits = f32::to_bits(x);
-    if bits % 0x8000_0000 == 0 {
+    if 0x7f80_0000 <= bits {
+        if bits == 0x8000_0000 {
+            return x;
+        }
+        if 0x8000_0000 < bits {
+            return 0.0 / 0.0;
+        }
         return x;
     }
-    if 0x8000_0000 < bits {
-        return 0.0 / 0.0;
-    }
-    if 0x7f80_0000 <= bits {
+    if bits == 0 {
         return x;
     }
     let p = split(bits);
