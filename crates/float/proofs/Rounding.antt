@@ -156,8 +156,8 @@ unfolding sqrtOf
 sqrt-zero x F e = subst (λ (y : Float). y ≡ sqrtOf y) (sym (by-zero binary32 x F e)) refl
 
 -- the sign's bit is clear
-pub clear : (b : ℕ) → (b % 0x8000_0000 ≡ 0 → ⊥) → b ≤ 0x8000_0000 → (b % 0x8000_0000 ≡ b) × (b < 0x8000_0000) × (0 < b)
-clear b h k = (omega arith, omega arith, omega arith)
+pub clear : (b : ℕ) → b ≤ 0x8000_0000 → (b ≡ 0x8000_0000 → ⊥) → b < 0x8000_0000
+clear b h k = omega arith
 
 pub sqrt-inf : (x : Float) → T (fits binary32 x) → T (not (isNan x)) → toBits binary32 x < 0x8000_0000
     → 0x7f80_0000 ≤ toBits binary32 x % 0x8000_0000 → x ≡ sqrtOf x

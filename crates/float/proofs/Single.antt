@@ -18,7 +18,7 @@ use lib.Ieee.Bits.{is-false, ofBits-toBits, toBits-lt}
 use lib.Ieee.Exact.{HasValue, odd-sign, round-exact}
 use lib.Ieee.Nearest.{closest}
 use lib.Ieee.Scale.{round-same}
-use Rattle.floatlaws.specs.Whole.{size-at, closest-zero, closest-hi, closest-lo}
+use Rattle.floatlaws.specs.Whole.{size-at, closest-is, closest-zero, closest-hi, closest-lo}
 use Rattle.floatlaws.specs.Nan.{a-nan, zero-by-zero}
 use Rattle.floatlaws.specs.Value.{big, mag, hi, lo, Num, shape, mag-shape, mag-is}
 use Rattle.floatlaws.specs.Order.{Le, widen-num, widen-sides}
@@ -115,6 +115,28 @@ bits-low s v p x j e h J k =
     plain : (c : ℕ) → 0 * 0x80_0000 + c ≡ c
     plain c = omega arith
 
+-- an even count of units more is that much more when rounded
+closest-even : (q j : ℕ) → closest (q + j * 0x4000_0000) (2 ^ 29) ≡ 2 * j + closest q (2 ^ 29)
+closest-even q j =
+    sym (closest-is (q + j * 0x4000_0000) 29 (lit≤ tt)) ∙ carried q j ∙ ap (λ (c : ℕ). 2 * j + c) (closest-is q 29 (lit≤ tt))
+  where
+    units : (q j : ℕ) → (q + j * 0x4000_0000) / 0x2000_0000 ≡ q / 0x2000_0000 + 2 * j
+    units q j = omega arith
+
+    parity : (x j : ℕ) → (x + 2 * j) % 2 ≡ x % 2
+    parity x j = omega arith
+
+    moved : (q j p : ℕ) → (q + j * 0x4000_0000 + 0xfff_ffff + p) / 0x2000_0000 ≡ 2 * j + (q + 0xfff_ffff + p) / 0x2000_0000
+    moved q j p = omega arith
+
+    carried : (q j : ℕ)
+        → (q + j * 0x4000_0000 + 0xfff_ffff + (q + j * 0x4000_0000) / 0x2000_0000 % 2) / 0x2000_0000
+        ≡ 2 * j + (q + 0xfff_ffff + q / 0x2000_0000 % 2) / 0x2000_0000
+    carried q j =
+        ap (λ (p : ℕ). (q + j * 0x4000_0000 + 0xfff_ffff + p) / 0x2000_0000)
+        (ap (λ (x : ℕ). x % 2) (units q j) ∙ parity (q / 0x2000_0000) j)
+        ∙ moved q j (q / 0x2000_0000 % 2)
+
 module _ (m : ℕ) where
   pub narrows-inf : m ≤ 0x7ff0_0000_0000_0000 → 1151 ≤ m / 0x10_0000_0000_0000 → Narrows m 0x7f80_0000
   narrows-inf M h = record {
@@ -124,14 +146,28 @@ module _ (m : ℕ) where
         ∙ inf-bits binary32 s;
   }
 
-  pub narrows-high : (r : ℕ) → 897 ≤ m / 0x10_0000_0000_0000 → m / 0x10_0000_0000_0000 < 1151
-      → r ≡ closest (0x10_0000_0000_0000 + m % 0x10_0000_0000_0000) (2 ^ 29)
-      → Narrows m ((m / 0x10_0000_0000_0000 - 897) * 0x80_0000 + r)
+  high-part : 897 ≤ m / 0x10_0000_0000_0000
+      → closest m (2 ^ 29) ≡ (m / 0x10_0000_0000_0000 - 1) * 0x80_0000 + closest (0x10_0000_0000_0000 + m % 0x10_0000_0000_0000) (2 ^ 29)
+  high-part a =
+      let q = 0x10_0000_0000_0000 + m % 0x10_0000_0000_0000 in
+      let j = (m / 0x10_0000_0000_0000 - 1) * 0x40_0000 in
+      let e : m ≡ q + j * 0x4000_0000 = omega arith in
+      let d : closest m (2 ^ 29) ≡ 2 * j + closest q (2 ^ 29) = ap (λ (n : ℕ). closest n (2 ^ 29)) e ∙ closest-even q j in
+      omega arith
+
+  pub high-field : (r : ℕ) → 897 ≤ m / 0x10_0000_0000_0000 → r ≡ closest m (2 ^ 29) → 0x1_c000_0000 ≤ r
+  high-field r a e = omega (arith, high-part a)
+
+  pub narrows-high : (r : ℕ) → 897 ≤ m / 0x10_0000_0000_0000 → m / 0x10_0000_0000_0000 < 1151 → r ≡ closest m (2 ^ 29)
+      → Narrows m (r - 0x1_c000_0000)
   narrows-high r a b e =
-      let c : r ≤ 0x100_0000 = le-trans (le-of-eq e) (at-most (0x10_0000_0000_0000 + m % 0x10_0000_0000_0000) 29 (omega arith) (le-refl 29)) in
+      let F = m / 0x10_0000_0000_0000 in
+      let q = 0x10_0000_0000_0000 + m % 0x10_0000_0000_0000 in
+      let c : closest q (2 ^ 29) ≤ 0x100_0000 = at-most q 29 (omega arith) (le-refl 29) in
+      let d : r - 0x1_c000_0000 ≡ (F - 897) * 0x80_0000 + closest q (2 ^ 29) = omega (arith, high-part a) in
       record {
         small = omega arith;
-        bits = λ s. rw e (bits-high s (m / 0x10_0000_0000_0000) (m % 0x10_0000_0000_0000) (omega arith) a b);
+        bits = λ s. rw d (bits-high s F (m % 0x10_0000_0000_0000) (omega arith) a b);
       }
 
   pub narrows-low : (r : ℕ) → 864 ≤ m / 0x10_0000_0000_0000 → m / 0x10_0000_0000_0000 < 897

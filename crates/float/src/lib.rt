@@ -11,6 +11,7 @@ ghost use Rattle.float.specs.Parts.{Split};
 ghost use lib.Ieee.{binary32};
 ghost use Rattle.floatlaws.specs.Bits.{valueOf};
 
+mod rows; // rows.rt: tables for the guesses at roots
 mod whole; // whole.rt: whole parts of roots
 
 // |x| of an f32: the sign cleared. Either zero gives +0, either infinity +∞, and a NaN stays one.
@@ -79,30 +80,29 @@ pub fn widen(x: f32) -> f64
 
 // n / 2^k to the nearest whole number, a tie to the even one.
 fn round_shift(n: u64, k: u64) -> u64
-    requires { ⌜ n < 2 ^ 62 ⌝ ∗ ⌜ 1 ≤ k ⌝ ∗ ⌜ k < 63 ⌝ }
+    requires { ⌜ n < 2 ^ 63 ⌝ ∗ ⌜ 1 ≤ k ⌝ ∗ ⌜ k < 63 ⌝ }
     ensures { λ r. ⌜ r ≡ closest n (2 ^ k) ⌝ }
 {
     let half = 1u64 << (k - 1);
     (n + (half - 1) + (n >> k) % 2) >> k
 }
 
-// The f32 pattern of the magnitude whose f64 pattern is m, a number's or the infinity's. From the field 1151 on
-// it is 2^128 or more, the infinity; from 897 on a normal f32, whose pattern counts its 24 digits on from the
-// field's, so that a carry out of the digits is right; from 864 on a subnormal one; and below that nothing.
-fn magnitude(m: u64) -> u64
+// The f32 pattern of the magnitude whose f64 pattern is m, a number's or the infinity's. With a field from 897 to 1150 it is a normal
+// f32, whose pattern is that of the f64 without 29 digits and 896 off the field, so that a carry out of the digits is right; from 1151 on
+// it is 2^128 or more, the infinity; from 864 on a subnormal f32; and below that nothing.
+fn magnitude(m: u64) -> u32
     requires { ⌜ m ≤ 0x7ff0_0000_0000_0000 ⌝ }
     ensures { λ r. ⌜ Narrows m r ⌝ }
 {
     let field = m / 0x10_0000_0000_0000;
-    let digits = 0x10_0000_0000_0000 + m % 0x10_0000_0000_0000;
+    if std::num::wrapping_sub_u64(field, 897) < 254 {
+        return (round_shift(m, 29) - 0x1_c000_0000) as u32;
+    }
     if field >= 1151 {
         return 0x7f80_0000;
     }
-    if field >= 897 {
-        return (field - 897) * 0x80_0000 + round_shift(digits, 29);
-    }
     if field >= 864 {
-        return round_shift(digits, 926 - field);
+        return round_shift(0x10_0000_0000_0000 + m % 0x10_0000_0000_0000, 926 - field) as u32;
     }
     0
 }
@@ -117,8 +117,8 @@ pub fn narrow(x: f64) -> f32
         return 0.0f32 / 0.0f32;
     }
     let bits: u64 = f64::to_bits(x);
-    let sign = bits / 0x8000_0000_0000_0000 * 0x8000_0000;
-    f32::from_bits((sign + magnitude(bits % 0x8000_0000_0000_0000)) as u32)
+    let sign = (bits / 0x8000_0000_0000_0000 * 0x8000_0000) as u32;
+    f32::from_bits(sign + magnitude(bits % 0x8000_0000_0000_0000))
 }
 
 // An f32 above zero: m * 2 ^ (s - 24) units of 2 ^ -149, where m has exactly 24 binary digits.
@@ -161,18 +161,21 @@ pub fn sqrt(x: f32) -> f32
         return x;
     }
     let bits = f32::to_bits(x);
-    if bits % 0x8000_0000 == 0 {
+    if 0x7f80_0000 <= bits {
+        if bits == 0x8000_0000 {
+            return x;
+        }
+        if 0x8000_0000 < bits {
+            return 0.0 / 0.0;
+        }
         return x;
     }
-    if 0x8000_0000 < bits {
-        return 0.0 / 0.0;
-    }
-    if 0x7f80_0000 <= bits {
+    if bits == 0 {
         return x;
     }
     let p = split(bits);
     let w = (p.m as u64) << (25 + p.s % 2);
-    let q = (whole::isqrt(w) + 1) / 2;
+    let q = (whole::isqrt(w, p.m / 0x8_0000 % 16 + p.s % 2 * 16) + 1) / 2;
     f32::from_bits((p.s / 2 + 51) * 0x80_0000 + (q as u32))
 }
 
@@ -194,6 +197,6 @@ pub fn cbrt(x: f32) -> f32
     }
     let p = split(mag);
     let a = (p.m as u64) << (1 + p.s % 3);
-    let q = (whole::icbrt_long(a) + 1) / 2;
+    let q = (whole::icbrt_long(a, p.m / 0x8_0000 % 16 + p.s % 3 * 16) + 1) / 2;
     f32::from_bits((bits - mag) + ((p.s / 3 + 76) * 0x80_0000 + (q as u32)))
 }

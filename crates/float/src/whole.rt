@@ -1,8 +1,9 @@
 // Whole parts of roots of whole numbers: a guess by floats, of which nothing is trusted, an exact test of it,
 // and the slow way behind it where the test fails.
 ghost use mathlib.Core.Path.{_≡_};
-ghost use mathlib.Core.Bool.{true, false};
+ghost use mathlib.Core.Bool.{true};
 ghost use Prim.Native.Nat.{_+_, _*_, _^_, _≤_, _<_};
+use super::rows;
 
 // The whole part of the square root of w, by halving an interval.
 fn isqrt_slow(w: u64) -> u64
@@ -64,109 +65,82 @@ fn icbrt_slow(a: u64) -> u64
     q
 }
 
-// A guess at the square root of w, by Newton's method for 1 / √w. Nothing is proved of it but its
-// range: who calls it tests it.
-fn guess_sqrt(w: u64) -> u64
+// A float whose last 26 bits are a guess at the whole part of √w, by the row i. From 2 ^ 52 on the last bit of an f64 counts ones, so x
+// is w (`w as f64` would wait for what its register held). With z near k / √x, where k ^ 3 = -1 / 2, one step of Newton's method is
+// v * (v * z + 3 / (2 * k)), a little below √x: the constant is a little more, so that the whole part is hardly ever missed, and never
+// from below. Nothing is proved of it: who calls it tests it.
+fn guess_sqrt(w: u64, i: u32) -> f64
     requires { ⌜ w < 2 ^ 50 ⌝ }
-    ensures { λ r. ⌜ r < 67108864 ⌝ }
 {
-    let x = w as f64;
-    if x != x {
-        return 0;
-    }
-    let h = f64::to_bits(x) / 2;
-    if 0x5fe6_eb50_c7b5_37a9 < h {
-        return 0;
-    }
-    let y = f64::from_bits(0x5fe6_eb50_c7b5_37a9 - h);
-    let z = x * 0.5;
-    let y1 = y * (1.5 - z * y * y);
-    let y2 = y1 * (1.5 - z * y1 * y1);
-    let y3 = y2 * (1.5 - z * y2 * y2);
-    // from 2 ^ 52 on the last digit of an f64 counts ones, so the pattern ends in the nearest whole
-    // number: with 0.49 less, mostly the whole part
-    let g = x * y3 - 0.49 + 4503599627370496.0;
-    if g != g {
-        return 0;
-    }
-    f64::to_bits(g) % 67108864
+    let x = f64::from_bits(0x4330_0000_0000_0000 + w) - 4503599627370496.0;
+    let r = rows::inverse_sqrt(i);
+    let z = (r.0 * x + r.1) * x + r.2;
+    let v = x * z;
+    v * (v * z - 1.889881574855) + 4503599627370495.5
 }
 
-// The same for the cube root of a * 2 ^ 48.
-fn guess_cbrt(a: u64) -> u64
+// The same for the cube root of a * 2 ^ 48, with k ^ 5 = -2 ^ 17 / 3 and the constant 5 * 2 ^ 16 / (3 * k ^ 2).
+fn guess_cbrt(a: u64, i: u32) -> f64
     requires { ⌜ a < 2 ^ 27 ⌝ }
-    ensures { λ r. ⌜ r < 67108864 ⌝ }
 {
-    let x = a as f64;
-    if x != x {
-        return 0;
-    }
-    let h = f64::to_bits(x) / 3;
-    if 0x553e_f0ff_289d_d796 < h {
-        return 0;
-    }
-    let y = f64::from_bits(0x553e_f0ff_289d_d796 - h);
-    let third = 0.3333333333333333;
-    let y1 = (y * third) * (4.0 - (x * y) * (y * y));
-    let y2 = (y1 * third) * (4.0 - (x * y1) * (y1 * y1));
-    let y3 = (y2 * third) * (4.0 - (x * y2) * (y2 * y2));
-    // y3 is a little below the inverse root: with a little more than 2 ^ 16 the whole part is never missed from below
-    let g = (x * y3) * (y3 * 65536.00003) + 4503599627370495.5;
-    if g != g {
-        return 0;
-    }
-    f64::to_bits(g) % 67108864
+    let x = f64::from_bits(0x4330_0000_0000_0000 + a) - 4503599627370496.0;
+    let r = rows::inverse_cbrt(i);
+    let z = (r.0 * x + r.1) * x + r.2;
+    let v = x * z;
+    (v * z) * (v * (z * z) + 1521.1540974745) + 4503599627370495.5
 }
 
-// Whether t * t * t is at most a * 2 ^ 48, which takes 75 bits. Both are compared in units of 2 ^ 24,
-// the cube rounded up.
-fn cube_le(t: u64, a: u64) -> bool
-    requires { ⌜ (t ≤ 67108864) × (a < 2 ^ 27) ⌝ }
-    ensures { λ r. ⌜ (r ≡ true → t * t * t ≤ a * 2 ^ 48) × (r ≡ false → a * 2 ^ 48 < t * t * t) ⌝ }
+// Whether g is the whole part of the cube root of a * 2 ^ 48, by what is left of that after g * g * g. The cube takes 75 bits: high counts
+// its units of 2 ^ 24, and low is the rest.
+fn is_icbrt(g: u64, a: u64) -> bool
+    requires { ⌜ (g < 67108864) × (a < 2 ^ 27) ⌝ }
+    ensures { λ r. ⌜ (r ≡ true → (g * g * g ≤ a * 2 ^ 48) × (a * 2 ^ 48 < (g + 1) * (g + 1) * (g + 1))) ⌝ }
 {
-    let s = t * t;
-    let high = s / 16777216 * t;
-    let low = s % 16777216 * t;
-    high + (low + 16777215) / 16777216 <= a * 16777216
+    let s = g * g;
+    let high = s / 0x100_0000 * g;
+    let low = s % 0x100_0000 * g;
+    let units = a * 0x100_0000;
+    if high <= units {
+        let d = units - high;
+        if d < 0x1_0000_0000 {
+            let left = d * 0x100_0000;
+            if low <= left {
+                return left - low <= 3 * (s + g);
+            }
+        }
+    }
+    false
 }
 
-// Core: the whole part of the square root of w: the guess, or one less, if a test shows it to be that.
-pub fn isqrt(w: u64) -> u64
+// Core: the whole part of the square root of w: the guess g, if what is left of w after g * g shows it to be that. i is the row that it is
+// guessed by, which any number may be.
+pub fn isqrt(w: u64, i: u32) -> u64
     requires { ⌜ w < 2 ^ 50 ⌝ }
     ensures { λ r. ⌜ (r * r ≤ w) × (w < (r + 1) * (r + 1)) ⌝ }
 {
-    let g = guess_sqrt(w);
-    if g * g <= w {
-        if w < (g + 1) * (g + 1) {
-            return g;
-        }
-        return isqrt_slow(w);
-    }
-    if 0 < g {
-        let t = g - 1;
-        if t * t <= w {
-            return t;
+    let x = guess_sqrt(w, i);
+    if x == x {
+        let g = f64::to_bits(x) % 67108864;
+        let s = g * g;
+        if s <= w {
+            if w - s <= 2 * g {
+                return g;
+            }
         }
     }
     isqrt_slow(w)
 }
 
 // Core: the whole part of the cube root of a * 2 ^ 48, in the same way.
-pub fn icbrt_long(a: u64) -> u64
+pub fn icbrt_long(a: u64, i: u32) -> u64
     requires { ⌜ a < 2 ^ 27 ⌝ }
     ensures { λ r. ⌜ (r * r * r ≤ a * 2 ^ 48) × (a * 2 ^ 48 < (r + 1) * (r + 1) * (r + 1)) ⌝ }
 {
-    let g = guess_cbrt(a);
-    if cube_le(g, a) {
-        if cube_le(g + 1, a) {
-            return icbrt_slow(a);
-        }
-        return g;
-    }
-    if 0 < g {
-        let t = g - 1;
-        if cube_le(t, a) {
-            return t;
+    let x = guess_cbrt(a, i);
+    if x == x {
+        let g = f64::to_bits(x) % 67108864;
+        if is_icbrt(g, a) {
+            return g;
         }
     }
     icbrt_slow(a)

@@ -47,6 +47,12 @@ cast-a-2 c = search needs
 shl-a : tie.Need-shl-a
 shl-a c = search needs
 
+mul-icbrt-long : tie.Need-mul-icbrt-long
+mul-icbrt-long c = search needs
+
+add-icbrt-long : tie.Need-add-icbrt-long
+add-icbrt-long c = search needs
+
 -- what `split` gave
 parts : (c : tie.After-split)
     → Split (valueOf binary32 (toBits binary32 (c .before .before .before .before .args .x) % 0x8000_0000)) (c .split .result .m) (c .split .result .s)
@@ -61,23 +67,23 @@ moved c = moved-lt (c .split .result .m) (1 + c .split .result .s % 3) (parts c 
 
 icbrt-long-requires : tie.Need-icbrt-long-requires
 icbrt-long-requires c κs =
-    let p = c .before .before in
+    let p = c .before .before .before .before in
     subst (λ (a : ℕ). a < 2 ^ 27) (sym (moved p)) (moved-below _ (1 + p .split .result .s % 3) 3 (parts p .under) (omega arith))
 
 -- the root has 25 digits, and it is the program's pattern
 module _ (c : tie.After-icbrt-long) where
-  at-least : c .icbrt-long .result * c .icbrt-long .result * c .icbrt-long .result ≤ c .before .before .before .split .result .m * 2 ^ (1 + c .before .before .before .split .result .s % 3) * 2 ^ 48
+  at-least : c .icbrt-long .result * c .icbrt-long .result * c .icbrt-long .result ≤ c .before .before .before .before .before .split .result .m * 2 ^ (1 + c .before .before .before .before .before .split .result .s % 3) * 2 ^ 48
   at-least =
-      subst (λ (a : ℕ). c .icbrt-long .result * c .icbrt-long .result * c .icbrt-long .result ≤ a * 2 ^ 48) (moved (c .before .before .before))
+      subst (λ (a : ℕ). c .icbrt-long .result * c .icbrt-long .result * c .icbrt-long .result ≤ a * 2 ^ 48) (moved (c .before .before .before .before .before))
       (c .icbrt-long .ensures .0)
 
-  below : c .before .before .before .split .result .m * 2 ^ (1 + c .before .before .before .split .result .s % 3) * 2 ^ 48 < (c .icbrt-long .result + 1) * (c .icbrt-long .result + 1) * (c .icbrt-long .result + 1)
+  below : c .before .before .before .before .before .split .result .m * 2 ^ (1 + c .before .before .before .before .before .split .result .s % 3) * 2 ^ 48 < (c .icbrt-long .result + 1) * (c .icbrt-long .result + 1) * (c .icbrt-long .result + 1)
   below =
       subst (λ (a : ℕ). a * 2 ^ 48 < (c .icbrt-long .result + 1) * (c .icbrt-long .result + 1) * (c .icbrt-long .result + 1))
-      (moved (c .before .before .before)) (c .icbrt-long .ensures .1)
+      (moved (c .before .before .before .before .before)) (c .icbrt-long .ensures .1)
 
   digits : (0x100_0000 ≤ c .icbrt-long .result) × (c .icbrt-long .result < 0x200_0000)
-  digits = cbrt-digits _ _ _ (c .icbrt-long .result) (parts (c .before .before .before)) at-least below
+  digits = cbrt-digits _ _ _ (c .icbrt-long .result) (parts (c .before .before .before .before .before)) at-least below
 
 add-q : tie.Need-add-q
 add-q c = omega (arith, digits c)
@@ -94,8 +100,8 @@ mul-result c = search needs
 cast-result : tie.Need-cast-result
 cast-result c = omega (arith, digits (c .before))
 
-far : (c : tie.After-icbrt-long) → c .before .before .before .split .result .s ≤ 277
-far c = parts (c .before .before .before) .far
+far : (c : tie.After-icbrt-long) → c .before .before .before .before .before .split .result .s ≤ 277
+far c = parts (c .before .before .before .before .before) .far
 
 add-result-2 : tie.Need-add-result-2
 add-result-2 c = omega (arith, digits (c .before), far (c .before))
@@ -107,8 +113,8 @@ add-result-3 c =
       digits (c .before),
       far (c .before),
       toBits-lt binary32
-          (c .before .before .before .before .before .before .before .before .args .x)
-          (held (c .before .before .before .before .before .before .before .before)),
+          (c .before .before .before .before .before .before .before .before .before .before .args .x)
+          (held (c .before .before .before .before .before .before .before .before .before .before)),
     )
 
 -- the sign's bit
@@ -120,20 +126,20 @@ sign c = let b = toBits binary32 (c .args .x) in whole b ∙ sign-bit binary32 b
 
 returns-4 : tie.Need-returns-4
 returns-4 c =
-    let at = c .before .before .before .before .before .before .before .before in
+    let at = c .before .before .before .before .before .before .before .before .before .before in
     let x = at .args .x in
-    let r = (c .before .before .before .before .split .result .s / 3 + 76) * 0x80_0000 + (c .before .icbrt-long .result + 1) / 2 in
+    let r = (c .before .before .before .before .before .before .split .result .s / 3 + 76) * 0x80_0000 + (c .before .icbrt-long .result + 1) / 2 in
     ap (λ (b : ℕ). ofBits binary32 (b + r)) (sign at)
-    ∙ sym (cbrt-finite x (held at) (omega (arith, c .before .before .before .before .before .before .if2 .left)) (omega arith)
-    ∙ cbrt-made _ _ _ (c .before .icbrt-long .result) (parts (c .before .before .before .before)) (at-least (c .before)) (below (c .before))
+    ∙ sym (cbrt-finite x (held at) (omega (arith, c .before .before .before .before .before .before .before .before .if2 .left)) (omega arith)
+    ∙ cbrt-made _ _ _ (c .before .icbrt-long .result) (parts (c .before .before .before .before .before .before)) (at-least (c .before)) (below (c .before))
     (leb 0x8000_0000 (toBits binary32 x)))
 
 -- a pattern up to the infinity's, with either sign
 float-from-bits-result : tie.Need-float-from-bits-result
 float-from-bits-result c =
-    let at = c .before .before .before .before .before .before .before .before in
+    let at = c .before .before .before .before .before .before .before .before .before .before in
     let s = leb 0x8000_0000 (toBits binary32 (at .args .x)) in
-    let r = (c .before .before .before .before .split .result .s / 3 + 76) * 0x80_0000 + (c .before .icbrt-long .result + 1) / 2 in
+    let r = (c .before .before .before .before .before .before .split .result .s / 3 + 76) * 0x80_0000 + (c .before .icbrt-long .result + 1) / 2 in
     let small : r ≤ 0x7f80_0000 = omega (arith, digits (c .before), far (c .before)) in
     subst (λ (b : ℕ). T (not (nanBits binary32 (b + r)))) (sym (sign at))
     (real-pattern binary32 (cond s 0x8000_0000 0 + r) (le-trans (le-of-eq (unsigned binary32 s r (omega arith))) small))
@@ -151,6 +157,8 @@ cbrt-spec =
     add-a
     cast-a-2
     shl-a
+    mul-icbrt-long
+    add-icbrt-long
     icbrt-long-requires
     add-q
     sub-result

@@ -1,29 +1,30 @@
 -- `float::magnitude` meets its contract. Each return is a law of `proofs/Single.antt`. Assumes nothing.
 use native.Mathlib.Omega.{arith}
 use borrow.Author.Needs.{needs}
-use Rattle.float.proofs.Single.{narrows-inf, narrows-high, narrows-low, narrows-zero}
+use Rattle.float.proofs.Single.{narrows-inf, high-field, narrows-high, narrows-low, narrows-zero}
 use Rattle.float.proofs.magnitude.Statement.{statement}
 use Rattle.float.proofs.magnitude.Tie as tie
 
-add-digits : tie.Need-add-digits
-add-digits c = search needs
-
-returns : tie.Need-returns
-returns c = narrows-inf (c .before .args .m) (c .before .pre) (c .if1 .taken)
-
-mul-result : tie.Need-mul-result
-mul-result c = search needs
+wrapping-sub-u64-requires : tie.Need-wrapping-sub-u64-requires
+wrapping-sub-u64-requires c κs = search needs
 
 round-shift-requires : tie.Need-round-shift-requires
 round-shift-requires c κs = search needs
 
-returns-2 : tie.Need-returns-2
-returns-2 c =
-    narrows-high (c .before .before .before .args .m) (c .round-shift .result) (c .before .if2 .taken) (c .before .before .if1 .left)
-    (c .round-shift .ensures)
+sub-result : tie.Need-sub-result
+sub-result c = high-field (c .before .before .before .args .m) (c .round-shift .result) (omega arith) (c .round-shift .ensures)
 
-add-result : tie.Need-add-result
-add-result c = omega (arith, returns-2 c .small)
+returns : tie.Need-returns
+returns c = narrows-high (c .before .before .before .args .m) (c .round-shift .result) (omega arith) (omega arith) (c .round-shift .ensures)
+
+cast-result : tie.Need-cast-result
+cast-result c = omega (arith, returns c .small)
+
+returns-2 : tie.Need-returns-2
+returns-2 c = narrows-inf (c .before .before .before .args .m) (c .before .before .before .pre) (c .if2 .taken)
+
+add-round-shift : tie.Need-add-round-shift
+add-round-shift c = search needs
 
 sub-round-shift : tie.Need-sub-round-shift
 sub-round-shift c = search needs
@@ -33,12 +34,28 @@ round-shift-requires-2 c κs = search needs
 
 returns-3 : tie.Need-returns-3
 returns-3 c =
-    narrows-low (c .before .before .before .before .args .m) (c .round-shift2 .result) (c .before .if3 .taken) (c .before .before .if2 .left)
+    narrows-low (c .before .before .before .before .before .args .m) (c .round-shift2 .result) (c .before .if3 .taken) (omega arith)
     (c .round-shift2 .ensures)
 
+cast-result-2 : tie.Need-cast-result-2
+cast-result-2 c = omega (arith, returns-3 c .small)
+
 returns-4 : tie.Need-returns-4
-returns-4 c = narrows-zero (c .before .before .before .args .m) (c .if3 .left)
+returns-4 c = narrows-zero (c .before .before .before .before .args .m) (c .if3 .left)
 
 pub magnitude-spec : {M : Type 1} → statement M
 magnitude-spec =
-    tie.close (tie.spec add-digits returns mul-result round-shift-requires add-result returns-2 sub-round-shift round-shift-requires-2 returns-3 returns-4)
+    tie.close
+    (tie.spec
+    wrapping-sub-u64-requires
+    round-shift-requires
+    sub-result
+    cast-result
+    returns
+    returns-2
+    add-round-shift
+    sub-round-shift
+    round-shift-requires-2
+    cast-result-2
+    returns-3
+    returns-4)

@@ -23,14 +23,14 @@ float-to-bits-bits c = no-nan (c .before .args .x) (c .if1 .left)
 mul-sign : tie.Need-mul-sign
 mul-sign c = omega (arith, toBits-lt binary64 (c .before .args .x) (held (c .before)))
 
+cast-sign : tie.Need-cast-sign
+cast-sign c = omega (arith, toBits-lt binary64 (c .before .args .x) (held (c .before)))
+
 magnitude-requires : tie.Need-magnitude-requires
 magnitude-requires c κs = real-below binary64 (c .before .args .x) (held (c .before)) (no-nan (c .before .args .x) (c .if1 .left))
 
 add-result : tie.Need-add-result
 add-result c = omega (arith, toBits-lt binary64 (c .before .before .args .x) (held (c .before .before)), c .magnitude .ensures .small)
-
-cast-result : tie.Need-cast-result
-cast-result c = omega (arith, toBits-lt binary64 (c .before .before .args .x) (held (c .before .before)), c .magnitude .ensures .small)
 
 float-from-bits-result : tie.Need-float-from-bits-result
 float-from-bits-result c = single-no-nan (c .before .before .args .x) (held (c .before .before)) (c .magnitude .result) (c .magnitude .ensures)
@@ -39,4 +39,4 @@ returns-2 : tie.Need-returns-2
 returns-2 c = single-is (c .before .before .args .x) (held (c .before .before)) (c .magnitude .result) (c .magnitude .ensures)
 
 pub narrow-spec : {M : Type 1} → statement M
-narrow-spec = tie.close (tie.spec returns float-to-bits-bits mul-sign magnitude-requires add-result cast-result float-from-bits-result returns-2)
+narrow-spec = tie.close (tie.spec returns float-to-bits-bits mul-sign cast-sign magnitude-requires add-result float-from-bits-result returns-2)

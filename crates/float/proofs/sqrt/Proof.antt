@@ -1,15 +1,17 @@
 -- `float::sqrt` meets its contract. The tests on the pattern part the special values, and for the rest `isqrt` gives the 25 digits that
 -- `proofs/Rounding.antt` asks for. Assumes nothing.
 use mathlib.Core.Path.{_≡_, sym, ap, _∙_, subst}
-use mathlib.Core.Bool.{Bool}
+use mathlib.Core.Bool.{false}
 use Prim.Native.Nat.{ℕ, _+_, _*_, _%_, _^_, _≤_, _<_}
 use native.Mathlib.Omega.{arith}
 use borrow.Author.Needs.{needs}
 use lib.Dec.{T}
 use lib.Ieee.{binary32, fits, toBits}
+use lib.Ieee.Bits.{toBits-lt}
 use Rattle.floatlaws.specs.Nan.{no-nan, zero-by-zero}
 use Rattle.floatlaws.specs.Bits.{valueOf, real-pattern}
 use Rattle.float.specs.Parts.{Split}
+use Rattle.float.specs.Root.{rootOfUnits}
 use Rattle.float.proofs.Rounding.{moved-lt, moved-below, sqrt-nan, sqrt-zero, sqrt-inf, sqrt-negative, sqrt-finite, sqrt-digits, sqrt-made}
 use Rattle.float.proofs.Rounding.{clear}
 use Rattle.float.proofs.sqrt.Statement.{statement}
@@ -26,25 +28,22 @@ float-to-bits-bits : tie.Need-float-to-bits-bits
 float-to-bits-bits c = no-nan (c .before .args .x) (c .if1 .left)
 
 returns-2 : tie.Need-returns-2
-returns-2 c = sqrt-zero _ (held (c .before .before)) (c .if2 .taken)
+returns-2 c = sqrt-zero _ (held (c .before .before .before)) (omega (arith, c .if3 .taken))
 
 returns-3 : tie.Need-returns-3
 returns-3 c =
-    let x = c .before .before .before .args .x in
+    let at = c .before .before .before .before in
     zero-by-zero binary32 ∙ sym
-    (sqrt-negative x (held (c .before .before .before)) (float-to-bits-bits (c .before .before)) (omega arith) (omega (arith, c .before .if2 .left)))
-
--- the pattern is that of a value above zero
-pattern : (c : tie.Else3)
-    → (toBits binary32 (c .before .before .before .args .x) % 0x8000_0000 ≡ toBits binary32 (c .before .before .before .args .x))
-    × (toBits binary32 (c .before .before .before .args .x) < 0x8000_0000)
-    × (0 < toBits binary32 (c .before .before .before .args .x))
-pattern c = clear (toBits binary32 (c .before .before .before .args .x)) (c .before .if2 .left) (c .if3 .left)
+    (sqrt-negative (at .args .x) (held at) (float-to-bits-bits (c .before .before .before)) (omega arith)
+    (omega (arith, toBits-lt binary32 (at .args .x) (held at))))
 
 returns-4 : tie.Need-returns-4
 returns-4 c =
-    let p = pattern (c .before) in
-    sqrt-inf _ (held (c .before .before .before .before)) (float-to-bits-bits (c .before .before .before)) (p .1) (omega arith)
+    let below = clear (toBits binary32 (c .before .before .before .before .args .x)) (c .if4 .left) (c .before .if3 .left) in
+    sqrt-inf _ (held (c .before .before .before .before)) (float-to-bits-bits (c .before .before .before)) below (omega arith)
+
+returns-5 : tie.Need-returns-5
+returns-5 c = sqrt-zero _ (held (c .before .before .before)) (omega (arith, c .if5 .taken))
 
 split-requires : tie.Need-split-requires
 split-requires c κs = search needs
@@ -61,9 +60,15 @@ cast-w-2 c = search needs
 shl-w : tie.Need-shl-w
 shl-w c = search needs
 
+mul-isqrt : tie.Need-mul-isqrt
+mul-isqrt c = search needs
+
+add-isqrt : tie.Need-add-isqrt
+add-isqrt c = search needs
+
 -- what `split` gave
 parts : (c : tie.After-split)
-    → Split (valueOf binary32 (toBits binary32 (c .before .before .before .before .before .args .x))) (c .split .result .m) (c .split .result .s)
+    → Split (valueOf binary32 (toBits binary32 (c .before .before .before .before .args .x))) (c .split .result .m) (c .split .result .s)
 parts c = c .split .ensures
 
 small-shift : (s : ℕ) → 25 + s % 2 ≤ 40
@@ -75,18 +80,18 @@ moved c = moved-lt (c .split .result .m) (25 + c .split .result .s % 2) (parts c
 
 isqrt-requires : tie.Need-isqrt-requires
 isqrt-requires c κs =
-    let p = c .before .before in
+    let p = c .before .before .before .before in
     subst (λ (a : ℕ). a < 2 ^ 50) (sym (moved p)) (moved-below _ (25 + p .split .result .s % 2) 26 (parts p .under) (omega arith))
 
 module _ (c : tie.After-isqrt) where
-  at-least : c .isqrt .result * c .isqrt .result ≤ c .before .before .before .split .result .m * 2 ^ (25 + c .before .before .before .split .result .s % 2)
-  at-least = subst (λ (a : ℕ). c .isqrt .result * c .isqrt .result ≤ a) (moved (c .before .before .before)) (c .isqrt .ensures .0)
+  at-least : c .isqrt .result * c .isqrt .result ≤ c .before .before .before .before .before .split .result .m * 2 ^ (25 + c .before .before .before .before .before .split .result .s % 2)
+  at-least = subst (λ (a : ℕ). c .isqrt .result * c .isqrt .result ≤ a) (moved (c .before .before .before .before .before)) (c .isqrt .ensures .0)
 
-  below : c .before .before .before .split .result .m * 2 ^ (25 + c .before .before .before .split .result .s % 2) < (c .isqrt .result + 1) * (c .isqrt .result + 1)
-  below = subst (λ (a : ℕ). a < (c .isqrt .result + 1) * (c .isqrt .result + 1)) (moved (c .before .before .before)) (c .isqrt .ensures .1)
+  below : c .before .before .before .before .before .split .result .m * 2 ^ (25 + c .before .before .before .before .before .split .result .s % 2) < (c .isqrt .result + 1) * (c .isqrt .result + 1)
+  below = subst (λ (a : ℕ). a < (c .isqrt .result + 1) * (c .isqrt .result + 1)) (moved (c .before .before .before .before .before)) (c .isqrt .ensures .1)
 
   digits : (0x100_0000 ≤ c .isqrt .result) × (c .isqrt .result < 0x200_0000)
-  digits = sqrt-digits _ _ _ (c .isqrt .result) (parts (c .before .before .before)) at-least below
+  digits = sqrt-digits _ _ _ (c .isqrt .result) (parts (c .before .before .before .before .before)) at-least below
 
 add-q : tie.Need-add-q
 add-q c = omega (arith, digits c)
@@ -101,19 +106,21 @@ cast-result : tie.Need-cast-result
 cast-result c = omega (arith, digits (c .before))
 
 add-result-2 : tie.Need-add-result-2
-add-result-2 c = omega (arith, digits (c .before), parts (c .before .before .before .before) .far)
+add-result-2 c = omega (arith, digits (c .before), parts (c .before .before .before .before .before .before) .far)
 
 float-from-bits-result : tie.Need-float-from-bits-result
-float-from-bits-result c = real-pattern binary32 _ (omega (arith, digits (c .before), parts (c .before .before .before .before) .far))
+float-from-bits-result c = real-pattern binary32 _ (omega (arith, digits (c .before), parts (c .before .before .before .before .before .before) .far))
 
-returns-5 : tie.Need-returns-5
-returns-5 c =
-    let at = c .before .before .before .before .before .before .before .before .before in
+returns-6 : tie.Need-returns-6
+returns-6 c =
+    let at = c .before .before .before .before .before .before .before .before .before .before in
     let x = at .args .x in
-    let p = pattern (c .before .before .before .before .before .before) in
-    sym (sqrt-finite x (held at) (p .1) (omega arith) (omega arith)
-    ∙ ap (λ (b : ℕ). Rattle.float.specs.Root.rootOfUnits 2 Bool.false (valueOf binary32 b)) (p .0)
-    ∙ sqrt-made _ _ _ (c .before .isqrt .result) (parts (c .before .before .before .before)) (at-least (c .before)) (below (c .before)))
+    let b = toBits binary32 x in
+    let e : b % 0x8000_0000 ≡ b = omega arith in
+    let l : 0 < b = omega (arith, c .before .before .before .before .before .before .before .if5 .left) in
+    sym (sqrt-finite x (held at) (omega arith) (omega arith) (omega arith)
+    ∙ ap (λ (y : ℕ). rootOfUnits 2 false (valueOf binary32 y)) e
+    ∙ sqrt-made _ _ _ (c .before .isqrt .result) (parts (c .before .before .before .before .before .before)) (at-least (c .before)) (below (c .before)))
 
 pub sqrt-spec : {M : Type 1} → statement M
 sqrt-spec =
@@ -124,11 +131,14 @@ sqrt-spec =
     returns-2
     returns-3
     returns-4
+    returns-5
     split-requires
     cast-w
     add-w
     cast-w-2
     shl-w
+    mul-isqrt
+    add-isqrt
     isqrt-requires
     add-q
     add-result
@@ -136,4 +146,4 @@ sqrt-spec =
     cast-result
     add-result-2
     float-from-bits-result
-    returns-5)
+    returns-6)
