@@ -11,7 +11,7 @@ ghost use Rattle.float.specs.Parts.{Split};
 ghost use lib.Ieee.{binary32};
 ghost use Rattle.floatlaws.specs.Bits.{valueOf};
 
-mod rows; // rows.rt: tables for the guesses at roots
+mod rows; // rows.rt: what roots are guessed by
 mod whole; // whole.rt: whole parts of roots
 
 // |x| of an f32: the sign cleared. Either zero gives +0, either infinity +∞, and a NaN stays one.
@@ -87,9 +87,10 @@ fn round_shift(n: u64, k: u64) -> u64
     (n + (half - 1) + (n >> k) % 2) >> k
 }
 
-// The f32 pattern of the magnitude whose f64 pattern is m, a number's or the infinity's. With a field from 897 to 1150 it is a normal
-// f32, whose pattern is that of the f64 without 29 digits and 896 off the field, so that a carry out of the digits is right; from 1151 on
-// it is 2^128 or more, the infinity; from 864 on a subnormal f32; and below that nothing.
+// The f32 pattern of the magnitude whose f64 pattern is m, a number's or the infinity's. With the field from 897 to
+// 1150 it is a normal f32: the whole pattern rounded to 29 digits less, and 896 off the field, so that a carry out of
+// the digits is right. From 1151 on it is 2^128 or more, the infinity; from 864 on a subnormal f32; and below that
+// nothing.
 fn magnitude(m: u64) -> u32
     requires { ⌜ m ≤ 0x7ff0_0000_0000_0000 ⌝ }
     ensures { λ r. ⌜ Narrows m r ⌝ }
@@ -153,7 +154,7 @@ fn split(bits: u32) -> Parts
 
 // The square root: the nearest f32. Either zero, +∞ and a NaN are their own roots, and the root of anything
 // below zero is a NaN. The root of m * 2^s has the exponent s / 2; its whole part to 25 digits, halved and
-// rounded up, is the nearest of 24, since a tie cannot occur.
+// rounded up, is the nearest of 24, since a tie cannot occur. (Tested first: -0, what is below zero, and +∞.)
 pub fn sqrt(x: f32) -> f32
     ensures { λ r. ⌜ r ≡ sqrtOf x ⌝ }
 {

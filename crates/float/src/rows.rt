@@ -1,5 +1,6 @@
-// Inverse roots by rows, for the guesses of whole.rt: a row is a parabola over a sixteenth of a binade, and they follow each other.
-// Nothing is proved of their numbers.
+// Inverse roots by rows, for the guesses of whole.rt: a row is a parabola over a sixteenth of a binade, and the rows
+// follow each other. Nothing is proved of their numbers. (A `match`, since it compiles to a table: a constant array is
+// built anew at each use.)
 
 // The parabola (r.0 * x + r.1) * x + r.2.
 pub struct Row(pub f64, pub f64, pub f64);

@@ -65,10 +65,11 @@ fn icbrt_slow(a: u64) -> u64
     q
 }
 
-// A float whose last 26 bits are a guess at the whole part of √w, by the row i. From 2 ^ 52 on the last bit of an f64 counts ones, so x
-// is w (`w as f64` would wait for what its register held). With z near k / √x, where k ^ 3 = -1 / 2, one step of Newton's method is
-// v * (v * z + 3 / (2 * k)), a little below √x: the constant is a little more, so that the whole part is hardly ever missed, and never
-// from below. Nothing is proved of it: who calls it tests it.
+// A float whose last 26 bits are a guess at the whole part of √w, by the row i. x is w: from 2 ^ 52 on the last bit of
+// an f64 counts ones (and `w as f64` would wait for what its register held before). z is near k / √x, where
+// k ^ 3 = -1 / 2, and v * (v * z + 3 / (2 * k)), one step of Newton's method, is a little below √x: with a little more
+// than that constant the whole part is never missed from below, and from above twice in ten thousand. Nothing is
+// proved of it: who calls it tests it.
 fn guess_sqrt(w: u64, i: u32) -> f64
     requires { ⌜ w < 2 ^ 50 ⌝ }
 {
@@ -90,8 +91,8 @@ fn guess_cbrt(a: u64, i: u32) -> f64
     (v * z) * (v * (z * z) + 1521.1540974745) + 4503599627370495.5
 }
 
-// Whether g is the whole part of the cube root of a * 2 ^ 48, by what is left of that after g * g * g. The cube takes 75 bits: high counts
-// its units of 2 ^ 24, and low is the rest.
+// Whether g is the whole part of the cube root of a * 2 ^ 48, by what is left of that after g * g * g. The cube takes
+// up to 78 bits: high counts its units of 2 ^ 24, and low is the rest.
 fn is_icbrt(g: u64, a: u64) -> bool
     requires { ⌜ (g < 67108864) × (a < 2 ^ 27) ⌝ }
     ensures { λ r. ⌜ (r ≡ true → (g * g * g ≤ a * 2 ^ 48) × (a * 2 ^ 48 < (g + 1) * (g + 1) * (g + 1))) ⌝ }
@@ -112,8 +113,8 @@ fn is_icbrt(g: u64, a: u64) -> bool
     false
 }
 
-// Core: the whole part of the square root of w: the guess g, if what is left of w after g * g shows it to be that. i is the row that it is
-// guessed by, which any number may be.
+// Core: the whole part of the square root of w: the guess g, if what is left of w after g * g shows it to be that.
+// i is the row that it is guessed by, and may be any number.
 pub fn isqrt(w: u64, i: u32) -> u64
     requires { ⌜ w < 2 ^ 50 ⌝ }
     ensures { λ r. ⌜ (r * r ≤ w) × (w < (r + 1) * (r + 1)) ⌝ }
