@@ -1,9 +1,9 @@
 -- Magnitudes: `Within f b x` says that the finite x is from -b to b. The magnitude of a sum or a difference is at most the sum of the magnitudes, rounded;
 -- of a product at most the product, of a quotient at most the quotient by the least magnitude of the divisor: rounding keeps the order, and treats
--- both signs alike. With closed bounds antt runs the operation on them, and one test `finite` is left. Assumes nothing.
+-- both signs alike. With closed bounds antt runs the operation on them, and one test of the new bound is left. Assumes nothing.
 use mathlib.Core.Path.{_≡_, refl, ap, subst}
 use mathlib.Core.Logic.{_⊎_, inl, inr}
-use Prim.Native.Nat.{ℕ, _+_, _-_, _*_, _≤_, _<_}
+use Prim.Native.Nat.{ℕ, _+_, _-_, _*_, _≤_}
 use native.Mathlib.Nat.{le-trans, le-of-eq, lt-of-lt-of-le, mul-le-mul, mul-le-mul-right}
 use native.Mathlib.Omega.{arith}
 use mathlib.Core.Bool.{Bool, true, false, not, _&&_, cond}
@@ -15,7 +15,7 @@ use lib.Ieee.Positive.{positive}
 use lib.Ieee.Scale.{finite}
 use Rattle.floatlaws.specs.Value.{unit, hi, lo, negative, Num, one-side}
 use Rattle.floatlaws.specs.Order.{Le, of-le, to-le, sides, of-sides, neg-num, hi-neg, lo-neg}
-use Rattle.floatlaws.specs.Near.{near, near-le, near-mono, Rounds}
+use Rattle.floatlaws.specs.Near.{near-le, near-mono, Rounds}
 use Rattle.floatlaws.specs.Ops.{add-rounds, mul-rounds, div-rounds, mul-plus, div-plus, hi-positive}
 use Rattle.floatlaws.specs.Finite.{Fin, num, fin-under, fin-of, neg-fin, add-num, mul-num, div-num'}
 use Rattle.floatlaws.specs.Interval.{plain}
@@ -64,7 +64,7 @@ smaller : {f : Format} {z w : Float} {P N Q C : ℕ} → Rounds f z P N C → Ro
 smaller {f} {z} {w} {P} {N} {Q} {C} r s h k =
     (rw (r .hi, s .hi) (near-le f (P - N) (Q - 0) C (r .below) (omega arith)), rw (r .lo, s .hi) (near-le f (N - P) (Q - 0) C (r .below) (omega arith)))
 
--- the sum of numbers of which one of each pair is 0
+-- of two numbers as their sides: the sides of the product are under the product of their bounds
 product-under : (a b c d A B : ℕ) → (a ≡ 0) ⊎ (b ≡ 0) → (c ≡ 0) ⊎ (d ≡ 0) → a ≤ A → b ≤ A → c ≤ B → d ≤ B → a * c + b * d ≤ A * B
 product-under a b c d A B (inl p) (inl q) h i j k = rw p (let m = mul-le-mul i k in omega arith)
 product-under a b c d A B (inl p) (inr q) h i j k = rw p (let m = mul-le-mul i k in omega arith)

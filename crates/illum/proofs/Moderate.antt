@@ -9,15 +9,15 @@ use lib.Dec.{T, eqb}
 use lib.IntN.{pos}
 use lib.ListN.{getD}
 use lib.Ieee.{Float, nan, inf, fin, Format, binary32, binary64, add, sub, mul, div, neg, le, lt, eq, round, fits, isNan}
-use lib.Ieee.Fits.{add-fits, round-fits, fits-widens, and-l, and-r}
+use lib.Ieee.Fits.{round-fits, fits-widens, and-l, and-r}
 use lib.Ieee.Scale.{finite}
 use Rattle.floatlaws.specs.Value.{negative, Num}
-use Rattle.floatlaws.specs.Order.{Le, of-le, to-le, of-not-lt, le-refl, le-trans, neg-num, widen-le, widen-num}
+use Rattle.floatlaws.specs.Order.{Le, of-le, to-le, of-not-lt, le-refl, le-trans, neg-num, widen-le}
 use Rattle.floatlaws.specs.Finite.{Fin, num, neg-fin, between, mul-num, div-num, sub-num'}
 use Rattle.floatlaws.specs.Mono.{mul-mono', div-mono, sub-mono}
 use Rattle.floatlaws.specs.Interval.{plain, le-pos, within, add-in}
 use Rattle.floatlaws.specs.Magnitude.{Within, of-tests, to-tests, self, wider, add-within, sub-within, mul-within, div-within}
-use Rattle.loops.specs.Loops.{forUp, turns, anyUp}
+use Rattle.loops.specs.Loops.{forUp, turns}
 use Rattle.loops.proofs.Laws.{anyUp-false}
 use Rattle.float.specs.Single.{toSingle}
 use Rattle.float.specs.Select.{abs}
@@ -180,9 +180,9 @@ past-fin = closed binary64 past (unfold fits in tt)
 
 module _ (a : List Float) {r g b : Float} (n : (k : ℕ) → k < 4 → Within binary64 mostNumber (getD a k nan)) (R : Within binary64 mostInverse r)
     (G : Within binary64 mostInverse g) (B : Within binary64 mostInverse b) where
-  tame-row : wild (affineRow a r g b) ≡ false
+  row-not-wild : wild (affineRow a r g b) ≡ false
   unfolding affineRow
-  tame-row =
+  row-not-wild =
       let t0 = mul-within (n 0 (omega arith)) R (unfold mul in tt) in
       let t1 = mul-within (n 1 (omega arith)) G (unfold mul in tt) in
       let t2 = mul-within (n 2 (omega arith)) B (unfold mul in tt) in
@@ -190,10 +190,10 @@ module _ (a : List Float) {r g b : Float} (n : (k : ℕ) → k < 4 → Within bi
       let s2 = add-within s1 t2 (unfold add mul in tt) in
       let s3 = add-within s2 (n 3 (omega arith)) (unfold add mul in tt) in
       let w = wider past-fin tt (of-le (num (s3 .bound)) (num past-fin) (unfold add mul le in tt)) s3 in
-      tame _ w
+      single-not-wild _ w
     where
-      tame : (v : Float) → Within binary64 past v → wild (toSingle v) ≡ false
-      tame v w = wild-single v (w .is .fit) ∙ both (le v past) (le (neg past) v) (to-tests w .1) (to-tests w .0)
+      single-not-wild : (v : Float) → Within binary64 past v → wild (toSingle v) ≡ false
+      single-not-wild v w = wild-single v (w .is .fit) ∙ both (le v past) (le (neg past) v) (to-tests w .1) (to-tests w .0)
         where
           both : (a b : Bool) → T a → T b → not (a && b) ≡ false
           both true true s t = refl
@@ -334,9 +334,9 @@ module _ (m : IlluminationModel) (x y : Float) (c : Linear) (M : Typed m) (P : P
       let dg = channel (m .terms) (m .side) x y u v (m .«gain_g») (m .«flare_g») (c .g) (M .gain-g) (M .flare-g) (G .1) (F .1) (P .green) (Q .3) in
       let db = channel (m .terms) (m .side) x y u v (m .«gain_b») (m .«flare_b») (c .b) (M .gain-b) (M .flare-b) (G .2) (F .2) (P .blue) (and-r (ix && iy && r && g) b t) in
       rw (
-        tame-row (m .«affine_r») (number (m .«affine_r») 4 (M .affine-r) (A .0)) dr dg db,
-        tame-row (m .«affine_g») (number (m .«affine_g») 4 (M .affine-g) (A .1)) dr dg db,
-        tame-row (m .«affine_b») (number (m .«affine_b») 4 (M .affine-b) (A .2)) dr dg db,
+        row-not-wild (m .«affine_r») (number (m .«affine_r») 4 (M .affine-r) (A .0)) dr dg db,
+        row-not-wild (m .«affine_g») (number (m .«affine_g») 4 (M .affine-g) (A .1)) dr dg db,
+        row-not-wild (m .«affine_b») (number (m .«affine_b») 4 (M .affine-b) (A .2)) dr dg db,
       ) refl
 
   in-none : T (isWithin (span one64 zero64) x y c) → ⊥

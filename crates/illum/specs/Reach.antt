@@ -1,11 +1,11 @@
--- Reach: the positions at which a model takes no moderate colour beyond sentence 12. Definitions only.
+-- The reach of a model: the positions at which it corrects no moderate colour to one that breaks sentence 12. Definitions only.
 use mathlib.Core.Bool.{Bool, false, not, _&&_, _||_, cond}
 use mathlib.Core.List.{List}
 use Prim.Native.Nat.{ℕ}
 use lib.Dec.{T}
 use lib.IntN.{pos}
 use lib.ListN.{getD}
-use lib.Ieee.{Float, nan, fin, Format, binary32, binary64, add, neg, le, fits}
+use lib.Ieee.{Float, nan, fin, binary32, binary64, add, neg, le, fits}
 use Rattle.loops.specs.Loops.{anyUp}
 use Rattle.color.specs.declared.Linear.{Linear}
 use Rattle.illum.specs.declared.Span.{Span}
@@ -60,6 +60,7 @@ inScale side = le (neg three) (normalised side (neg side)) && le (normalised sid
 abbrev pub span : Float → Float → Span
 span a b = record { lo = a; hi = b }
 
+-- from -side to 2 × side, or no position
 unfoldable pub reachOf : IlluminationModel → Span
 reachOf m =
     cond (le one64 (m .side) && le (m .side) mostSide && inScale (m .side) && not (largeAffine m || largeGains m || largeFlares m)) (span (neg (m .side)) (add binary32 (m .side) (m .side)))
@@ -70,6 +71,7 @@ reachOf m =
 abbrev pub inSpan : Span → Float → Bool
 inSpan s x = le (s .lo) x && le x (s .hi)
 
+-- the position is in the span, and each component of the colour from -256 to 256
 unfoldable pub isWithin : Span → Float → Float → Linear → Bool
 isWithin s x y c = inSpan s x && inSpan s y && isFrom mostColour (c .r) && isFrom mostColour (c .g) && isFrom mostColour (c .b)
 

@@ -364,8 +364,9 @@ fn in_scale(side: f32) -> bool
     (-3.0 <= normalise(side, -side)) & (normalise(side, side + side) <= 3.0)
 }
 
-// Core: the positions at which this model takes no moderate colour beyond sentence 12: from -side to 2 × side, and none where one
-// of the model's numbers is not from -8 to 8.
+// Core: the positions at which no colour from -256 to 256, corrected by this model, breaks sentence 12: from -side to 2 × side, and
+// none where the side is not from 1 to 1,024, or a number of the affine part or the surfaces not from -8 to 8. Beside it, for the
+// law: each number of the model is a value of its format.
 pub fn reach(model: IlluminationModel) -> Span
     ensures { λ r. ⌜ (r ≡ reachOf model) × Typed model ⌝ }
 {

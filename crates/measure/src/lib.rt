@@ -374,11 +374,14 @@ fn wild_corrected(model: IlluminationModel, flat: &[f32], n: usize) -> bool
     requires { ⌜ 8 * n ≤ length (now flat) ⌝ }
     ensures { λ r. ⌜ r ≡ spec.wildCorrected model (now (flat .entry)) n ⌝ }
 {
+    let reach = illum::reach(model);
     for i in 0..n {
         let o = seen_at(flat, i);
-        let d = illum::unshade(model, o.x, o.y, o.colour);
-        if illum::wild_mix(model, d) {
-            return true;
+        if !illum::within(reach, o.x, o.y, o.colour) {
+            let d = illum::unshade(model, o.x, o.y, o.colour);
+            if illum::wild_mix(model, d) {
+                return true;
+            }
         }
     }
     false

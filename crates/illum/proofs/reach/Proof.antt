@@ -3,10 +3,8 @@
 use mathlib.Core.Path.{_≡_, refl}
 use mathlib.Core.Bool.{Bool, true, false, not, _&&_, _||_}
 use mathlib.Core.List.{List, [], _∷_, map}
-use Prim.Native.Nat.{ℕ, zero, suc}
-use lib.Dec.{T}
-use lib.ListN.{getD}
-use lib.Ieee.{Float, nan, binary32, binary64, add, neg, le, fits, ofBits}
+use Prim.Native.Nat.{zero, suc}
+use lib.Ieee.{Float, binary32, binary64, add, neg, le, fits, ofBits}
 use mir.Val.{WT, WTs, vfloat, ofList}
 use denote.Struct.Laws.{val}
 use borrow.Author.Needs.{needs}
