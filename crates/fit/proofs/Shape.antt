@@ -7,7 +7,7 @@ use native.Mathlib.Omega.{arith}
 use lib.Ieee.{Float}
 use Rattle.sentences.proofs.Laws.{neither}
 use Rattle.illum.specs.declared.IlluminationModel.{IlluminationModel}
-use Rattle.illum.specs.Refusals.{badTerms, badModelSide, notFiniteAffine, notFiniteGains, notFiniteFlares, notFiniteModel, badModel}
+use Rattle.illum.specs.Refusals.{badTerms, badModelSide, notFiniteAffine, notFiniteGains, notFiniteFlares, notFiniteModel, badShape, badModel}
 use Rattle.fit.specs.declared.Pass.{Pass}
 use Rattle.equations.specs.Once.{fitOnce}
 use Rattle.equations.proofs.Alike.{Alike, itself, fit-once-alike}
@@ -56,16 +56,16 @@ unfolding notFiniteModel notFiniteAffine notFiniteGains notFiniteFlares
 counts-apart m rejected kept = refl
 
 pub counts-pass : (m : IlluminationModel) (rejected kept : ℕ) → badModel m ≡ false → badModel (withCounts m rejected kept) ≡ false
-unfolding badModel notFiniteModel notFiniteAffine notFiniteGains notFiniteFlares
+unfolding badModel badShape notFiniteModel notFiniteAffine notFiniteGains notFiniteFlares
 counts-pass m rejected kept h = h
 
-none : (a b c : Bool) → a ≡ false → b ≡ false → c ≡ false → a || (b || c) ≡ false
+none : (a b c : Bool) → a ≡ false → b ≡ false → c ≡ false → a || b || c ≡ false
 none a b c p q r = cc
 
 -- a model whose terms and side are those of one that passes, and whose numbers are finite, passes
 pub alike-passes : (m k : IlluminationModel) → k .terms ≡ m .terms → k .side ≡ m .side → badModel m ≡ false → notFiniteModel k ≡ false → badModel k ≡ false
-unfolding badModel
+unfolding badModel badShape
 alike-passes m k et es h f =
-    let a = neither (badTerms (m .terms)) (badModelSide (m .side) || notFiniteModel m) h in
-    let b = neither (badModelSide (m .side)) (notFiniteModel m) (a .1) in
-    none _ _ _ (ap badTerms et ∙ a .0) (ap badModelSide es ∙ b .0) f
+    let a = neither (badShape m) (notFiniteModel m) h in
+    let b = neither (badTerms (m .terms)) (badModelSide (m .side)) (a .0) in
+    none _ _ _ (ap badTerms et ∙ b .0) (ap badModelSide es ∙ b .1) f

@@ -27,7 +27,7 @@ use Rattle.color.specs.Color.{linearToXyz, line, labF, lightness, xyzToLab}
 use Rattle.color.specs.Palette.{levelL, hueAb, paletteLab, linearAt, wild, wildLinear}
 use Rattle.illum.specs.Surface.{leastGain, termsUsed, normalised, basisAt, addTerm, isHeld, holdGain, deshade}
 use Rattle.illum.specs.Correct.{affineRow, unshaded, mixed}
-use Rattle.illum.specs.Refusals.{badTerms, badModelSide, notFiniteAffine, notFiniteGains, notFiniteFlares, notFiniteModel, badModel}
+use Rattle.illum.specs.Refusals.{badTerms, badModelSide, notFiniteAffine, notFiniteGains, notFiniteFlares, notFiniteModel, badShape, badModel}
 use Rattle.modulate.specs.Gray.{gray, xorShifts, grayInverse, chromaSymbolToHue, hueToChromaSymbol}
 use Rattle.modulate.specs.Mask.{maskRules, lumaMask, chromaRotation, chromaMaskApply, chromaMaskRemove}
 use Rattle.modulate.specs.Score.{unmaskedHue, symbolBit, bitOfHue, bettered, bitLlr, maskedAt, unmaskAt, badLumaLengths, unmaskSentences, unmaskLumaOf}
@@ -123,7 +123,7 @@ unfolding fits fraction round levelL
 plain-singles = record { palette = each-fits plainPalette plain-fits; l0 = tt; l1 = tt; sigma-l = tt; sigma-ab = tt; sigma-ab-dark = tt; sigma-ab-light = tt }
 
 pub plain-meets : InMargin plain × Readable plain plainCard
-unfolding add sub mul div neg lt le eq round isNan fraction abs max min clamp refusal decided someOf anyUp turns forUp stats.sentencesOf badHues shortPalette badNumbers wild badNoiseNumbers wildFigure badSigmas badLevelSigma levelL hueAb paletteLab inMargin levelsFit levelFits colourFits sigmasFit darkClear lightClear lumaLlr chromaClear chromaOn hueClear apart near far otherFar sigmaAbAt between drawOf drawSentences badSide badCellSize badDrawLengths shortBits shortHues chromaLength symbolBits log2 halvings chromaEntries badCounts badModules drawing.badPositions misplaced outside badCell levelAt gridLevel ringLevel xor isOne bitOf lumaMask maskRules drawnHues hueAt pushBit cellHue ringHue chromaMaskApply chromaRotation chromaSymbolToHue grayInverse xorShifts unitModel moduleColour cellColour centre cellCentre ofInt linearAt mixed unshaded affineRow basisAt normalised termsUsed addTerm isHeld holdGain leastGain deshade toSingle linearToXyz xyzToLab lightness labF line cbrtOf digits iroot rootOfUnits mag scoredOf scoring.sentencesOf badLengths badModuleLengths badCellLengths shortChroma scoring.badPositions badInputs badCorrected wildLinear badModel badTerms badModelSide notFiniteModel notFiniteAffine notFiniteGains notFiniteFlares toUnsigned writeModule lumaScore weighted weighed reliability closer distance weight sqrtOf chromaWritten ringChroma writeCell writeRing writeEntry putScore chromaScore putLikelihood hueLogLikelihood denominator bitLlr bettered bitOfHue symbolBit unmaskedHue hueToChromaSymbol gray chromaMaskRemove refineOf refinement.sentencesOf shortSlices wildNumbers refinedOf refined refineAt placeAt unmaskLumaOf unmaskSentences badLumaLengths unmaskAt maskedAt readListOf readSentences halfSigma halfApart hi lo paletteColour carriesChroma
+unfolding add sub mul div neg lt le eq round isNan fraction abs max min clamp refusal decided someOf anyUp turns forUp stats.sentencesOf badHues shortPalette badNumbers wild badNoiseNumbers wildFigure badSigmas badLevelSigma levelL hueAb paletteLab inMargin levelsFit levelFits colourFits sigmasFit darkClear lightClear lumaLlr chromaClear chromaOn hueClear apart near far otherFar sigmaAbAt between drawOf drawSentences badSide badCellSize badDrawLengths shortBits shortHues chromaLength symbolBits log2 halvings chromaEntries badCounts badModules drawing.badPositions misplaced outside badCell levelAt gridLevel ringLevel xor isOne bitOf lumaMask maskRules drawnHues hueAt pushBit cellHue ringHue chromaMaskApply chromaRotation chromaSymbolToHue grayInverse xorShifts unitModel moduleColour cellColour centre cellCentre ofInt linearAt mixed unshaded affineRow basisAt normalised termsUsed addTerm isHeld holdGain leastGain deshade toSingle linearToXyz xyzToLab lightness labF line cbrtOf digits iroot rootOfUnits mag scoredOf scoring.sentencesOf badLengths badModuleLengths badCellLengths shortChroma scoring.badPositions badInputs badCorrected wildLinear badModel badShape badTerms badModelSide notFiniteModel notFiniteAffine notFiniteGains notFiniteFlares toUnsigned writeModule lumaScore weighted weighed reliability closer distance weight sqrtOf chromaWritten ringChroma writeCell writeRing writeEntry putScore chromaScore putLikelihood hueLogLikelihood denominator bitLlr bettered bitOfHue symbolBit unmaskedHue hueToChromaSymbol gray chromaMaskRemove refineOf refinement.sentencesOf shortSlices wildNumbers refinedOf refined refineAt placeAt unmaskLumaOf unmaskSentences badLumaLengths unmaskAt maskedAt readListOf readSentences halfSigma halfApart hi lo paletteColour carriesChroma
 plain-meets = (
   refl,
   record {
@@ -182,7 +182,7 @@ unfolding fits fraction round levelL
 coloured-singles = record { palette = each-fits colouredPalette coloured-fits; l0 = tt; l1 = tt; sigma-l = tt; sigma-ab = tt; sigma-ab-dark = tt; sigma-ab-light = tt }
 
 pub coloured-meets : InMargin coloured × Readable coloured colouredCard
-unfolding add sub mul div neg lt le eq round isNan fraction abs max min clamp refusal decided someOf anyUp turns forUp stats.sentencesOf badHues shortPalette badNumbers wild badNoiseNumbers wildFigure badSigmas badLevelSigma levelL hueAb paletteLab inMargin levelsFit levelFits colourFits sigmasFit darkClear lightClear lumaLlr chromaClear chromaOn hueClear apart near far otherFar sigmaAbAt between drawOf drawSentences badSide badCellSize badDrawLengths shortBits shortHues chromaLength symbolBits log2 halvings chromaEntries badCounts badModules drawing.badPositions misplaced outside badCell levelAt gridLevel ringLevel xor isOne bitOf lumaMask maskRules drawnHues hueAt pushBit cellHue ringHue chromaMaskApply chromaRotation chromaSymbolToHue grayInverse xorShifts unitModel moduleColour cellColour centre cellCentre ofInt linearAt mixed unshaded affineRow basisAt normalised termsUsed addTerm isHeld holdGain leastGain deshade toSingle linearToXyz xyzToLab lightness labF line cbrtOf digits iroot rootOfUnits mag scoredOf scoring.sentencesOf badLengths badModuleLengths badCellLengths shortChroma scoring.badPositions badInputs badCorrected wildLinear badModel badTerms badModelSide notFiniteModel notFiniteAffine notFiniteGains notFiniteFlares toUnsigned writeModule lumaScore weighted weighed reliability closer distance weight sqrtOf chromaWritten ringChroma writeCell writeRing writeEntry putScore chromaScore putLikelihood hueLogLikelihood denominator bitLlr bettered bitOfHue symbolBit unmaskedHue hueToChromaSymbol gray chromaMaskRemove refineOf refinement.sentencesOf shortSlices wildNumbers refinedOf refined refineAt placeAt unmaskLumaOf unmaskSentences badLumaLengths unmaskAt maskedAt readListOf readSentences halfSigma halfApart hi lo paletteColour carriesChroma
+unfolding add sub mul div neg lt le eq round isNan fraction abs max min clamp refusal decided someOf anyUp turns forUp stats.sentencesOf badHues shortPalette badNumbers wild badNoiseNumbers wildFigure badSigmas badLevelSigma levelL hueAb paletteLab inMargin levelsFit levelFits colourFits sigmasFit darkClear lightClear lumaLlr chromaClear chromaOn hueClear apart near far otherFar sigmaAbAt between drawOf drawSentences badSide badCellSize badDrawLengths shortBits shortHues chromaLength symbolBits log2 halvings chromaEntries badCounts badModules drawing.badPositions misplaced outside badCell levelAt gridLevel ringLevel xor isOne bitOf lumaMask maskRules drawnHues hueAt pushBit cellHue ringHue chromaMaskApply chromaRotation chromaSymbolToHue grayInverse xorShifts unitModel moduleColour cellColour centre cellCentre ofInt linearAt mixed unshaded affineRow basisAt normalised termsUsed addTerm isHeld holdGain leastGain deshade toSingle linearToXyz xyzToLab lightness labF line cbrtOf digits iroot rootOfUnits mag scoredOf scoring.sentencesOf badLengths badModuleLengths badCellLengths shortChroma scoring.badPositions badInputs badCorrected wildLinear badModel badShape badTerms badModelSide notFiniteModel notFiniteAffine notFiniteGains notFiniteFlares toUnsigned writeModule lumaScore weighted weighed reliability closer distance weight sqrtOf chromaWritten ringChroma writeCell writeRing writeEntry putScore chromaScore putLikelihood hueLogLikelihood denominator bitLlr bettered bitOfHue symbolBit unmaskedHue hueToChromaSymbol gray chromaMaskRemove refineOf refinement.sentencesOf shortSlices wildNumbers refinedOf refined refineAt placeAt unmaskLumaOf unmaskSentences badLumaLengths unmaskAt maskedAt readListOf readSentences halfSigma halfApart hi lo paletteColour carriesChroma
 coloured-meets = (
   refl,
   record {

@@ -61,8 +61,11 @@ notFiniteFlares m =
 unfoldable pub notFiniteModel : IlluminationModel → Bool
 notFiniteModel m = notFiniteAffine m || (notFiniteGains m || (notFiniteFlares m || notFinite (m .«residual_rms»)))
 
+unfoldable pub badShape : IlluminationModel → Bool
+badShape m = badTerms (m .terms) || badModelSide (m .side)
+
 unfoldable pub badModel : IlluminationModel → Bool
-badModel m = badTerms (m .terms) || (badModelSide (m .side) || notFiniteModel m)
+badModel m = badShape m || notFiniteModel m
 
 -- ---- identity: 2
 

@@ -12,7 +12,7 @@ ghost use Rattle.color.specs.Palette.{wild, wildLinear};
 ghost use Rattle.illum.specs.Surface.{termsUsed, basisAt, summed, isHeld, holdGain, inverted, deshade, normalised};
 ghost use Rattle.illum.specs.Correct as spec;
 ghost use Rattle.illum.specs.Reach.{Typed, Placed, largeUpTo, largeAffine, largeGains, largeFlares, inScale, reachOf, isWithin};
-ghost use Rattle.illum.specs.Refusals.{badTerms, badModelSide, notFinite4, notFiniteUpTo, notFiniteAffine, notFiniteGains, notFiniteFlares, notFiniteModel, badModel, identityOf, correctOf};
+ghost use Rattle.illum.specs.Refusals.{badTerms, badModelSide, notFinite4, notFiniteUpTo, notFiniteAffine, notFiniteGains, notFiniteFlares, notFiniteModel, badShape, badModel, identityOf, correctOf};
 ghost use Rattle.illum.specs.Shown.{leavesOpen};
 use color::Linear;
 
@@ -541,15 +541,22 @@ pub fn not_finite_model(m: IlluminationModel) -> bool
     not_finite(m.residual_rms)
 }
 
+// The terms are neither 4 nor 9, or the side is not a whole number from 1 to 1,024.
+fn bad_shape(m: IlluminationModel) -> bool
+    ensures { λ r. ⌜ r ≡ badShape m ⌝ }
+{
+    if bad_terms(m.terms) {
+        return true;
+    }
+    bad_model_side(m.side)
+}
+
 // Core: sentence 10, the model's terms are neither 4 nor 9, its side is not a whole number from 1 to 1,024, or one of its numbers is
 // not finite.
 pub fn bad_model(m: IlluminationModel) -> bool
     ensures { λ r. ⌜ r ≡ badModel m ⌝ }
 {
-    if bad_terms(m.terms) {
-        return true;
-    }
-    if bad_model_side(m.side) {
+    if bad_shape(m) {
         return true;
     }
     not_finite_model(m)
@@ -624,8 +631,8 @@ pub fn identity(side: usize) -> Modelled
 
 // Whether a corrected colour leaves it open that a number of its model is not finite. Such a number makes a component wild or an
 // inverse 0, save for the residual.
-fn leaves_open(d: Unshaded, out: Linear, rms: f32) -> bool
-    ensures { λ v. ⌜ v ≡ leavesOpen d out rms ⌝ }
+fn leaves_open(model: IlluminationModel, d: Unshaded, out: Linear) -> bool
+    ensures { λ v. ⌜ v ≡ leavesOpen model d out ⌝ }
 {
     if color::palette::wild_linear(out) {
         return true;
@@ -642,7 +649,7 @@ fn leaves_open(d: Unshaded, out: Linear, rms: f32) -> bool
     if b.value == 0.0 {
         return true;
     }
-    not_finite(rms)
+    not_finite(model.residual_rms)
 }
 
 // An observed colour at a position, corrected by the model. The position is any float, and so is what comes out. Refused by 8
@@ -653,16 +660,13 @@ pub fn correct(model: IlluminationModel, x: f32, y: f32, colour: Linear) -> Corr
     if color::palette::wild_linear(colour) {
         return Correction::Refused(8);
     }
-    if bad_terms(model.terms) {
-        return Correction::Refused(10);
-    }
-    if bad_model_side(model.side) {
+    if bad_shape(model) {
         return Correction::Refused(10);
     }
     let d = unshade(model, x, y, colour);
     let m = mix(model, d);
     let out = m.colour;
-    if !leaves_open(d, out, model.residual_rms) {
+    if !leaves_open(model, d, out) {
         return Correction::Corrected(out);
     }
     if not_finite_model(model) {

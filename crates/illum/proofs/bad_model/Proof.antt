@@ -1,4 +1,4 @@
--- `illum::bad_model` meets its contract: the terms, the side and the numbers, one after the other.
+-- `illum::bad_model` meets its contract: the terms and the side, then the numbers.
 -- Assumes nothing.
 use borrow.Author.Needs.{needs}
 use Rattle.sentences.proofs.Laws.{ors}
@@ -10,5 +10,4 @@ pub bad-model-spec : {M : Type 1} → statement M
 unfolding badModel
 bad-model-spec =
     tie.close
-    (tie.spec (λ c κs. search needs) (λ c. search (ors) depth 15 fits 50000) (λ c κs. search needs) (λ c. search (ors) depth 15 fits 50000)
-    (λ c κs. search needs) (λ c. search (ors) depth 15 fits 50000))
+    (tie.spec (λ c κs. search needs) (λ c. search (ors) depth 15 fits 50000) (λ c κs. search needs) (λ c. search (ors) depth 15 fits 50000))

@@ -15,7 +15,7 @@ use Rattle.illum.specs.declared.Marked.{Marked}
 use Rattle.illum.specs.declared.Unshaded.{Unshaded}
 use Rattle.illum.specs.declared.Correction.the-variants.{Refused, Corrected}
 use Rattle.illum.specs.Correct.{unshaded, mixed, corrected}
-use Rattle.illum.specs.Refusals.{badTerms, badModelSide, notFiniteModel, badModel, sentencesOf, correctOf}
+use Rattle.illum.specs.Refusals.{badShape, notFiniteModel, badModel, sentencesOf, correctOf}
 use Rattle.illum.specs.Shown.{leavesOpen}
 use Rattle.illum.proofs.Shown.{shown}
 use Rattle.illum.proofs.correct.Statement.{statement}
@@ -27,17 +27,13 @@ opposite false e = refl
 
 -- the parts of sentence 10
 module _ (m : IlluminationModel) where
-  terms-bad : badTerms (m .terms) ≡ true → badModel m ≡ true
+  shape-bad : badShape m ≡ true → badModel m ≡ true
   unfolding badModel
-  terms-bad e = rw e refl
+  shape-bad e = rw e refl
 
-  side-bad : badTerms (m .terms) ≡ false → badModelSide (m .side) ≡ true → badModel m ≡ true
+  numbers : badShape m ≡ false → badModel m ≡ notFiniteModel m
   unfolding badModel
-  side-bad e h = rw (e, h) refl
-
-  numbers : badTerms (m .terms) ≡ false → badModelSide (m .side) ≡ false → badModel m ≡ notFiniteModel m
-  unfolding badModel
-  numbers e h = rw (e, h) refl
+  numbers e = rw e refl
 
 module _ (m : IlluminationModel) (x y : Float) (c : Linear) where
   by-8 : (w : Bool) → w ≡ wildLinear c → w ≡ true → Refused 8 ≡ correctOf m x y c
@@ -63,11 +59,11 @@ module _ (m : IlluminationModel) (x y : Float) (c : Linear) where
     same : k ≡ corrected m x y c
     same = v ∙ ap (mixed m) u
 
-    finite-shown : (r : Bool) → r ≡ leavesOpen d (k .colour) (m .«residual_rms») → r ≡ false → notFiniteModel m ≡ false
+    finite-shown : (r : Bool) → r ≡ leavesOpen m d (k .colour) → r ≡ false → notFiniteModel m ≡ false
     finite-shown r e t =
         shown m x y c
-        (sym (ap (λ (z : Marked). leavesOpen (unshaded m x y c) (z .colour) (m .«residual_rms»)) same)
-        ∙ (sym (ap (λ (z : Unshaded). leavesOpen z (k .colour) (m .«residual_rms»)) u) ∙ (sym e ∙ t)))
+        (sym (ap (λ (z : Marked). leavesOpen m (unshaded m x y c) (z .colour)) same)
+        ∙ (sym (ap (λ (z : Unshaded). leavesOpen m z (k .colour)) u) ∙ (sym e ∙ t)))
 
 returns : tie.Need-returns
 returns c = by-8 _ _ _ _ _ (c .before .wild-linear .ensures) (c .if1 .taken)
@@ -75,40 +71,32 @@ returns c = by-8 _ _ _ _ _ (c .before .wild-linear .ensures) (c .if1 .taken)
 returns-2 : tie.Need-returns-2
 returns-2 c =
     by-10 _ _ _ _ (sym (c .before .before .before .wild-linear .ensures) ∙ c .before .before .if1 .left)
-    (terms-bad _ (sym (c .before .bad-terms .ensures) ∙ c .if2 .taken))
+    (shape-bad _ (sym (c .before .bad-shape .ensures) ∙ c .if2 .taken))
 
 returns-3 : tie.Need-returns-3
 returns-3 c =
-    by-10 _ _ _ _ (sym (c .before .before .before .before .before .wild-linear .ensures) ∙ c .before .before .before .before .if1 .left)
-    (side-bad _ (sym (c .before .before .before .bad-terms .ensures) ∙ c .before .before .if2 .left) (sym (c .before .bad-model-side .ensures) ∙ c .if3 .taken))
-
-returns-4 : tie.Need-returns-4
-returns-4 c =
     let a = c .before .before .before .before .before in
     let u = c .before .before .before .before .unshade .ensures in
     let v = c .before .before .before .mix .ensures in
-    by-0 _ _ _ _ _ (sym (a .before .before .before .before .before .wild-linear .ensures) ∙ a .before .before .before .before .if1 .left)
-    (numbers _ (sym (a .before .before .before .bad-terms .ensures) ∙ a .before .before .if2 .left) (sym (a .before .bad-model-side .ensures) ∙ a .if3 .left)
-    ∙ finite-shown _ _ _ _ _ _ u v _ (c .before .leaves-open .ensures) (opposite _ (c .if4 .taken)))
+    by-0 _ _ _ _ _ (sym (a .before .before .before .wild-linear .ensures) ∙ a .before .before .if1 .left)
+    (numbers _ (sym (a .before .bad-shape .ensures) ∙ a .if2 .left) ∙ finite-shown _ _ _ _ _ _ u v _ (c .before .leaves-open .ensures) (opposite _ (c .if3 .taken)))
     (same _ _ _ _ _ _ u v)
+
+returns-4 : tie.Need-returns-4
+returns-4 c =
+    let a = c .before .before .before .before .before .before .before in
+    by-10 _ _ _ _ (sym (a .before .before .before .wild-linear .ensures) ∙ a .before .before .if1 .left)
+    (numbers _ (sym (a .before .bad-shape .ensures) ∙ a .if2 .left) ∙ (sym (c .before .not-finite-model .ensures) ∙ c .if4 .taken))
 
 returns-5 : tie.Need-returns-5
 returns-5 c =
     let a = c .before .before .before .before .before .before .before in
-    by-10 _ _ _ _ (sym (a .before .before .before .before .before .wild-linear .ensures) ∙ a .before .before .before .before .if1 .left)
-    (numbers _ (sym (a .before .before .before .bad-terms .ensures) ∙ a .before .before .if2 .left) (sym (a .before .bad-model-side .ensures) ∙ a .if3 .left)
-    ∙ (sym (c .before .not-finite-model .ensures) ∙ c .if5 .taken))
-
-returns-6 : tie.Need-returns-6
-returns-6 c =
-    let a = c .before .before .before .before .before .before .before in
-    by-0 _ _ _ _ _ (sym (a .before .before .before .before .before .wild-linear .ensures) ∙ a .before .before .before .before .if1 .left)
-    (numbers _ (sym (a .before .before .before .bad-terms .ensures) ∙ a .before .before .if2 .left) (sym (a .before .bad-model-side .ensures) ∙ a .if3 .left)
-    ∙ (sym (c .before .not-finite-model .ensures) ∙ c .if5 .left))
+    by-0 _ _ _ _ _ (sym (a .before .before .before .wild-linear .ensures) ∙ a .before .before .if1 .left)
+    (numbers _ (sym (a .before .bad-shape .ensures) ∙ a .if2 .left) ∙ (sym (c .before .not-finite-model .ensures) ∙ c .if4 .left))
     (same _ _ _ _ _ _ (c .before .before .before .before .before .before .unshade .ensures) (c .before .before .before .before .before .mix .ensures))
 
 pub correct-spec : {M : Type 1} → statement M
 correct-spec =
     tie.close
-    (tie.spec (λ c κs. search needs) returns (λ c κs. search needs) returns-2 (λ c κs. search needs) returns-3 (λ c κs. search needs) (λ c κs. search needs)
-    (λ c κs. search needs) returns-4 (λ c κs. search needs) returns-5 returns-6)
+    (tie.spec (λ c κs. search needs) returns (λ c κs. search needs) returns-2 (λ c κs. search needs) (λ c κs. search needs) (λ c κs. search needs) returns-3
+    (λ c κs. search needs) returns-4 returns-5)
