@@ -146,6 +146,7 @@ module _ (m : ℕ) where
         ∙ inf-bits binary32 s;
   }
 
+  -- the whole pattern rounded is the field's units, an even count, and the digits rounded
   high-part : 897 ≤ m / 0x10_0000_0000_0000
       → closest m (2 ^ 29) ≡ (m / 0x10_0000_0000_0000 - 1) * 0x80_0000 + closest (0x10_0000_0000_0000 + m % 0x10_0000_0000_0000) (2 ^ 29)
   high-part a =
