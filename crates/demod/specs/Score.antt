@@ -90,6 +90,19 @@ writeModule n palette hues colour i s =
 abbrev pub writeModules : ChannelStats → List Float → ℕ → (ℕ → Linear) → ℕ → Sheet → Sheet
 writeModules n palette hues colour m s = forUp 0 m (writeModule n palette hues colour) s
 
+-- the colours of the modules by themselves, and their scores by themselves
+unfoldable pub colourAt : (ℕ → Linear) → ℕ → List Float → List Float
+colourAt colour i l = putColour l i (colour i)
+
+abbrev pub writeColours : (ℕ → Linear) → ℕ → List Float → List Float
+writeColours colour m l = forUp 0 m (colourAt colour) l
+
+unfoldable pub lumaAt : ChannelStats → List Float → ℕ → (ℕ → Linear) → ℕ → List Float → List Float
+lumaAt n palette hues colour i l = set l i (lumaScore n palette hues (colour i))
+
+abbrev pub writeLumas : ChannelStats → List Float → ℕ → (ℕ → Linear) → ℕ → List Float → List Float
+writeLumas n palette hues colour m l = forUp 0 m (lumaAt n palette hues colour) l
+
 -- ---- chroma
 
 -- the likelihoods of the hues, in room for 16, and the scores of the symbol's bits, in room for 4

@@ -14,7 +14,7 @@ ghost use Rattle.sentences.specs.Sentences.{refusal};
 ghost use Rattle.limits.specs.Limits.{badHues};
 ghost use Rattle.limits.specs.Chroma.{symbolBits, chromaLength, ringModules};
 ghost use Rattle.color.specs.Color.{linearToLab};
-ghost use Rattle.color.specs.Palette.{paletteLen};
+ghost use Rattle.color.specs.Palette.{paletteLen, linearAt};
 ghost use Rattle.stats.specs.Noise.{Sigmas};
 ghost use Rattle.demod.specs.Score as spec;
 ghost use Rattle.demod.specs.Score.{Exact, sheet};
@@ -151,24 +151,55 @@ fn put_colour(l: &mut [f32], i: usize, c: Linear)
     l[3 * i + 2] = c.b;
 }
 
-// Writes for module i, whose corrected colour is c.
-fn write_module(
+// Writes the corrected colour of every module. (Colours first and scores after is quicker than both at once: one module's arithmetic
+// is a long chain, and short loops let the next modules' begin before it ends.)
+fn write_colours(model: IlluminationModel, xs: &[i32], ys: &[i32], raw: &[f32], colours: &mut [f32])
+    requires { ⌜ (length (now xs) ≡ length (now ys)) × Exact (now xs) (length (now xs)) × Exact (now ys) (length (now xs)) × (3 * length (now xs) ≤ length (now raw)) × (3 * length (now xs) ≤ length (now colours)) ⌝ }
+    ensures { λ _. ⌜ now (colours .exit) ≡ spec.writeColours (spec.moduleColour model (now (xs .entry)) (now (ys .entry)) (now (raw .entry))) (length (now (xs .entry))) (now (colours .entry)) ⌝ }
+{
+    for i in 0..xs.len() {
+        let s = module_spot(xs, ys, raw, i);
+        let d = illum::unshade(model, s.x, s.y, s.colour);
+        let m = illum::mix(model, d);
+        put_colour(colours, i, m.colour);
+    }
+}
+
+// Writes the luma score of module i, whose corrected colour is entry i of `colours`.
+fn write_luma(
     noise: ChannelStats,
     palette: &[f32],
     hues: usize,
     sigmas: &[f32],
-    c: Linear,
+    colours: &[f32],
     i: usize,
     luma: &mut [f32],
-    colours: &mut [f32],
 )
-    requires { ⌜ (paletteLen hues ≤ length (now palette)) × Sigmas noise (now palette) hues (now sigmas) × (i < length (now luma)) × (3 * i + 2 < length (now colours)) ⌝ }
-    ensures { λ _. ⌜ sheet (now (luma .exit)) (now (colours .exit)) ≡ spec.writeModule noise (now (palette .entry)) hues (spec.only c) i (sheet (now (luma .entry)) (now (colours .entry))) ⌝ }
+    requires { ⌜ (paletteLen hues ≤ length (now palette)) × Sigmas noise (now palette) hues (now sigmas) × (3 * i + 2 < length (now colours)) × (i < length (now luma)) ⌝ }
+    ensures { λ _. ⌜ now (luma .exit) ≡ spec.lumaAt noise (now (palette .entry)) hues (linearAt (now (colours .entry))) i (now (luma .entry)) ⌝ }
 {
-    luma[i] = luma_score(noise, palette, hues, sigmas, c);
-    put_colour(colours, i, c);
+    luma[i] = luma_score(noise, palette, hues, sigmas, linear_at(colours, i));
 }
 
+// Writes those of the first n modules.
+fn write_lumas(
+    noise: ChannelStats,
+    palette: &[f32],
+    hues: usize,
+    sigmas: &[f32],
+    colours: &[f32],
+    n: usize,
+    luma: &mut [f32],
+)
+    requires { ⌜ (paletteLen hues ≤ length (now palette)) × Sigmas noise (now palette) hues (now sigmas) × (3 * n ≤ length (now colours)) × (n ≤ length (now luma)) ⌝ }
+    ensures { λ _. ⌜ now (luma .exit) ≡ spec.writeLumas noise (now (palette .entry)) hues (linearAt (now (colours .entry))) n (now (luma .entry)) ⌝ }
+{
+    for i in 0..n {
+        write_luma(noise, palette, hues, sigmas, colours, i, luma);
+    }
+}
+
+// Writes the corrected colour and the luma score of every module.
 fn write_modules(
     noise: ChannelStats,
     palette: &[f32],
@@ -184,12 +215,8 @@ fn write_modules(
     requires { ⌜ (paletteLen hues ≤ length (now palette)) × Sigmas noise (now palette) hues (now sigmas) × (length (now xs) ≡ length (now ys)) × Exact (now xs) (length (now xs)) × Exact (now ys) (length (now xs)) × (3 * length (now xs) ≤ length (now raw)) × (length (now xs) ≤ length (now luma)) × (3 * length (now xs) ≤ length (now colours)) ⌝ }
     ensures { λ _. ⌜ sheet (now (luma .exit)) (now (colours .exit)) ≡ spec.writeModules noise (now (palette .entry)) hues (spec.moduleColour model (now (xs .entry)) (now (ys .entry)) (now (raw .entry))) (length (now (xs .entry))) (sheet (now (luma .entry)) (now (colours .entry))) ⌝ }
 {
-    for i in 0..xs.len() {
-        let s = module_spot(xs, ys, raw, i);
-        let d = illum::unshade(model, s.x, s.y, s.colour);
-        let m = illum::mix(model, d);
-        write_module(noise, palette, hues, sigmas, m.colour, i, luma, colours);
-    }
+    write_colours(model, xs, ys, raw, colours);
+    write_lumas(noise, palette, hues, sigmas, colours, xs.len(), luma);
 }
 
 // ---- chroma
