@@ -1,4 +1,4 @@
--- The columns: each reference's three numbers stand at its place, and no later one is written over them. So the lists of the columns are those of
+-- The columns: each reference's corrected colour, and then its three numbers, stand at its place, and those of no other are written over them. So the lists of the columns are those of
 -- the references, a mark lying in a list's range exactly where the reference counts for it. Assumes nothing.
 use mathlib.Core.Path.{_≡_, refl, sym, ap, _∙_}
 use mathlib.Core.Logic.{_≢_}
@@ -14,10 +14,12 @@ use Rattle.stats.specs.declared.ChannelStats.{ChannelStats}
 use Rattle.stats.specs.Noise.{nominal}
 use lib.Seq.{getD-set-same, getD-set-other, getD-drop}
 use lib.Ieee.{Float, nan, le, lt, eq, ofBits}
+use Rattle.color.specs.declared.Linear.{Linear}
 use Rattle.color.specs.declared.Lab.{Lab}
+use Rattle.color.specs.Color.{linearToLab}
 use Rattle.illum.specs.declared.IlluminationModel.{IlluminationModel}
-use Rattle.measure.specs.Measure.{picked, sameLevel, atLevel, isLight, colourful, correctedLab, nominalLab, lightnessAt, errorAt, forLevel, forLevelChroma, levelOf, errorsOf, levelErrorsOf, recordOf, measuredOf, measured}
-use Rattle.measure.specs.Columns.{m0, m1, m2, m3, m4, m5, m6, markOf, markFor, markAt, marked, chromaError, noted, notedAt, Noted, pickedIn, levelIn, recordIn}
+use Rattle.measure.specs.Measure.{picked, sameLevel, atLevel, isLight, colourful, correctedAt, correctedLab, nominalLab, lightnessAt, errorAt, forLevel, forLevelChroma, levelOf, errorsOf, levelErrorsOf, recordOf, measuredOf, measured}
+use Rattle.measure.specs.Columns.{m0, m1, m2, m3, m4, m5, m6, markOf, markFor, markAt, marked, chromaError, noted, notedAt, Noted, placed, colourAt, Corrected, Converted, pickedIn, levelIn, recordIn}
 use Rattle.measure.proofs.Lists.{picked-same, picked-two}
 
 -- ---- three writes at x < y < z
@@ -46,7 +48,7 @@ module _ {m : IlluminationModel} {palette flat : List Float} {n : ℕ} where
   module _ {i : ℕ} {s : List Float} (inv : Noted m palette flat n i s) (h : i < n) (l : length s ≡ 4 * n) where
     module _ (a b c : Float) where
       abbrev after : List Float
-      after = three s (n + i) (2 * n + i) (3 * n + i) a b c
+      after = placed n i a b c s
 
       kept : (j : ℕ) → j ≢ n + i → j ≢ 2 * n + i → j ≢ 3 * n + i → (v : Float) → getD s j nan ≡ v → getD after j nan ≡ v
       kept j p q r v e = at-other s (n + i) (2 * n + i) (3 * n + i) a b c j p q r ∙ e
@@ -81,6 +83,72 @@ module _ {m : IlluminationModel} {palette flat : List Float} {n : ℕ} where
 
   pub note-done : {i : ℕ} {s : List Float} → Noted m palette flat n i s → n ≤ i → Noted m palette flat n n s
   note-done inv h = record { l = λ j k. inv .l j (omega arith); e = λ j k. inv .e j (omega arith); mark = λ j k. inv .mark j (omega arith) }
+
+-- ---- the corrected colours: a turn writes that of reference i and changes no other
+
+module _ {n i : ℕ} (s : List Float) (h : i < n) (a b c : Float) where
+  colour-other : (j : ℕ) → j < n → j ≢ i → colourAt n j (placed n i a b c s) ≡ colourAt n j s
+  unfolding colourAt
+  colour-other j k q =
+      let at = at-other s (n + i) (2 * n + i) (3 * n + i) a b c in
+      rw (
+        at (n + j) (λ e. q (omega arith)) (λ e. omega arith) (λ e. omega arith),
+        at (2 * n + j) (λ e. omega arith) (λ e. q (omega arith)) (λ e. omega arith),
+        at (3 * n + j) (λ e. omega arith) (λ e. omega arith) (λ e. q (omega arith)),
+      )
+
+  colour-same : length s ≡ 4 * n → (v : Linear) → a ≡ v .r → b ≡ v .g → c ≡ v .b → colourAt n i (placed n i a b c s) ≡ v
+  unfolding colourAt
+  colour-same l v ea eb ec =
+      rw (
+        at-x s (n + i) (2 * n + i) (3 * n + i) a b c (omega arith) (omega arith) (omega arith),
+        at-y s (n + i) (2 * n + i) (3 * n + i) a b c (omega arith) (omega arith) (omega arith),
+        at-z s (n + i) (2 * n + i) (3 * n + i) a b c (omega arith) (omega arith) (omega arith),
+        ea,
+        eb,
+        ec,
+      )
+
+module _ {m : IlluminationModel} {flat : List Float} {n : ℕ} where
+  pub correct-begin : (s : List Float) → Corrected m flat n 0 0 s
+  correct-begin s = record { colour = λ j g k. absurd (omega arith) }
+
+  pub correct-turn : {i : ℕ} {s s′ : List Float} (v : Linear) → v ≡ correctedAt m flat i → s′ ≡ placed n i (v .r) (v .g) (v .b) s → Corrected m flat n 0 i s → i < n → length s ≡ 4 * n
+      → Corrected m flat n 0 (i + 1) s′
+  correct-turn {i} {s} {s′} v ev e inv h l = rw e (record { colour = λ j g k. at j (ℕ-discrete j i) k })
+    where
+      at : (j : ℕ) → Dec (j ≡ i) → j < i + 1 → colourAt n j (placed n i (v .r) (v .g) (v .b) s) ≡ correctedAt m flat j
+      at j (yes q) k = rw q (colour-same s h (v .r) (v .g) (v .b) l v refl refl refl ∙ ev)
+      at j (no q) k = colour-other s h (v .r) (v .g) (v .b) j (omega arith) q ∙ inv .colour j (omega arith) (omega (arith, q))
+
+  pub correct-done : {i : ℕ} {s : List Float} → Corrected m flat n 0 i s → n ≤ i → Corrected m flat n 0 n s
+  correct-done inv h = record { colour = λ j g k. inv .colour j g (omega arith) }
+
+-- ---- the conversion: a turn writes the numbers of reference i over its corrected colour
+
+module _ {palette flat : List Float} {n : ℕ} where
+  pub convert-begin : (s : List Float) → Converted palette flat n 0 s s
+  convert-begin s = record { done = λ m q. note-begin s; left = λ m q. q }
+
+  module _ {i : ℕ} {t s s′ : List Float} (inv : Converted palette flat n i t s) (h : i < n) (l : length s ≡ 4 * n)
+      (e : s′ ≡ noted (linearToLab (colourAt n i s)) palette flat n i s) (m : IlluminationModel) (q : Corrected m flat n 0 n t) where
+    as-noted : s′ ≡ notedAt m palette flat n i s
+    unfolding notedAt correctedLab
+    as-noted = e ∙ ap (λ (c : Linear). noted (linearToLab c) palette flat n i s) (inv .left m q .colour i (omega arith) h)
+
+    others : Corrected m flat n (i + 1) n s′
+    unfolding noted
+    others = rw e (record { colour = λ j g k. colour-other s h _ _ _ j k (λ z. omega arith) ∙ inv .left m q .colour j (omega arith) k })
+
+  pub convert-turn : {i : ℕ} {t s s′ : List Float} → s′ ≡ noted (linearToLab (colourAt n i s)) palette flat n i s → Converted palette flat n i t s → i < n → length s ≡ 4 * n
+      → Converted palette flat n (i + 1) t s′
+  convert-turn e inv h l = record { done = λ m q. note-turn (inv .done m q) h l (as-noted inv h l e m q); left = λ m q. others inv h l e m q }
+
+  pub convert-done : {i : ℕ} {t s : List Float} → Converted palette flat n i t s → n ≤ i → Converted palette flat n n t s
+  convert-done inv h = record { done = λ m q. note-done (inv .done m q) h; left = λ m q. record { colour = λ j g k. absurd (omega arith) } }
+
+  pub converted-noted : {m : IlluminationModel} {t s : List Float} → Converted palette flat n n t s → Corrected m flat n 0 n t → Noted m palette flat n n s
+  converted-noted inv q = inv .done _ q
 
 -- ---- a mark lies in a list's range exactly where the reference counts for the list
 

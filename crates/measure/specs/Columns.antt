@@ -3,9 +3,10 @@
 use mathlib.Core.Path.{_≡_}
 use mathlib.Core.Bool.{Bool, true, false, cond, _&&_}
 use mathlib.Core.List.{List, _++_, map}
-use Prim.Native.Nat.{ℕ, _+_, _*_, _<_}
+use Prim.Native.Nat.{ℕ, _+_, _*_, _≤_, _<_}
 use lib.ListN.{length, getD, set}
 use lib.Ieee.{Float, nan, binary32, ofBits, le}
+use Rattle.color.specs.declared.Linear.{Linear}
 use Rattle.color.specs.declared.Lab.{Lab}
 use Rattle.color.specs.Color.{abDistance}
 use Rattle.order.specs.Median.{medianOf}
@@ -15,7 +16,7 @@ use Rattle.measure.specs.declared.Level.{Level}
 use Rattle.measure.specs.declared.Form.{Form}
 use Rattle.measure.specs.declared.Form.the-variants.{Plain, Less, Apart, LessApart}
 use Rattle.stats.specs.declared.ChannelStats.{ChannelStats}
-use Rattle.measure.specs.Measure.{figuresOf, recordOf, less, isLight, atLevel, colourful, correctedLab, nominalLab, lightnessAt, errorAt, picked}
+use Rattle.measure.specs.Measure.{figuresOf, recordOf, less, isLight, atLevel, colourful, correctedAt, correctedLab, nominalLab, lightnessAt, errorAt, picked}
 
 -- ---- marks: which lists a reference counts for. From 1 to 2 dark lightness, 5 to 6 light lightness, 2 to 5 chroma, 2 to 3 dark chroma, 4 to 5 light chroma.
 
@@ -80,6 +81,25 @@ pub record Noted (m : IlluminationModel) (palette flat : List Float) (n k : ℕ)
   pub l : (j : ℕ) → j < k → getD s (n + j) nan ≡ lightnessAt m flat j
   pub e : (j : ℕ) → j < k → colourful (nominalLab flat j) ≡ true → getD s (2 * n + j) nan ≡ errorAt m flat j
   pub mark : (j : ℕ) → j < k → getD s (3 * n + j) nan ≡ markAt palette flat j
+
+-- ---- the corrected colours, which stand in the columns until these are written
+
+-- three numbers of a reference, each written into its column
+abbrev pub placed : ℕ → ℕ → Float → Float → Float → List Float → List Float
+placed n i a b c s = set (set (set s (n + i) a) (2 * n + i) b) (3 * n + i) c
+
+-- the colour whose components stand there
+unfoldable pub colourAt : ℕ → ℕ → List Float → Linear
+colourAt n i s = record { r = getD s (n + i) nan; g = getD s (2 * n + i) nan; b = getD s (3 * n + i) nan }
+
+-- the columns hold the corrected colours of the references from a on and before b
+pub record Corrected (m : IlluminationModel) (flat : List Float) (n a b : ℕ) (s : List Float) : Type 0 where
+  pub colour : (j : ℕ) → a ≤ j → j < b → colourAt n j s ≡ correctedAt m flat j
+
+-- where t holds the corrected colours of all n, by whichever model, s has those of k references replaced by their numbers
+pub record Converted (palette flat : List Float) (n k : ℕ) (t s : List Float) : Type 0 where
+  pub done : (m : IlluminationModel) → Corrected m flat n 0 n t → Noted m palette flat n k s
+  pub left : (m : IlluminationModel) → Corrected m flat n 0 n t → Corrected m flat n k n s
 
 -- ---- the list of a column's elements whose mark is from lo to hi. t has the three columns after the first, and `column` is where one starts.
 

@@ -141,31 +141,64 @@ fn chroma_error(corrected: Lab, nominal: Lab, colourful: bool) -> f32
     0.0
 }
 
-// Writes the three numbers of reference i of n, whose corrected colour is c; mid as in `mark_for`.
-fn note_at(palette: &[f32], mid: f32, flat: &[f32], n: usize, i: usize, c: Linear, s: &mut [f32])
-    requires { ⌜ (n ≤ 16384) × (i < n) × (8 * n ≤ length (now flat)) × (2 ≤ length (now palette)) × (mid ≡ spec.middle (now palette)) × (length (now s) ≡ 4 * n) ⌝ }
-    ensures { λ _. ⌜ now (s .exit) ≡ column.noted (linearToLab c) (now (palette .entry)) (now (flat .entry)) n i (now (s .entry)) ⌝ }
+// Writes three numbers of reference i of n, each into its column.
+fn place(n: usize, i: usize, a: f32, b: f32, c: f32, s: &mut [f32])
+    requires { ⌜ (n ≤ 16384) × (i < n) × (length (now s) ≡ 4 * n) ⌝ }
+    ensures { λ _. ⌜ now (s .exit) ≡ column.placed n i a b c (now (s .entry)) ⌝ }
 {
-    let corrected = color::linear_to_lab(c);
-    let nominal = nominal_lab(flat, i);
-    let is_colourful = colourful(nominal);
-    s[n + i] = corrected.l;
-    s[2 * n + i] = chroma_error(corrected, nominal, is_colourful);
-    s[3 * n + i] = mark_for(palette, mid, nominal, is_colourful);
+    s[n + i] = a;
+    s[2 * n + i] = b;
+    s[3 * n + i] = c;
 }
 
-// Writes them of all n.
-fn note(model: IlluminationModel, palette: &[f32], flat: &[f32], n: usize, s: &mut [f32])
-    requires { ⌜ (n ≤ 16384) × (8 * n ≤ length (now flat)) × (2 ≤ length (now palette)) × (length (now s) ≡ 4 * n) ⌝ }
-    ensures { λ _. ⌜ column.Noted model (now (palette .entry)) (now (flat .entry)) n n (now (s .exit)) ⌝ }
+// Writes the corrected colours of all n, a component in each column.
+fn correct(model: IlluminationModel, flat: &[f32], n: usize, s: &mut [f32])
+    requires { ⌜ (n ≤ 16384) × (8 * n ≤ length (now flat)) × (length (now s) ≡ 4 * n) ⌝ }
+    ensures { λ _. ⌜ column.Corrected model (now (flat .entry)) n 0 n (now (s .exit)) ⌝ }
 {
-    let mid = middle(palette);
     for i in 0..n {
         let o = seen_at(flat, i);
         let d = illum::unshade(model, o.x, o.y, o.colour);
         let m = illum::mix(model, d);
-        note_at(palette, mid, flat, n, i, m.colour, s);
+        place(n, i, m.colour.r, m.colour.g, m.colour.b, s);
     }
+}
+
+// Writes the three numbers of reference i of n over its corrected colour; mid as in `mark_for`.
+fn note_at(palette: &[f32], mid: f32, flat: &[f32], n: usize, i: usize, s: &mut [f32])
+    requires { ⌜ (n ≤ 16384) × (i < n) × (8 * n ≤ length (now flat)) × (2 ≤ length (now palette)) × (mid ≡ spec.middle (now palette)) × (length (now s) ≡ 4 * n) ⌝ }
+    ensures { λ _. ⌜ now (s .exit) ≡ column.noted (linearToLab (column.colourAt n i (now (s .entry)))) (now (palette .entry)) (now (flat .entry)) n i (now (s .entry)) ⌝ }
+{
+    let corrected = color::linear_to_lab(Linear {
+        r: s[n + i],
+        g: s[2 * n + i],
+        b: s[3 * n + i],
+    });
+    let nominal = nominal_lab(flat, i);
+    let is_colourful = colourful(nominal);
+    let error = chroma_error(corrected, nominal, is_colourful);
+    let mark = mark_for(palette, mid, nominal, is_colourful);
+    place(n, i, corrected.l, error, mark, s);
+}
+
+// Writes them of all n over the corrected colours.
+fn convert(palette: &[f32], flat: &[f32], n: usize, s: &mut [f32])
+    requires { ⌜ (n ≤ 16384) × (8 * n ≤ length (now flat)) × (2 ≤ length (now palette)) × (length (now s) ≡ 4 * n) ⌝ }
+    ensures { λ _. ⌜ column.Converted (now (palette .entry)) (now (flat .entry)) n n (now (s .entry)) (now (s .exit)) ⌝ }
+{
+    let mid = middle(palette);
+    for i in 0..n {
+        note_at(palette, mid, flat, n, i, s);
+    }
+}
+
+// Writes them of all n: all are corrected first and then converted, since the turns of two short loops overlap and those of one long loop do not.
+fn note(model: IlluminationModel, palette: &[f32], flat: &[f32], n: usize, s: &mut [f32])
+    requires { ⌜ (n ≤ 16384) × (8 * n ≤ length (now flat)) × (2 ≤ length (now palette)) × (length (now s) ≡ 4 * n) ⌝ }
+    ensures { λ _. ⌜ column.Noted model (now (palette .entry)) (now (flat .entry)) n n (now (s .exit)) ⌝ }
+{
+    correct(model, flat, n, s);
+    convert(palette, flat, n, s);
 }
 
 // ---- the lists
