@@ -115,7 +115,7 @@ module _ {m : IlluminationModel} {flat : List Float} {n : ℕ} where
 
   pub correct-turn : {i : ℕ} {s s′ : List Float} (v : Linear) → v ≡ correctedAt m flat i → s′ ≡ placed n i (v .r) (v .g) (v .b) s → Corrected m flat n 0 i s → i < n → length s ≡ 4 * n
       → Corrected m flat n 0 (i + 1) s′
-  correct-turn {i} {s} {s′} v ev e inv h l = rw e (record { colour = λ j g k. at j (ℕ-discrete j i) k })
+  correct-turn {i} {s} v ev e inv h l = rw e (record { colour = λ j g k. at j (ℕ-discrete j i) k })
     where
       at : (j : ℕ) → Dec (j ≡ i) → j < i + 1 → colourAt n j (placed n i (v .r) (v .g) (v .b) s) ≡ correctedAt m flat j
       at j (yes q) k = rw q (colour-same s h (v .r) (v .g) (v .b) l v refl refl refl ∙ ev)

@@ -1,4 +1,4 @@
--- The corrected colour of a reference is what was seen of it, unshaded and then mixed; so whether it is wild is told of what was mixed. Assumes nothing.
+-- The corrected colour of a reference is what was seen of it, unshaded and then mixed; so it is wild exactly where that is. Assumes nothing.
 use mathlib.Core.Path.{_≡_}
 use mathlib.Core.Bool.{Bool}
 use mathlib.Core.List.{List}
