@@ -1,5 +1,6 @@
 -- For callers: `Accepted`, what an accepted call knows; `Outcome`, what the two answers say; `Written`, what is left, element by element; `Chroma`, the likelihoods and bit scores of an entry;
--- `Range`, luma scores within ±20. The others serve the proofs: `Apart` the modules' two passes, `Literals` the constants, `Places` positions as f32 values, `Spots` a colour as it is observed.
+-- `Range`, luma scores within ±20. The others serve the proofs: `Apart` the modules' two passes, `Blocks` cells a block at a time, `Literals` the constants, `Places` positions as f32 values, `Spots` a colour as it
+-- is observed.
 pub mod Accepted
 pub mod Outcome
 pub mod Written
@@ -9,3 +10,4 @@ mod Apart
 mod Literals
 mod Places
 mod Spots
+mod Blocks

@@ -21,7 +21,7 @@ module _ (model : IlluminationModel) (s : Spot) (d : Unshaded) (m : Marked) (i :
   unfolding moduleColour moduleSpot
   module-colour xs ys raw es ed em = rw (em, ed, es)
 
-  cell-colour : (size : ℕ) (cxs cys : List ℕ) (raw : List Float) → s ≡ cellSpot size cxs cys raw i → d ≡ unshaded model (s .x) (s .y) (s .colour) → m ≡ mixed model d → m .colour ≡ cellColour model size cxs cys raw i
+  pub cell-colour : (size : ℕ) (cxs cys : List ℕ) (raw : List Float) → s ≡ cellSpot size cxs cys raw i → d ≡ unshaded model (s .x) (s .y) (s .colour) → m ≡ mixed model d → m .colour ≡ cellColour model size cxs cys raw i
   unfolding cellColour cellSpot
   cell-colour size cxs cys raw es ed em = rw (em, ed, es)
 

@@ -32,7 +32,16 @@ module _ (l : List Float) (i : ℕ) (c : Linear) where
       getD-set-other (set (set l (3 * i) (c .r)) (3 * i + 1) (c .g)) (3 * i + 2) j (c .b) nan r ∙
       getD-set-other (set l (3 * i) (c .r)) (3 * i + 1) j (c .g) nan q ∙ getD-set-other l (3 * i) j (c .r) nan p
 
-  put-same : 3 * i + 2 < length l → linearAt (putColour l i c) i ≡ c
+  -- the other entries stay
+  pub put-apart : (j : ℕ) → (j ≡ i → ⊥) → linearAt (putColour l i c) j ≡ linearAt l j
+  unfolding linearAt
+  put-apart j h =
+      let r = put-other (3 * j) (λ e. h (omega arith)) (λ e. omega arith) (λ e. omega arith) in
+      let g = put-other (3 * j + 1) (λ e. omega arith) (λ e. h (omega arith)) (λ e. omega arith) in
+      let b = put-other (3 * j + 2) (λ e. omega arith) (λ e. omega arith) (λ e. h (omega arith)) in
+      rw (r, g, b)
+
+  pub put-same : 3 * i + 2 < length l → linearAt (putColour l i c) i ≡ c
   unfolding linearAt
   put-same h =
       let r : getD (putColour l i c) (3 * i) nan ≡ c .r =
@@ -77,14 +86,9 @@ module _ (n : ChannelStats) (palette : List Float) (hues : ℕ) (colour : ℕ �
         (eq-or-lt-of-le (let z : j ≤ i = omega arith in z))
 
     coloured-next : (j : ℕ) → j < suc i → linearAt (putColour (s .colours) i (colour i)) j ≡ colour j
-    unfolding linearAt
     coloured-next j h =
         ⊎-elim (λ (e : j ≡ i). rw e (put-same (s .colours) i (colour i) (omega (arith, p .colours-long))))
-        (λ (q : j < i).
-        let r = put-other (s .colours) i (colour i) (3 * j) (λ e. omega arith) (λ e. omega arith) (λ e. omega arith) in
-        let g = put-other (s .colours) i (colour i) (3 * j + 1) (λ e. omega arith) (λ e. omega arith) (λ e. omega arith) in
-        let b = put-other (s .colours) i (colour i) (3 * j + 2) (λ e. omega arith) (λ e. omega arith) (λ e. omega arith) in
-        rw (r, g, b) (p .coloured j q))
+        (λ (q : j < i). put-apart (s .colours) i (colour i) j (λ e. omega arith) ∙ p .coloured j q)
         (eq-or-lt-of-le (let z : j ≤ i = omega arith in z))
 
     next : Modules (suc i) (writeModule n palette hues colour i s)

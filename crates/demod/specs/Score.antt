@@ -1,7 +1,8 @@
 -- Scoring, the Rust's `demodulate` without its last call: each colour corrected, a luma score a module, log2(hues) chroma scores a cell and, at cell size 1, a ring module. Definitions only.
+use mathlib.Core.Path.{_≡_}
 use mathlib.Core.Bool.{cond}
 use mathlib.Core.List.{List}
-use Prim.Native.Nat.{ℕ, _+_, _-_, _*_, _<_}
+use Prim.Native.Nat.{ℕ, _+_, _-_, _*_, _≤_, _<_}
 use lib.Dec.{T, eqb}
 use lib.IntN.{ℤ, pos}
 use lib.ListN.{length, getD, set, replicate}
@@ -53,6 +54,14 @@ moduleSpot xs ys raw i = record { x = centre (getD xs i (pos 0)); y = centre (ge
 
 unfoldable pub cellSpot : ℕ → List ℕ → List ℕ → List Float → ℕ → Spot
 cellSpot size cxs cys raw i = record { x = cellCentre size (getD cxs i 0); y = cellCentre size (getD cys i 0); colour = linearAt raw i }
+
+-- the colour of entry i in a list that holds the colours from entry `from` on
+unfoldable pub blockColour : List Float → ℕ → ℕ → Linear
+blockColour room from i = linearAt room (i - from)
+
+-- the list holds those of the entries below `to`, which `colour` gives
+pub record Block (colour : ℕ → Linear) (from to : ℕ) (room : List Float) : Type 0 where
+  pub at : (i : ℕ) → from ≤ i → i < to → blockColour room from i ≡ colour i
 
 -- one colour for every entry
 abbrev pub only : Linear → ℕ → Linear
@@ -134,6 +143,10 @@ writeCell n palette hues cxs cys colour i chroma = writeEntry n palette hues (At
 
 abbrev pub writeCells : ChannelStats → List Float → ℕ → List ℕ → List ℕ → (ℕ → Linear) → ℕ → List Float → List Float
 writeCells n palette hues cxs cys colour c chroma = forUp 0 c (writeCell n palette hues cxs cys colour) chroma
+
+-- the cells from `from` on and below `to`
+abbrev pub writeBlock : ChannelStats → List Float → ℕ → List ℕ → List ℕ → (ℕ → Linear) → ℕ → ℕ → List Float → List Float
+writeBlock n palette hues cxs cys colour from to chroma = forUp from to (writeCell n palette hues cxs cys colour) chroma
 
 -- ring module i, one of those listed after the grid modules, stands after the cells, and no mask lies on it
 unfoldable pub writeRing : ChannelStats → List Float → ℕ → ℕ → ℕ → (ℕ → Linear) → ℕ → List Float → List Float

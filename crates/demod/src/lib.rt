@@ -17,7 +17,7 @@ ghost use Rattle.color.specs.Color.{linearToLab};
 ghost use Rattle.color.specs.Palette.{paletteLen, linearAt};
 ghost use Rattle.stats.specs.Noise.{Sigmas};
 ghost use Rattle.demod.specs.Score as spec;
-ghost use Rattle.demod.specs.Score.{Exact, sheet};
+ghost use Rattle.demod.specs.Score.{Block, Exact, sheet};
 ghost use Rattle.demod.specs.Call as call;
 use answers::Outcome;
 use color::Linear;
@@ -287,6 +287,62 @@ fn write_cell(
     write_entry(noise, palette, hues, sigmas, cell, c, i, chroma);
 }
 
+// Corrects the colours of the cells from `from` on and below `to` into `room`, three numbers each.
+fn correct_cells(
+    model: IlluminationModel,
+    size: usize,
+    cxs: &[u16],
+    cys: &[u16],
+    raw: &[f32],
+    from: usize,
+    to: usize,
+    room: &mut [f32],
+)
+    requires { ⌜ (size ≤ 16) × (from ≤ to) × (to ≤ length (now cxs)) × (to ≤ length (now cys)) × (3 * to ≤ length (now raw)) × (3 * (to - from) ≤ length (now room)) ⌝ }
+    ensures { λ _. ⌜ Block (spec.cellColour model size (now (cxs .entry)) (now (cys .entry)) (now (raw .entry))) from to (now (room .exit)) ⌝ }
+{
+    for i in from..to {
+        let s = cell_spot(size, cxs, cys, raw, i);
+        let d = illum::unshade(model, s.x, s.y, s.colour);
+        let m = illum::mix(model, d);
+        put_colour(room, i - from, m.colour);
+    }
+}
+
+// Writes for the cells from `from` on and below `to`, whose corrected colours stand in `room`.
+fn write_block(
+    noise: ChannelStats,
+    palette: &[f32],
+    hues: usize,
+    sigmas: &[f32],
+    cxs: &[u16],
+    cys: &[u16],
+    from: usize,
+    to: usize,
+    room: &[f32],
+    chroma: &mut [f32],
+)
+    requires { ⌜ (badHues hues ≡ false) × (paletteLen hues ≤ length (now palette)) × Sigmas noise (now palette) hues (now sigmas) × (from ≤ to) × (to ≤ length (now cxs)) × (to ≤ length (now cys)) × (3 * (to - from) ≤ length (now room)) × (to * symbolBits hues ≤ length (now chroma)) ⌝ }
+    ensures { λ _. ⌜ now (chroma .exit) ≡ spec.writeBlock noise (now (palette .entry)) hues (now (cxs .entry)) (now (cys .entry)) (spec.blockColour (now (room .entry)) from) from to (now (chroma .entry)) ⌝ }
+{
+    for i in from..to {
+        let c = linear_at(room, i - from);
+        write_cell(noise, palette, hues, sigmas, cxs, cys, c, i, chroma);
+    }
+}
+
+// Where the block of at most 16 cells that starts at `from` ends, of n cells.
+fn block_end(from: usize, n: usize) -> usize
+    requires { ⌜ from < n ⌝ }
+    ensures { λ r. ⌜ (from < r) × (r ≤ n) × (r ≤ from + 16) ⌝ }
+{
+    if n - from < 16 {
+        return n;
+    }
+    from + 16
+}
+
+// The cells by blocks, each corrected and then scored: two short loops, whose turns overlap in the processor.
 fn write_cells(
     noise: ChannelStats,
     palette: &[f32],
@@ -302,11 +358,24 @@ fn write_cells(
     requires { ⌜ (badHues hues ≡ false) × (paletteLen hues ≤ length (now palette)) × Sigmas noise (now palette) hues (now sigmas) × (size ≤ 16) × (length (now cxs) ≡ length (now cys)) × (3 * length (now cxs) ≤ length (now raw)) × (length (now cxs) * symbolBits hues ≤ length (now chroma)) ⌝ }
     ensures { λ _. ⌜ now (chroma .exit) ≡ spec.writeCells noise (now (palette .entry)) hues (now (cxs .entry)) (now (cys .entry)) (spec.cellColour model size (now (cxs .entry)) (now (cys .entry)) (now (raw .entry))) (length (now (cxs .entry))) (now (chroma .entry)) ⌝ }
 {
-    for i in 0..cxs.len() {
-        let s = cell_spot(size, cxs, cys, raw, i);
-        let d = illum::unshade(model, s.x, s.y, s.colour);
-        let m = illum::mix(model, d);
-        write_cell(noise, palette, hues, sigmas, cxs, cys, m.colour, i, chroma);
+    let mut room = [0.0f32; 48];
+    let mut from = 0;
+    while from < cxs.len() {
+        let to = block_end(from, cxs.len());
+        correct_cells(model, size, cxs, cys, raw, from, to, &mut room);
+        write_block(
+            noise,
+            palette,
+            hues,
+            sigmas,
+            cxs,
+            cys,
+            from,
+            to,
+            &room,
+            chroma,
+        );
+        from = to;
     }
 }
 

@@ -1,49 +1,42 @@
--- `write_cells` meets its contract: what is left from i on gives the same. Assumes nothing.
+-- `write_cells` meets its contract: what is left from the block's first cell on gives the same, and a block makes the turns of its cells. Assumes nothing.
 use mathlib.Core.Path.{_≡_}
 use borrow.Author.Needs.{needs}
-use Prim.Native.Nat.{ℕ, _+_, _-_, _*_, _≤_, _<_}
+use Prim.Native.Nat.{ℕ, _-_, _*_, _≤_}
+use native.Mathlib.Nat.{le-trans, mul-le-mul-right}
 use lib.ListN.{length}
-use Rattle.loops.proofs.Laws.{Left, turn-to, loops}
+use Rattle.loops.proofs.Laws.{Left, loops}
 use Rattle.limits.specs.Chroma.{symbolBits}
 use Rattle.demod.specs.Score.{cellColour, writeCell, writeCells}
-use Rattle.demod.proofs.Chroma.{entry-of}
-use Rattle.demod.proofs.Spots.{cell-step}
+use Rattle.demod.proofs.Blocks.{block-to}
 use Rattle.demod.proofs.write_cells.Statement.{statement}
 use Rattle.demod.proofs.write_cells.Tie as tie
 
 abbrev Inv : tie.InvT-loop
-Inv noise palette hues sigmas model size cxs cys raw chroma₀ i₀ n chroma i =
-    (n ≡ length cxs) × (length chroma ≡ length chroma₀) ×
-    Left (writeCell noise palette hues cxs cys (cellColour model size cxs cys raw)) n i chroma (writeCells noise palette hues cxs cys (cellColour model size cxs cys raw) (length cxs) chroma₀)
+Inv noise palette hues sigmas model size cxs cys raw chroma₀ room₀ from₀ chroma room from =
+    (length room ≡ 48) × (length chroma ≡ length chroma₀) ×
+    Left (writeCell noise palette hues cxs cys (cellColour model size cxs cys raw)) (length cxs) from chroma (writeCells noise palette hues cxs cys (cellColour model size cxs cys raw) (length cxs) chroma₀)
 
 abbrev μ : tie.MeasureT-loop
-μ noise palette hues sigmas model size cxs cys raw chroma₀ i₀ n chroma i = n - i
+μ noise palette hues sigmas model size cxs cys raw chroma₀ room₀ from₀ chroma room from = length cxs - from
 
--- n is the number of cells, and the list keeps its length
-cell-entry : (hues i n cells long lent : ℕ) → i < n → n ≡ cells → long ≡ lent → cells * symbolBits hues ≤ lent → i * symbolBits hues + symbolBits hues ≤ long
-cell-entry hues i n cells long lent h e f l = entry-of hues i cells long (rw e at h) (rw f l)
+-- the scores of the cells below `to` have room among those of all cells
+part-long : (hues to cells long lent : ℕ) → to ≤ cells → long ≡ lent → cells * symbolBits hues ≤ lent → to * symbolBits hues ≤ long
+part-long hues to cells long lent h e l = rw e (le-trans (mul-le-mul-right (symbolBits hues) h) l)
 
-write-cell-requires : tie.Need-write-cell-requires Inv μ
-write-cell-requires c κs =
-    let p = c .before .before .before .before .before .before .before .before .before .before .before .before .pre in
-    (search (p), search (p), search (p), search needs, search needs, search (cell-entry))
+correct-cells-requires : tie.Need-correct-cells-requires Inv μ
+correct-cells-requires c κs = (search needs, search needs, search needs, search needs, search needs, search needs)
+
+write-block-requires : tie.Need-write-block-requires Inv μ
+write-block-requires c κs = (search needs, search needs, search needs, search needs, search needs, search needs, search needs, search (part-long))
 
 loop-again : tie.Need-loop-again Inv μ
 loop-again c =
-    let step = cell-step _ _ _ _ _ _ _ _ _ _ _ _ _ _ (c .before .before .write-cell .ensures) (c .before .before .before .before .before .before .cell-spot .ensures) (c .before .before .before .before .before .unshade .ensures) (c .before .before .before .before .mix .ensures) in
-    (search needs, search needs, search (turn-to, step, c .before .before .before .before .before .before .before .loop-test .taken, c .before .before .before .before .before .before .before .before .loop .inv))
-
-add-i : tie.Need-add-i Inv μ
-add-i c =
-    search (
-      c .before .before .before .before .before .before .before .loop-test,
-      c .before .before .before .before .before .before .before .before .loop,
-      c .before .before .before .before .before .before .before .before .before .before .before .before .before .before .before .good,
-      needs,
-    )
+    let end = c .before .before .before .before .before .before .before .before .block-end .ensures in
+    let left = c .before .before .before .before .before .before .before .before .before .before .loop .inv .2 in
+    (search needs, search needs, block-to _ _ _ _ _ _ _ _ _ _ (c .before .before .before .before .before .before .correct-cells .ensures) _ _ _ left (end .0) (end .1) (c .before .before .write-block .ensures))
 
 pub write-cells-spec : {M : Type 1} → statement M
 write-cells-spec =
     tie.close
-    (tie.spec Inv μ (λ c. search (loops, needs)) (λ c κs. search needs) (λ c κs. search needs) (λ c κs. search needs) write-cell-requires add-i
-    (λ c. search needs) loop-again (λ c. search needs) (λ c. search (loops, needs)))
+    (tie.spec Inv μ (λ c. search (loops, needs)) (λ c κs. search needs) (λ c. search needs) correct-cells-requires (λ c. search needs)
+    write-block-requires (λ c. search needs) loop-again (λ c. search needs) (λ c. search (loops, needs)))
