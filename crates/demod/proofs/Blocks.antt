@@ -3,7 +3,7 @@
 use mathlib.Core.Path.{_≡_, refl, sym, ap, _∙_}
 use mathlib.Core.Logic.{⊎-elim}
 use mathlib.Core.List.{List}
-use Prim.Native.Nat.{ℕ, suc, _+_, _-_, _*_, _≤_, _<_}
+use Prim.Native.Nat.{ℕ, _+_, _-_, _*_, _≤_, _<_}
 use native.Mathlib.Omega.{arith}
 use native.Mathlib.Nat.{eq-or-lt-of-le}
 use lib.ListN.{length}
@@ -48,10 +48,10 @@ module _ (colour : ℕ → Linear) (from : ℕ) where
 
 module _ (n : ChannelStats) (palette : List Float) (hues : ℕ) (cxs cys : List ℕ) where
   -- a cell's step with the colour that stands in the list
-  pub block-step : (room : List Float) (from i : ℕ) (c : Linear) (before after : List Float) → after ≡ writeCell n palette hues cxs cys (only c) i before → c ≡ linearAt room (i - from) →
+  pub block-step : (room : List Float) (from i : ℕ) (before after : List Float) → after ≡ writeCell n palette hues cxs cys (only (linearAt room (i - from))) i before →
       after ≡ writeCell n palette hues cxs cys (blockColour room from) i before
   unfolding writeCell blockColour
-  block-step room from i c before after e ec = rw (← ec) e
+  block-step room from i before after e = e
 
   module _ (colour : ℕ → Linear) (from to : ℕ) (room before : List Float) (p : Block colour from to room) where
     -- the list's colours are those that `colour` gives

@@ -13,6 +13,7 @@ use Rattle.limits.proofs.Laws.{hues-in, symbol-bits-few}
 use Rattle.color.specs.declared.Linear.{Linear}
 use Rattle.color.specs.declared.Lab.{Lab}
 use Rattle.color.specs.Color.{linearToLab}
+use Rattle.color.specs.Palette.{linearAt}
 use Rattle.modulate.specs.declared.Cell.{Cell}
 use Rattle.modulate.specs.Score.{bitLlrAt, chromaBitLlrs}
 use Rattle.lists.proofs.Laws.{Reached, reached}
@@ -54,11 +55,11 @@ module _ (hues e k long : ℕ) (h : k ≡ symbolBits hues) (l : e * symbolBits h
   entry-in = rw h l
 
 -- one entry, from what the code has at hand
-pub entry : (n : ChannelStats) (palette : List Float) (hues : ℕ) (cell : Cell) (c : Linear) (e : ℕ) (chroma : List Float) (lab : Lab) (ll bits : List Float) (weight : Float) (k : ℕ) (after : List Float) →
-    lab ≡ linearToLab c → ll ≡ hueLogLikelihoods n lab palette hues (replicate 16 (ofBits binary32 0)) → bits ≡ chromaBitLlrs ll cell hues (replicate 4 (ofBits binary32 0)) →
-    weight ≡ reliability n lab palette hues → k ≡ symbolBits hues → after ≡ putScores bits weight k (e * k) chroma → after ≡ writeEntry n palette hues cell c e chroma
+pub entry : (n : ChannelStats) (palette : List Float) (hues : ℕ) (cell : Cell) (colours : List Float) (j : ℕ) (c : Linear) (e : ℕ) (chroma : List Float) (lab : Lab) (ll bits : List Float) (weight : Float) (k : ℕ) (after : List Float) →
+    c ≡ linearAt colours j → lab ≡ linearToLab c → ll ≡ hueLogLikelihoods n lab palette hues (replicate 16 (ofBits binary32 0)) → bits ≡ chromaBitLlrs ll cell hues (replicate 4 (ofBits binary32 0)) →
+    weight ≡ reliability n lab palette hues → k ≡ symbolBits hues → after ≡ putScores bits weight k (e * k) chroma → after ≡ writeEntry n palette hues cell (linearAt colours j) e chroma
 unfolding writeEntry
-entry n palette hues cell c e chroma lab ll bits weight k after el ell eb ew ek h = rw (← n0, ← ek, ← el, ← ell, ← eb, ← ew) h
+entry n palette hues cell colours j c e chroma lab ll bits weight k after ec el ell eb ew ek h = rw (← n0, ← ek, ← ec, ← el, ← ell, ← eb, ← ew) h
 
 -- ---- the entries' places in the list
 

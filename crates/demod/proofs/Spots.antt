@@ -1,4 +1,4 @@
--- The corrected colour of a module or a cell is its spot's, unshaded and then mixed; so a step that is handed this colour is the step of the definition. Assumes nothing.
+-- The corrected colour of a module or a cell is its spot's, unshaded and then mixed; so a step that puts this colour is the step of the definition. Assumes nothing.
 use mathlib.Core.Path.{_≡_, refl}
 use mathlib.Core.Bool.{Bool}
 use mathlib.Core.List.{List}
@@ -11,9 +11,8 @@ use Rattle.illum.specs.declared.IlluminationModel.{IlluminationModel}
 use Rattle.illum.specs.declared.Unshaded.{Unshaded}
 use Rattle.illum.specs.declared.Marked.{Marked}
 use Rattle.illum.specs.Correct.{unshaded, mixed}
-use Rattle.stats.specs.declared.ChannelStats.{ChannelStats}
 use Rattle.demod.specs.declared.Spot.{Spot}
-use Rattle.demod.specs.Score.{moduleSpot, cellSpot, moduleColour, cellColour, only, putColour, colourAt, writeCell}
+use Rattle.demod.specs.Score.{moduleSpot, cellSpot, moduleColour, cellColour, putColour, colourAt}
 use Rattle.demod.specs.Call.{wildColourAt}
 
 module _ (model : IlluminationModel) (s : Spot) (d : Unshaded) (m : Marked) (i : ℕ) where
@@ -29,12 +28,6 @@ module _ (model : IlluminationModel) (s : Spot) (d : Unshaded) (m : Marked) (i :
       → m ≡ mixed model d → after ≡ colourAt (moduleColour model xs ys raw) i before
   unfolding colourAt
   colour-step xs ys raw before after e es ed em = rw (← module-colour xs ys raw es ed em) e
-
-  module _ (n : ChannelStats) (palette : List Float) (hues : ℕ) where
-    pub cell-step : (size : ℕ) (cxs cys : List ℕ) (raw before after : List Float) → after ≡ writeCell n palette hues cxs cys (only (m .colour)) i before → s ≡ cellSpot size cxs cys raw i
-        → d ≡ unshaded model (s .x) (s .y) (s .colour) → m ≡ mixed model d → after ≡ writeCell n palette hues cxs cys (cellColour model size cxs cys raw) i before
-    unfolding writeCell
-    cell-step size cxs cys raw before after e es ed em = rw (← cell-colour size cxs cys raw es ed em) e
 
 module _ (model : IlluminationModel) (s : Spot) (d : Unshaded) (i : ℕ) (r : Bool) (e : r ≡ wildLinear (mixed model d .colour)) where
   pub module-wild : (xs ys : List ℤ) (raw : List Float) → s ≡ moduleSpot xs ys raw i → d ≡ unshaded model (s .x) (s .y) (s .colour) → r ≡ wildColourAt (moduleColour model xs ys raw) i

@@ -244,21 +244,23 @@ fn put_scores(bits: &[f32], weight: f32, n: usize, at: usize, chroma: &mut [f32]
     }
 }
 
-// Core: the scores of entry e of the chroma list, for a corrected colour, the palette's chroma noises being given.
+// Core: the scores of entry e of the chroma list, for corrected colour k of a list, the palette's chroma noises being given. The
+// colour is not passed by value: it would be stored and read back at once in other widths, for which the processor waits.
 pub fn write_entry(
     noise: ChannelStats,
     palette: &[f32],
     hues: usize,
     sigmas: &[f32],
     cell: Cell,
-    c: Linear,
+    colours: &[f32],
+    k: usize,
     e: usize,
     chroma: &mut [f32],
 )
-    requires { ⌜ (badHues hues ≡ false) × (paletteLen hues ≤ length (now palette)) × Sigmas noise (now palette) hues (now sigmas) × (e * symbolBits hues + symbolBits hues ≤ length (now chroma)) ⌝ }
-    ensures { λ _. ⌜ now (chroma .exit) ≡ spec.writeEntry noise (now (palette .entry)) hues cell c e (now (chroma .entry)) ⌝ }
+    requires { ⌜ (badHues hues ≡ false) × (paletteLen hues ≤ length (now palette)) × Sigmas noise (now palette) hues (now sigmas) × (3 * k + 2 < length (now colours)) × (e * symbolBits hues + symbolBits hues ≤ length (now chroma)) ⌝ }
+    ensures { λ _. ⌜ now (chroma .exit) ≡ spec.writeEntry noise (now (palette .entry)) hues cell (linearAt (now (colours .entry)) k) e (now (chroma .entry)) ⌝ }
 {
-    let lab = linear_to_lab(c);
+    let lab = linear_to_lab(linear_at(colours, k));
     let mut ll = [0.0f32; 16];
     noise.hue_log_likelihoods_of(lab, palette, hues, &mut ll);
     let mut bits = [0.0f32; 4];
@@ -268,7 +270,7 @@ pub fn write_entry(
     put_scores(&bits, weight, n, e * n, chroma);
 }
 
-// Writes for cell i, whose corrected colour is c.
+// Writes for cell i, whose corrected colour is colour k of a list.
 fn write_cell(
     noise: ChannelStats,
     palette: &[f32],
@@ -276,15 +278,16 @@ fn write_cell(
     sigmas: &[f32],
     cxs: &[u16],
     cys: &[u16],
-    c: Linear,
+    colours: &[f32],
+    k: usize,
     i: usize,
     chroma: &mut [f32],
 )
-    requires { ⌜ (badHues hues ≡ false) × (paletteLen hues ≤ length (now palette)) × Sigmas noise (now palette) hues (now sigmas) × (i < length (now cxs)) × (i < length (now cys)) × (i * symbolBits hues + symbolBits hues ≤ length (now chroma)) ⌝ }
-    ensures { λ _. ⌜ now (chroma .exit) ≡ spec.writeCell noise (now (palette .entry)) hues (now (cxs .entry)) (now (cys .entry)) (spec.only c) i (now (chroma .entry)) ⌝ }
+    requires { ⌜ (badHues hues ≡ false) × (paletteLen hues ≤ length (now palette)) × Sigmas noise (now palette) hues (now sigmas) × (3 * k + 2 < length (now colours)) × (i < length (now cxs)) × (i < length (now cys)) × (i * symbolBits hues + symbolBits hues ≤ length (now chroma)) ⌝ }
+    ensures { λ _. ⌜ now (chroma .exit) ≡ spec.writeCell noise (now (palette .entry)) hues (now (cxs .entry)) (now (cys .entry)) (spec.only (linearAt (now (colours .entry)) k)) i (now (chroma .entry)) ⌝ }
 {
     let cell = Cell::At(cxs[i], cys[i]);
-    write_entry(noise, palette, hues, sigmas, cell, c, i, chroma);
+    write_entry(noise, palette, hues, sigmas, cell, colours, k, i, chroma);
 }
 
 // Corrects the colours of the cells from `from` on and below `to` into `room`, three numbers each.
@@ -326,8 +329,18 @@ fn write_block(
     ensures { λ _. ⌜ now (chroma .exit) ≡ spec.writeBlock noise (now (palette .entry)) hues (now (cxs .entry)) (now (cys .entry)) (spec.blockColour (now (room .entry)) from) from to (now (chroma .entry)) ⌝ }
 {
     for i in from..to {
-        let c = linear_at(room, i - from);
-        write_cell(noise, palette, hues, sigmas, cxs, cys, c, i, chroma);
+        write_cell(
+            noise,
+            palette,
+            hues,
+            sigmas,
+            cxs,
+            cys,
+            room,
+            i - from,
+            i,
+            chroma,
+        );
     }
 }
 
@@ -342,7 +355,7 @@ fn block_end(from: usize, n: usize) -> usize
     from + 16
 }
 
-// The cells by blocks, each corrected and then scored: two short loops, whose turns overlap in the processor.
+// The cells by blocks of 16, each block corrected and then scored, so that no score waits for the correction of its cell.
 fn write_cells(
     noise: ChannelStats,
     palette: &[f32],
@@ -397,8 +410,20 @@ fn write_ring(
     ensures { λ _. ⌜ now (chroma .exit) ≡ spec.writeRing noise (now (palette .entry)) hues cells grid (spec.moduleColour model (now (xs .entry)) (now (ys .entry)) (now (raw .entry))) i (now (chroma .entry)) ⌝ }
 {
     let c = module_colour(model, xs, ys, raw, i);
+    let mut one = [0.0f32; 3];
+    put_colour(&mut one, 0, c);
     let e = cells + (i - grid);
-    write_entry(noise, palette, hues, sigmas, Cell::Unmasked, c, e, chroma);
+    write_entry(
+        noise,
+        palette,
+        hues,
+        sigmas,
+        Cell::Unmasked,
+        &one,
+        0,
+        e,
+        chroma,
+    );
 }
 
 fn write_rings(

@@ -24,15 +24,15 @@ cell-entry : (hues i to long lent : ℕ) → i < to → long ≡ lent → to * s
 cell-entry hues i to long lent h f l = entry-of hues i to long h (rw f l)
 
 write-cell-requires : tie.Need-write-cell-requires Inv μ
-write-cell-requires c κs = (search needs, search needs, search needs, search needs, search needs, search (cell-entry))
+write-cell-requires c κs = (search needs, search needs, search needs, search needs, search needs, search needs, search (cell-entry))
 
 loop-again : tie.Need-loop-again Inv μ
 loop-again c =
-    let step = block-step _ _ _ _ _ _ _ _ _ _ _ (c .before .before .write-cell .ensures) (c .before .before .before .before .linear-at .ensures) in
-    (search needs, search needs, search (turn-to, step, c .before .before .before .before .before .loop-test .taken, c .before .before .before .before .before .before .loop .inv))
+    let step = block-step _ _ _ _ _ _ _ _ _ _ (c .before .before .write-cell .ensures) in
+    (search needs, search needs, search (turn-to, step, c .before .before .before .before .loop-test .taken, c .before .before .before .before .before .loop .inv))
 
 pub write-block-spec : {M : Type 1} → statement M
 write-block-spec =
     tie.close
-    (tie.spec Inv μ (λ c. search (loops, needs)) (λ c. search needs) (λ c κs. search needs) write-cell-requires (λ c. search needs)
-    (λ c. search needs) loop-again (λ c. search needs) (λ c. search (loops, needs)))
+    (tie.spec Inv μ (λ c. search (loops, needs)) (λ c. search needs) write-cell-requires (λ c. search needs) (λ c. search needs) loop-again
+    (λ c. search needs) (λ c. search (loops, needs)))

@@ -21,8 +21,8 @@ small hues e k long h l f = record { fits = omega (arith, entry-in hues e k long
 
 mul-put-scores : tie.Need-mul-put-scores
 mul-put-scores c =
-    let start = c .before .before .before .before .before .before .before .before .before .before .before .before .before .before in
-    search (small, c .before .symbol-bits .ensures, start .pre, start .good, needs)
+    let start = c .before .before .before .before .before .before .before .before .before .before .before .before .before .before .before .before in
+    small _ _ _ _ (c .before .symbol-bits .ensures) (start .pre .4) (search (start .good .1 .1 .1 .1 .1 .1 .1 .1, needs))
 
 put-scores-requires : tie.Need-put-scores-requires
 put-scores-requires c κs = (search (bits-room), search (entry-in))
@@ -33,5 +33,6 @@ returns c = search (entry)
 pub write-entry-spec : {M : Type 1} → statement M
 write-entry-spec =
     tie.close
-    (tie.spec (λ c κs. search needs) (λ c. search needs) hue-log-likelihoods-of-requires (λ c. search needs) (λ c. search needs) bit-llrs-requires
-    (λ c κs. search needs) (λ c κs. search needs) (λ c. search needs) mul-put-scores put-scores-requires (λ c. search needs) returns)
+    (tie.spec (λ c κs. search needs) (λ c κs. search needs) (λ c. search needs) hue-log-likelihoods-of-requires (λ c. search needs)
+    (λ c. search needs) bit-llrs-requires (λ c κs. search needs) (λ c κs. search needs) (λ c. search needs) mul-put-scores put-scores-requires
+    (λ c. search needs) returns)
