@@ -192,7 +192,7 @@ fn convert(palette: &[f32], flat: &[f32], n: usize, s: &mut [f32])
     }
 }
 
-// Writes them of all n: all are corrected first and then converted, since the turns of two short loops overlap and those of one long loop do not.
+// Writes them of all n: all are corrected first and then converted, which takes less time than one loop that does both.
 fn note(model: IlluminationModel, palette: &[f32], flat: &[f32], n: usize, s: &mut [f32])
     requires { ⌜ (n ≤ 16384) × (8 * n ≤ length (now flat)) × (2 ≤ length (now palette)) × (length (now s) ≡ 4 * n) ⌝ }
     ensures { λ _. ⌜ column.Noted model (now (palette .entry)) (now (flat .entry)) n n (now (s .exit)) ⌝ }
