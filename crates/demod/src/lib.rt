@@ -151,8 +151,7 @@ fn put_colour(l: &mut [f32], i: usize, c: Linear)
     l[3 * i + 2] = c.b;
 }
 
-// Writes the corrected colour of every module. (Colours first and scores after is quicker than both at once: one module's arithmetic
-// is a long chain, and short loops let the next modules' begin before it ends.)
+// Writes the corrected colour of every module. (All colours first and the scores after take less time than both in one loop.)
 fn write_colours(model: IlluminationModel, xs: &[i32], ys: &[i32], raw: &[f32], colours: &mut [f32])
     requires { ⌜ (length (now xs) ≡ length (now ys)) × Exact (now xs) (length (now xs)) × Exact (now ys) (length (now xs)) × (3 * length (now xs) ≤ length (now raw)) × (3 * length (now xs) ≤ length (now colours)) ⌝ }
     ensures { λ _. ⌜ now (colours .exit) ≡ spec.writeColours (spec.moduleColour model (now (xs .entry)) (now (ys .entry)) (now (raw .entry))) (length (now (xs .entry))) (now (colours .entry)) ⌝ }
@@ -244,8 +243,8 @@ fn put_scores(bits: &[f32], weight: f32, n: usize, at: usize, chroma: &mut [f32]
     }
 }
 
-// Core: the scores of entry e of the chroma list, for corrected colour k of a list, the palette's chroma noises being given. The
-// colour is not passed by value: it would be stored and read back at once in other widths, for which the processor waits.
+// Core: the scores of entry e of the chroma list, for corrected colour k of a list, the palette's chroma noises being given. (Handed
+// over by value, the colour takes more time.)
 pub fn write_entry(
     noise: ChannelStats,
     palette: &[f32],
@@ -355,7 +354,7 @@ fn block_end(from: usize, n: usize) -> usize
     from + 16
 }
 
-// The cells by blocks of 16, each block corrected and then scored, so that no score waits for the correction of its cell.
+// The cells by blocks of 16, each block corrected and then scored, which takes less time than one loop that does both.
 fn write_cells(
     noise: ChannelStats,
     palette: &[f32],
