@@ -17,6 +17,15 @@ pub three : (t : ℕ) (m : IlluminationModel) (x y : Float) (k : Linear) (at : L
 unfolding unshadedBy
 three t m x y k at r g b ea er eg eb = cc
 
+-- one channel
+module _ (terms : ℕ) (gain flare at : List Float) (o : Float) (d : Inverse) where
+  pub channel-four : d ≡ deshade 4 gain flare at o → terms ≡ 4 → d ≡ deshade terms gain flare at o
+  channel-four e h = rw h e
+
+  pub channel-nine : d ≡ deshade 9 gain flare at o → (terms ≡ 4 → ⊥) → d ≡ deshade terms gain flare at o
+  unfolding deshade termsUsed
+  channel-nine e h = rw (ne-eqb terms 4 h) e
+
 module _ (m : IlluminationModel) (x y : Float) (k : Linear) (d : Unshaded) where
   pub of-four : d ≡ unshadedBy 4 m x y k → m .terms ≡ 4 → d ≡ unshaded m x y k
   unfolding unshadedBy unshaded

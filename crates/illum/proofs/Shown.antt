@@ -116,7 +116,7 @@ module _ (m : IlluminationModel) (x y : Float) (c : Linear) where
   abbrev at : List Float
   at = basisAt (m .terms) (m .side) x y
 
-  pub shown : leavesOpen m (unshaded m x y c) (corrected m x y c .colour) ≡ false → notFiniteModel m ≡ false
+  pub shown : leavesOpen (m .«residual_rms») (unshaded m x y c) (corrected m x y c .colour) ≡ false → notFiniteModel m ≡ false
   unfolding leavesOpen wildLinear mixed unshaded notFiniteModel notFiniteAffine notFiniteGains notFiniteFlares
   shown e =
       let k = neither (wildLinear (corrected m x y c .colour)) _ e in
