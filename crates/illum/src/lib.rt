@@ -299,23 +299,51 @@ pub fn corrected(model: IlluminationModel, x: f32, y: f32, colour: Linear) -> Ma
 
 // ---- the correction of a model that is lent part by part, so that no coefficient is copied
 
-// One channel's inverse of a gain and a flare surface that are lent, at a basis of 4 or 9 terms.
-fn invert_lent(
-    terms: usize,
-    gain: &[f64; 9],
-    flare: &[f64; 9],
-    b: [f64; 9],
-    observed: f32,
-) -> Inverse
-    ensures { λ r. ⌜ r ≡ deshade terms (now (gain .entry)) (now (flare .entry)) b observed ⌝ }
+// The three channels' inverses of surfaces of 4 terms that are lent.
+fn unshade_4_lent(
+    side: f32,
+    gain_r: &[f64; 9],
+    gain_g: &[f64; 9],
+    gain_b: &[f64; 9],
+    flare_r: &[f64; 9],
+    flare_g: &[f64; 9],
+    flare_b: &[f64; 9],
+    x: f32,
+    y: f32,
+    colour: Linear,
+) -> Unshaded
+    ensures { λ v. ⌜ v ≡ spec.inverses 4 side (now («gain_r» .entry)) (now («gain_g» .entry)) (now («gain_b» .entry)) (now («flare_r» .entry)) (now («flare_g» .entry)) (now («flare_b» .entry)) x y colour ⌝ }
 {
-    if terms == 4 {
-        return invert_4(*gain, *flare, b, observed);
-    }
-    invert_9(*gain, *flare, b, observed)
+    let at = basis(4, side, x, y);
+    let r = invert_4(*gain_r, *flare_r, at, colour.r);
+    let g = invert_4(*gain_g, *flare_g, at, colour.g);
+    let b = invert_4(*gain_b, *flare_b, at, colour.b);
+    Unshaded { r, g, b }
 }
 
-// The three channels' inverses: `unshade` of surfaces that are lent.
+// Of 9 terms.
+fn unshade_9_lent(
+    side: f32,
+    gain_r: &[f64; 9],
+    gain_g: &[f64; 9],
+    gain_b: &[f64; 9],
+    flare_r: &[f64; 9],
+    flare_g: &[f64; 9],
+    flare_b: &[f64; 9],
+    x: f32,
+    y: f32,
+    colour: Linear,
+) -> Unshaded
+    ensures { λ v. ⌜ v ≡ spec.inverses 9 side (now («gain_r» .entry)) (now («gain_g» .entry)) (now («gain_b» .entry)) (now («flare_r» .entry)) (now («flare_g» .entry)) (now («flare_b» .entry)) x y colour ⌝ }
+{
+    let at = basis(9, side, x, y);
+    let r = invert_9(*gain_r, *flare_r, at, colour.r);
+    let g = invert_9(*gain_g, *flare_g, at, colour.g);
+    let b = invert_9(*gain_b, *flare_b, at, colour.b);
+    Unshaded { r, g, b }
+}
+
+// The three channels' inverses at a position: `unshade` of surfaces that are lent.
 fn unshade_lent(
     terms: usize,
     side: f32,
@@ -331,11 +359,32 @@ fn unshade_lent(
 ) -> Unshaded
     ensures { λ v. ⌜ v ≡ spec.inverses terms side (now («gain_r» .entry)) (now («gain_g» .entry)) (now («gain_b» .entry)) (now («flare_r» .entry)) (now («flare_g» .entry)) (now («flare_b» .entry)) x y colour ⌝ }
 {
-    let at = basis(terms, side, x, y);
-    let r = invert_lent(terms, gain_r, flare_r, at, colour.r);
-    let g = invert_lent(terms, gain_g, flare_g, at, colour.g);
-    let b = invert_lent(terms, gain_b, flare_b, at, colour.b);
-    Unshaded { r, g, b }
+    if terms == 4 {
+        return unshade_4_lent(
+            side,
+            gain_r,
+            gain_g,
+            gain_b,
+            flare_r,
+            flare_g,
+            flare_b,
+            x,
+            y,
+            colour,
+        );
+    }
+    unshade_9_lent(
+        side,
+        gain_r,
+        gain_g,
+        gain_b,
+        flare_r,
+        flare_g,
+        flare_b,
+        x,
+        y,
+        colour,
+    )
 }
 
 // The affine part over them: the colour that `mix` gives, of rows that are lent.
