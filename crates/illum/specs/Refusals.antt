@@ -45,14 +45,14 @@ notFiniteUpTo n l = anyUp 0 n (notFiniteAt l)
 
 -- one of three rows of the affine part
 abbrev pub notFiniteRows : List Float → List Float → List Float → Bool
-notFiniteRows r g b = notFiniteUpTo 4 r || (notFiniteUpTo 4 g || notFiniteUpTo 4 b)
+notFiniteRows r g b = notFiniteUpTo 4 r || notFiniteUpTo 4 g || notFiniteUpTo 4 b
 
 abbrev pub notFiniteSurface : ℕ → List Float → Bool
 notFiniteSurface terms c = notFiniteUpTo (termsUsed terms) c
 
 -- one of three surfaces with so many terms
 abbrev pub notFiniteSurfaces : ℕ → List Float → List Float → List Float → Bool
-notFiniteSurfaces terms r g b = notFiniteSurface terms r || (notFiniteSurface terms g || notFiniteSurface terms b)
+notFiniteSurfaces terms r g b = notFiniteSurface terms r || notFiniteSurface terms g || notFiniteSurface terms b
 
 unfoldable pub notFiniteAffine : IlluminationModel → Bool
 notFiniteAffine m = notFiniteRows (m .«affine_r») (m .«affine_g») (m .«affine_b»)
@@ -65,7 +65,7 @@ notFiniteFlares m = notFiniteSurfaces (m .terms) (m .«flare_r») (m .«flare_g�
 
 -- one of the model's numbers is not finite; coefficients past its terms are no numbers of the model, and its side is looked at by itself
 unfoldable pub notFiniteModel : IlluminationModel → Bool
-notFiniteModel m = notFiniteAffine m || (notFiniteGains m || (notFiniteFlares m || notFinite (m .«residual_rms»)))
+notFiniteModel m = notFiniteAffine m || notFiniteGains m || notFiniteFlares m || notFinite (m .«residual_rms»)
 
 unfoldable pub badShape : IlluminationModel → Bool
 badShape m = badTerms (m .terms) || badModelSide (m .side)

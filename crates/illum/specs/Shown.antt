@@ -10,4 +10,4 @@ use Rattle.illum.specs.Refusals.{notFinite}
 -- whether a corrected colour leaves it open that a number of its model is not finite: where the colour is not wild, no channel's inverse is 0 and the
 -- residual is finite, all numbers are (proofs/Shown.antt)
 unfoldable pub leavesOpen : Float → Unshaded → Linear → Bool
-leavesOpen rms d c = wildLinear c || (eq (d .r .value) zero64 || (eq (d .g .value) zero64 || (eq (d .b .value) zero64 || notFinite rms)))
+leavesOpen rms d c = wildLinear c || ((eq (d .r .value) zero64 || eq (d .g .value) zero64 || eq (d .b .value) zero64) || notFinite rms)

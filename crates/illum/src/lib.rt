@@ -585,26 +585,14 @@ fn bad_surface(terms: usize, c: [f64; 9]) -> bool
 fn bad_rows(r: &[f64; 4], g: &[f64; 4], b: &[f64; 4]) -> bool
     ensures { λ v. ⌜ v ≡ notFiniteRows (now (r .entry)) (now (g .entry)) (now (b .entry)) ⌝ }
 {
-    if bad_row(*r) {
-        return true;
-    }
-    if bad_row(*g) {
-        return true;
-    }
-    bad_row(*b)
+    bad_row(*r) | bad_row(*g) | bad_row(*b)
 }
 
 // One of three surfaces has one.
 fn bad_surfaces(terms: usize, r: &[f64; 9], g: &[f64; 9], b: &[f64; 9]) -> bool
     ensures { λ v. ⌜ v ≡ notFiniteSurfaces terms (now (r .entry)) (now (g .entry)) (now (b .entry)) ⌝ }
 {
-    if bad_surface(terms, *r) {
-        return true;
-    }
-    if bad_surface(terms, *g) {
-        return true;
-    }
-    bad_surface(terms, *b)
+    bad_surface(terms, *r) | bad_surface(terms, *g) | bad_surface(terms, *b)
 }
 
 // A number of a model that is lent is not finite: of the affine part, of the gains, of the flares, or the residual.
@@ -621,18 +609,12 @@ fn not_finite_lent<'a>(
     flare_g: &'a [f64; 9],
     flare_b: &'a [f64; 9],
 ) -> bool
-    ensures { λ v. ⌜ v ≡ notFiniteRows (now («affine_r» .entry)) (now («affine_g» .entry)) (now («affine_b» .entry)) || (notFiniteSurfaces terms (now («gain_r» .entry)) (now («gain_g» .entry)) (now («gain_b» .entry)) || (notFiniteSurfaces terms (now («flare_r» .entry)) (now («flare_g» .entry)) (now («flare_b» .entry)) || notFinite «residual_rms»)) ⌝ }
+    ensures { λ v. ⌜ v ≡ notFiniteRows (now («affine_r» .entry)) (now («affine_g» .entry)) (now («affine_b» .entry)) || notFiniteSurfaces terms (now («gain_r» .entry)) (now («gain_g» .entry)) (now («gain_b» .entry)) || notFiniteSurfaces terms (now («flare_r» .entry)) (now («flare_g» .entry)) (now («flare_b» .entry)) || notFinite «residual_rms» ⌝ }
 {
-    if bad_rows(affine_r, affine_g, affine_b) {
-        return true;
-    }
-    if bad_surfaces(terms, gain_r, gain_g, gain_b) {
-        return true;
-    }
-    if bad_surfaces(terms, flare_r, flare_g, flare_b) {
-        return true;
-    }
-    not_finite(residual_rms)
+    let rows = bad_rows(affine_r, affine_g, affine_b);
+    let gains = bad_surfaces(terms, gain_r, gain_g, gain_b);
+    let flares = bad_surfaces(terms, flare_r, flare_g, flare_b);
+    rows | gains | flares | not_finite(residual_rms)
 }
 
 // Core: a number of the model is not finite.
@@ -751,15 +733,9 @@ fn leaves_open(residual_rms: f32, d: Unshaded, out: Linear) -> bool
         return true;
     }
     let r = d.r;
-    if r.value == 0.0 {
-        return true;
-    }
     let g = d.g;
-    if g.value == 0.0 {
-        return true;
-    }
     let b = d.b;
-    if b.value == 0.0 {
+    if (r.value == 0.0) | (g.value == 0.0) | (b.value == 0.0) {
         return true;
     }
     not_finite(residual_rms)
