@@ -46,6 +46,29 @@ pub struct Model {
     pub kept: u32,
 }
 
+impl Model {
+    /// `purdolve_correct_lent` of the model's parts, as the bindings hand them on.
+    pub fn correct(&self, x: f32, y: f32, colour: Linear) -> LinearAnswer {
+        purdolve_correct_lent(
+            self.terms,
+            self.side,
+            self.residual_rms,
+            &self.affine[0],
+            &self.affine[1],
+            &self.affine[2],
+            &self.gain[0],
+            &self.gain[1],
+            &self.gain[2],
+            &self.flare[0],
+            &self.flare[1],
+            &self.flare[2],
+            x,
+            y,
+            colour,
+        )
+    }
+}
+
 #[repr(C)]
 #[derive(Clone, Copy, Debug)]
 pub struct Modelled {
@@ -127,7 +150,23 @@ unsafe extern "C" {
     ) -> SolveAnswer;
     pub fn purdolve_median(values: *mut f32, values_len: usize) -> f32;
     pub fn purdolve_linear_to_lab(c: Linear) -> Lab;
-    pub fn purdolve_correct(model: Model, x: f32, y: f32, colour: Linear) -> LinearAnswer;
+    pub safe fn purdolve_correct_lent(
+        terms: usize,
+        side: f32,
+        residual_rms: f32,
+        affine_r: &[f64; 4],
+        affine_g: &[f64; 4],
+        affine_b: &[f64; 4],
+        gain_r: &[f64; 9],
+        gain_g: &[f64; 9],
+        gain_b: &[f64; 9],
+        flare_r: &[f64; 9],
+        flare_g: &[f64; 9],
+        flare_b: &[f64; 9],
+        x: f32,
+        y: f32,
+        colour: Linear,
+    ) -> LinearAnswer;
     pub fn purdolve_fit_flat(
         flat: *const f32,
         flat_len: usize,

@@ -188,7 +188,7 @@ mod linked {
         let (model, colours) = (lists.fit(version), colours(&lists.card.raw));
         case(name, colours.len(), move || {
             for (&c, &(x, y)) in colours.iter().zip(&lists.card.places) {
-                black_box(unsafe { purdolve_correct(model, x as f32 + 0.5, y as f32 + 0.5, c) });
+                black_box(model.correct(x as f32 + 0.5, y as f32 + 0.5, c));
             }
         })
     }

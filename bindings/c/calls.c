@@ -195,14 +195,14 @@ static void models(void) {
     CHECK(purdolve_identity(0).number == PURDOLVE_REFUSED_SIDE);
     CHECK(purdolve_identity(1025).number == PURDOLVE_REFUSED_SIDE);
     purdolve_linear c = {0.5f, 0.25f, 0.125f};
-    purdolve_linear_answer corrected = purdolve_correct(m.model, 3.5f, 4.5f, c);
+    purdolve_linear_answer corrected = purdolve_correct(&m.model, 3.5f, 4.5f, c);
     CHECK(corrected.number == 0 && corrected.colour.r == 0.5f && corrected.colour.g == 0.25f);
     CHECK(corrected.colour.b == 0.125f);
     c.g = 2e6f;
-    CHECK(purdolve_correct(m.model, 3.5f, 4.5f, c).number == PURDOLVE_REFUSED_NUMBER);
+    CHECK(purdolve_correct(&m.model, 3.5f, 4.5f, c).number == PURDOLVE_REFUSED_NUMBER);
     c.g = 0;
     m.model.terms = 5;
-    corrected = purdolve_correct(m.model, 3.5f, 4.5f, c);
+    corrected = purdolve_correct(&m.model, 3.5f, 4.5f, c);
     CHECK(corrected.number == PURDOLVE_REFUSED_MODEL && corrected.colour.r == 0);
 
     float flat[8] = {0}, scratch[5] = {9, 9, 9, 9, 9};

@@ -214,11 +214,26 @@ purdolve_modelled purdolve_identity(size_t side);
 
 /*
  * A colour observed at (x, y), as it would be under even light. The position is any float, and the
- * answer may be any colour.
+ * answer may be any colour. The model is lent part by part, so that none of it is copied: each row
+ * of the affine part points to 4 doubles, each gain and each flare to 9.
  * refused: 8, 10
  */
-purdolve_linear_answer purdolve_correct(purdolve_illumination_model model, float x, float y,
-                                        purdolve_linear colour);
+purdolve_linear_answer purdolve_correct_lent(size_t terms, float side, float residual_rms,
+                                             const double *affine_r, const double *affine_g,
+                                             const double *affine_b, const double *gain_r,
+                                             const double *gain_g, const double *gain_b,
+                                             const double *flare_r, const double *flare_g,
+                                             const double *flare_b, float x, float y,
+                                             purdolve_linear colour);
+
+/* The same of a model that is in one place. refused: 8, 10 */
+static inline purdolve_linear_answer purdolve_correct(const purdolve_illumination_model *model,
+                                                      float x, float y, purdolve_linear colour) {
+    return purdolve_correct_lent(model->terms, model->side, model->residual_rms, model->affine_r,
+                                 model->affine_g, model->affine_b, model->gain_r, model->gain_g,
+                                 model->gain_b, model->flare_r, model->flare_g, model->flare_b, x,
+                                 y, colour);
+}
 
 /*
  * Measures the noise record from references that the model corrects. With fewer than 8, or fewer

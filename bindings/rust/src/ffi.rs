@@ -96,7 +96,7 @@ const _: () = {
     assert!(size_of::<NumberAnswer>() == 16 && size_of::<LinearAnswer>() == 16);
 };
 
-// What takes values alone is safe to call with any.
+// What takes values, and references to arrays of a fixed length, is safe to call with any.
 unsafe extern "C" {
     pub safe fn purdolve_abs(x: f32) -> f32;
     pub safe fn purdolve_abs_f64(x: f64) -> f64;
@@ -144,7 +144,23 @@ unsafe extern "C" {
     pub safe fn purdolve_read(score: f32) -> u8;
 
     pub safe fn purdolve_identity(side: usize) -> Modelled;
-    pub safe fn purdolve_correct(model: IlluminationModel, x: f32, y: f32, colour: Linear) -> LinearAnswer;
+    pub safe fn purdolve_correct_lent(
+        terms: usize,
+        side: f32,
+        residual_rms: f32,
+        affine_r: &[f64; 4],
+        affine_g: &[f64; 4],
+        affine_b: &[f64; 4],
+        gain_r: &[f64; 9],
+        gain_g: &[f64; 9],
+        gain_b: &[f64; 9],
+        flare_r: &[f64; 9],
+        flare_g: &[f64; 9],
+        flare_b: &[f64; 9],
+        x: f32,
+        y: f32,
+        colour: Linear,
+    ) -> LinearAnswer;
     pub safe fn purdolve_sigma_ab_at(noise: ChannelStats, l: f32) -> FloatAnswer;
     pub safe fn purdolve_luma_llr(noise: ChannelStats, l: f32) -> FloatAnswer;
 }

@@ -60,7 +60,23 @@ impl IlluminationModel {
 
     /// A colour observed at a position, any float, as it would be under even light. Refused: 8, 10.
     pub fn correct(&self, x: f32, y: f32, observed: Linear) -> Result<Linear, Refusal> {
-        let answer = ffi::purdolve_correct(*self, x, y, observed);
+        let answer = ffi::purdolve_correct_lent(
+            self.terms,
+            self.side,
+            self.residual_rms,
+            &self.affine[0],
+            &self.affine[1],
+            &self.affine[2],
+            &self.gain[0],
+            &self.gain[1],
+            &self.gain[2],
+            &self.flare[0],
+            &self.flare[1],
+            &self.flare[2],
+            x,
+            y,
+            observed,
+        );
         Refusal::check(answer.number).map(|()| answer.colour)
     }
 

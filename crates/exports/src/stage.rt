@@ -2,6 +2,7 @@
 ghost use mathlib.Core.Path.{_≡_};
 ghost use Rattle.demod.specs.Call as demod_call;
 ghost use Rattle.fit.specs.Fit as fit_call;
+ghost use Rattle.illum.specs.Correct as illum_model;
 ghost use Rattle.illum.specs.Refusals as illum_call;
 ghost use Rattle.measure.specs.Measure as measure_call;
 ghost use Rattle.refine.specs.Calls as refine_call;
@@ -19,17 +20,44 @@ use illum::IlluminationModel;
 use illum::Modelled;
 use stats::ChannelStats;
 
-// An observed colour at a position, corrected by the model. Refused: 8, 10.
+// An observed colour at a position, corrected by a model that is lent part by part. Refused: 8, 10.
 #[no_mangle]
-pub extern "C" fn purdolve_correct(
-    model: IlluminationModel,
+pub extern "C" fn purdolve_correct_lent<'a>(
+    terms: usize,
+    side: f32,
+    residual_rms: f32,
+    affine_r: &'a [f64; 4],
+    affine_g: &'a [f64; 4],
+    affine_b: &'a [f64; 4],
+    gain_r: &'a [f64; 9],
+    gain_g: &'a [f64; 9],
+    gain_b: &'a [f64; 9],
+    flare_r: &'a [f64; 9],
+    flare_g: &'a [f64; 9],
+    flare_b: &'a [f64; 9],
     x: f32,
     y: f32,
     colour: Linear,
 ) -> LinearAnswer
-    ensures { λ r. ⌜ r ≡ spec.linearAnswer (illum_call.correctOf model x y colour) ⌝ }
+    ensures { λ r. ⌜ r ≡ spec.linearAnswer (illum_call.correctOf (illum_model.lentModel terms side «residual_rms» (now («affine_r» .entry)) (now («affine_g» .entry)) (now («affine_b» .entry)) (now («gain_r» .entry)) (now («gain_g» .entry)) (now («gain_b» .entry)) (now («flare_r» .entry)) (now («flare_g» .entry)) (now («flare_b» .entry))) x y colour) ⌝ }
 {
-    replies::linear_answer(illum::correct(model, x, y, colour))
+    replies::linear_answer(illum::correct_lent(
+        terms,
+        side,
+        residual_rms,
+        affine_r,
+        affine_g,
+        affine_b,
+        gain_r,
+        gain_g,
+        gain_b,
+        flare_r,
+        flare_g,
+        flare_b,
+        x,
+        y,
+        colour,
+    ))
 }
 
 // Fits the model to references in flat floats, eight each: x, y, the observed colour, the nominal colour. Scratch of 4 × references

@@ -2,6 +2,7 @@ pub mod Bound
 pub mod First
 pub mod Gaps
 pub mod Inverses
+pub mod Lent
 pub mod Moderate
 pub mod Passes
 pub mod Shown

@@ -36,6 +36,9 @@ none : (a b : Bool) → a ≡ false → b ≡ false → (a || b) ≡ false
 none true b e h = e
 none false b e h = h
 
+three : {a b c : Bool} → a ≡ false → b ≡ false → c ≡ false → (a || b || c) ≡ false
+three e h k = none _ _ (none _ _ e h) k
+
 -- ---- a surface
 
 terms-back : (c b : List Float) (k i : ℕ) (s : Float) → T (finite (turns k i (addTerm c b) s)) → T (finite s) × (someOf k i (notFiniteAt c) ≡ false)
@@ -116,20 +119,20 @@ module _ (m : IlluminationModel) (x y : Float) (c : Linear) where
   abbrev at : List Float
   at = basisAt (m .terms) (m .side) x y
 
-  pub shown : leavesOpen m (unshaded m x y c) (corrected m x y c .colour) ≡ false → notFiniteModel m ≡ false
+  pub shown : leavesOpen (m .«residual_rms») (unshaded m x y c) (corrected m x y c .colour) ≡ false → notFiniteModel m ≡ false
   unfolding leavesOpen wildLinear mixed unshaded notFiniteModel notFiniteAffine notFiniteGains notFiniteFlares
   shown e =
       let k = neither (wildLinear (corrected m x y c .colour)) _ e in
-      let kr = neither (eq (unshaded m x y c .r .value) zero64) _ (k .1) in
-      let kg = neither (eq (unshaded m x y c .g .value) zero64) _ (kr .1) in
-      let kb = neither (eq (unshaded m x y c .b .value) zero64) _ (kg .1) in
+      let z = neither (eq (unshaded m x y c .r .value) zero64 || eq (unshaded m x y c .g .value) zero64 || eq (unshaded m x y c .b .value) zero64) _ (k .1) in
+      let kb = neither (eq (unshaded m x y c .r .value) zero64 || eq (unshaded m x y c .g .value) zero64) _ (z .0) in
+      let kr = neither (eq (unshaded m x y c .r .value) zero64) _ (kb .0) in
       let w = neither (wild (corrected m x y c .colour .r)) _ (k .0) in
       let w' = neither (wild (corrected m x y c .colour .g)) (wild (corrected m x y c .colour .b)) (w .1) in
       let r = row-back (m .«affine_r») (unshaded m x y c .r .value) (unshaded m x y c .g .value) (unshaded m x y c .b .value) (w .0) in
       let g = row-back (m .«affine_g») (unshaded m x y c .r .value) (unshaded m x y c .g .value) (unshaded m x y c .b .value) (w' .0) in
       let b = row-back (m .«affine_b») (unshaded m x y c .r .value) (unshaded m x y c .g .value) (unshaded m x y c .b .value) (w' .1) in
       let dr = channel-back (m .terms) (m .«gain_r») (m .«flare_r») at (c .r) (r .first) (kr .0) in
-      let dg = channel-back (m .terms) (m .«gain_g») (m .«flare_g») at (c .g) (r .second) (kg .0) in
-      let db = channel-back (m .terms) (m .«gain_b») (m .«flare_b») at (c .b) (r .third) (kb .0) in
-      none _ _ (none _ _ (r .numbers) (none _ _ (g .numbers) (b .numbers)))
-      (none _ _ (none _ _ (dr .0) (none _ _ (dg .0) (db .0))) (none _ _ (none _ _ (dr .1) (none _ _ (dg .1) (db .1))) (kb .1)))
+      let dg = channel-back (m .terms) (m .«gain_g») (m .«flare_g») at (c .g) (r .second) (kr .1) in
+      let db = channel-back (m .terms) (m .«gain_b») (m .«flare_b») at (c .b) (r .third) (kb .1) in
+      none _ _
+      (none _ _ (none _ _ (three (r .numbers) (g .numbers) (b .numbers)) (three (dr .0) (dg .0) (db .0))) (three (dr .1) (dg .1) (db .1))) (z .1)

@@ -22,36 +22,36 @@ affineRow a r g b =
     (add binary64 (add binary64 (mul binary64 (getD a 0 nan) r) (mul binary64 (getD a 1 nan) g)) (mul binary64 (getD a 2 nan) b))
     (getD a 3 nan))
 
--- the three channels' inverses at a position, with so many terms
+-- the three channels' inverses at a position, of a side and six surfaces with so many terms: gains, then flares
+abbrev pub inverses : ℕ → Float → List Float → List Float → List Float → List Float → List Float → List Float → Float → Float → Linear → Unshaded
+inverses terms side gain-r gain-g gain-b flare-r flare-g flare-b x y c =
+    let at = basisAt terms side x y in
+    record { r = deshade terms gain-r flare-r at (c .r); g = deshade terms gain-g flare-g at (c .g); b = deshade terms gain-b flare-b at (c .b) }
+
+-- those of a model, with so many terms
 unfoldable pub unshadedBy : ℕ → IlluminationModel → Float → Float → Linear → Unshaded
 unshadedBy terms m x y c =
-    let at = basisAt terms (m .side) x y in
-    record {
-      r = deshade terms (m .«gain_r») (m .«flare_r») at (c .r);
-      g = deshade terms (m .«gain_g») (m .«flare_g») at (c .g);
-      b = deshade terms (m .«gain_b») (m .«flare_b») at (c .b);
-    }
+    inverses terms (m .side) (m .«gain_r») (m .«gain_g») (m .«gain_b») (m .«flare_r») (m .«flare_g») (m .«flare_b») x y c
 
 -- the three channels' inverses at a position: the Rust's `deshade`
 unfoldable pub unshaded : IlluminationModel → Float → Float → Linear → Unshaded
 unshaded m x y c =
-    let at = basisAt (m .terms) (m .side) x y in
+    inverses (m .terms) (m .side) (m .«gain_r») (m .«gain_g») (m .«gain_b») (m .«flare_r») (m .«flare_g») (m .«flare_b») x y c
+
+-- the colour that three rows make of them
+abbrev pub mixedBy : List Float → List Float → List Float → Unshaded → Linear
+mixedBy row-r row-g row-b d =
     record {
-      r = deshade (m .terms) (m .«gain_r») (m .«flare_r») at (c .r);
-      g = deshade (m .terms) (m .«gain_g») (m .«flare_g») at (c .g);
-      b = deshade (m .terms) (m .«gain_b») (m .«flare_b») at (c .b);
+      r = affineRow row-r (d .r .value) (d .g .value) (d .b .value);
+      g = affineRow row-g (d .r .value) (d .g .value) (d .b .value);
+      b = affineRow row-b (d .r .value) (d .g .value) (d .b .value);
     }
 
 -- the affine part over them, with the mark of each
 unfoldable pub mixed : IlluminationModel → Unshaded → Marked
 mixed m d =
     record {
-      colour =
-          record {
-            r = affineRow (m .«affine_r») (d .r .value) (d .g .value) (d .b .value);
-            g = affineRow (m .«affine_g») (d .r .value) (d .g .value) (d .b .value);
-            b = affineRow (m .«affine_b») (d .r .value) (d .g .value) (d .b .value);
-          };
+      colour = mixedBy (m .«affine_r») (m .«affine_g») (m .«affine_b») d;
       «held_r» = d .r .held;
       «held_g» = d .g .held;
       «held_b» = d .b .held;
@@ -60,6 +60,28 @@ mixed m d =
 -- the Rust's `correct`, with the marks of the channels whose gain was held
 abbrev pub corrected : IlluminationModel → Float → Float → Linear → Marked
 corrected m x y c = mixed m (unshaded m x y c)
+
+-- ---- a model that is lent part by part
+
+-- the model of these parts. No correction looks at the counts of references, which stand at 0 (proofs/Lent.antt)
+abbrev pub lentModel : ℕ → Float → Float → List Float → List Float → List Float → List Float → List Float → List Float → List Float → List Float → List Float → IlluminationModel
+lentModel terms side rms affine-r affine-g affine-b gain-r gain-g gain-b flare-r flare-g flare-b =
+    record {
+      «affine_r» = affine-r;
+      «affine_g» = affine-g;
+      «affine_b» = affine-b;
+      «gain_r» = gain-r;
+      «gain_g» = gain-g;
+      «gain_b» = gain-b;
+      «flare_r» = flare-r;
+      «flare_g» = flare-g;
+      «flare_b» = flare-b;
+      terms = terms;
+      side = side;
+      «residual_rms» = rms;
+      rejected = 0;
+      kept = 0;
+    }
 
 -- ---- identity
 

@@ -43,23 +43,29 @@ notFiniteAt l k = notFinite (getD l k nan)
 abbrev pub notFiniteUpTo : ℕ → List Float → Bool
 notFiniteUpTo n l = anyUp 0 n (notFiniteAt l)
 
-unfoldable pub notFiniteAffine : IlluminationModel → Bool
-notFiniteAffine m = notFiniteUpTo 4 (m .«affine_r») || (notFiniteUpTo 4 (m .«affine_g») || notFiniteUpTo 4 (m .«affine_b»))
+-- one of three rows of the affine part
+abbrev pub notFiniteRows : List Float → List Float → List Float → Bool
+notFiniteRows r g b = notFiniteUpTo 4 r || notFiniteUpTo 4 g || notFiniteUpTo 4 b
 
 abbrev pub notFiniteSurface : ℕ → List Float → Bool
 notFiniteSurface terms c = notFiniteUpTo (termsUsed terms) c
 
+-- one of three surfaces with so many terms
+abbrev pub notFiniteSurfaces : ℕ → List Float → List Float → List Float → Bool
+notFiniteSurfaces terms r g b = notFiniteSurface terms r || notFiniteSurface terms g || notFiniteSurface terms b
+
+unfoldable pub notFiniteAffine : IlluminationModel → Bool
+notFiniteAffine m = notFiniteRows (m .«affine_r») (m .«affine_g») (m .«affine_b»)
+
 unfoldable pub notFiniteGains : IlluminationModel → Bool
-notFiniteGains m =
-    notFiniteSurface (m .terms) (m .«gain_r») || (notFiniteSurface (m .terms) (m .«gain_g») || notFiniteSurface (m .terms) (m .«gain_b»))
+notFiniteGains m = notFiniteSurfaces (m .terms) (m .«gain_r») (m .«gain_g») (m .«gain_b»)
 
 unfoldable pub notFiniteFlares : IlluminationModel → Bool
-notFiniteFlares m =
-    notFiniteSurface (m .terms) (m .«flare_r») || (notFiniteSurface (m .terms) (m .«flare_g») || notFiniteSurface (m .terms) (m .«flare_b»))
+notFiniteFlares m = notFiniteSurfaces (m .terms) (m .«flare_r») (m .«flare_g») (m .«flare_b»)
 
 -- one of the model's numbers is not finite; coefficients past its terms are no numbers of the model, and its side is looked at by itself
 unfoldable pub notFiniteModel : IlluminationModel → Bool
-notFiniteModel m = notFiniteAffine m || (notFiniteGains m || (notFiniteFlares m || notFinite (m .«residual_rms»)))
+notFiniteModel m = notFiniteAffine m || notFiniteGains m || notFiniteFlares m || notFinite (m .«residual_rms»)
 
 unfoldable pub badShape : IlluminationModel → Bool
 badShape m = badTerms (m .terms) || badModelSide (m .side)

@@ -4,7 +4,7 @@
 //     fit:      observed  ≈  gain(x, y) * nominal + flare(x, y)                 for each channel
 //     correct:  nominal   =  affine * [(observed - flare(x, y)) / gain(x, y)]
 ghost use mathlib.Core.Path.{_≡_};
-ghost use mathlib.Core.Bool.{not};
+ghost use mathlib.Core.Bool.{not, _||_};
 ghost use Prim.Native.Nat.{_≤_};
 ghost use lib.Ieee.Scale.{finite};
 ghost use lib.ListN.{length};
@@ -12,7 +12,7 @@ ghost use Rattle.color.specs.Palette.{wild, wildLinear};
 ghost use Rattle.illum.specs.Surface.{termsUsed, basisAt, summed, isHeld, holdGain, inverted, deshade, normalised};
 ghost use Rattle.illum.specs.Correct as spec;
 ghost use Rattle.illum.specs.Reach.{Typed, Placed, largeUpTo, largeAffine, largeGains, largeFlares, inScale, reachOf, isWithin};
-ghost use Rattle.illum.specs.Refusals.{badTerms, badModelSide, notFinite4, notFiniteUpTo, notFiniteAffine, notFiniteGains, notFiniteFlares, notFiniteModel, badShape, badModel, identityOf, correctOf};
+ghost use Rattle.illum.specs.Refusals.{badTerms, badModelSide, notFinite, notFinite4, notFiniteUpTo, notFiniteRows, notFiniteSurfaces, notFiniteModel, badModel, identityOf, correctOf};
 ghost use Rattle.illum.specs.Shown.{leavesOpen};
 use color::Linear;
 
@@ -297,6 +297,110 @@ pub fn corrected(model: IlluminationModel, x: f32, y: f32, colour: Linear) -> Ma
     mix(model, unshade(model, x, y, colour))
 }
 
+// ---- the correction of a model that is lent part by part, so that no coefficient is copied
+
+// The three channels' inverses of surfaces of 4 terms that are lent.
+fn unshade_4_lent(
+    side: f32,
+    gain_r: &[f64; 9],
+    gain_g: &[f64; 9],
+    gain_b: &[f64; 9],
+    flare_r: &[f64; 9],
+    flare_g: &[f64; 9],
+    flare_b: &[f64; 9],
+    x: f32,
+    y: f32,
+    colour: Linear,
+) -> Unshaded
+    ensures { λ v. ⌜ v ≡ spec.inverses 4 side (now («gain_r» .entry)) (now («gain_g» .entry)) (now («gain_b» .entry)) (now («flare_r» .entry)) (now («flare_g» .entry)) (now («flare_b» .entry)) x y colour ⌝ }
+{
+    let at = basis(4, side, x, y);
+    let r = invert_4(*gain_r, *flare_r, at, colour.r);
+    let g = invert_4(*gain_g, *flare_g, at, colour.g);
+    let b = invert_4(*gain_b, *flare_b, at, colour.b);
+    Unshaded { r, g, b }
+}
+
+// Of 9 terms.
+fn unshade_9_lent(
+    side: f32,
+    gain_r: &[f64; 9],
+    gain_g: &[f64; 9],
+    gain_b: &[f64; 9],
+    flare_r: &[f64; 9],
+    flare_g: &[f64; 9],
+    flare_b: &[f64; 9],
+    x: f32,
+    y: f32,
+    colour: Linear,
+) -> Unshaded
+    ensures { λ v. ⌜ v ≡ spec.inverses 9 side (now («gain_r» .entry)) (now («gain_g» .entry)) (now («gain_b» .entry)) (now («flare_r» .entry)) (now («flare_g» .entry)) (now («flare_b» .entry)) x y colour ⌝ }
+{
+    let at = basis(9, side, x, y);
+    let r = invert_9(*gain_r, *flare_r, at, colour.r);
+    let g = invert_9(*gain_g, *flare_g, at, colour.g);
+    let b = invert_9(*gain_b, *flare_b, at, colour.b);
+    Unshaded { r, g, b }
+}
+
+// The three channels' inverses at a position: `unshade` of surfaces that are lent.
+fn unshade_lent(
+    terms: usize,
+    side: f32,
+    gain_r: &[f64; 9],
+    gain_g: &[f64; 9],
+    gain_b: &[f64; 9],
+    flare_r: &[f64; 9],
+    flare_g: &[f64; 9],
+    flare_b: &[f64; 9],
+    x: f32,
+    y: f32,
+    colour: Linear,
+) -> Unshaded
+    ensures { λ v. ⌜ v ≡ spec.inverses terms side (now («gain_r» .entry)) (now («gain_g» .entry)) (now («gain_b» .entry)) (now («flare_r» .entry)) (now («flare_g» .entry)) (now («flare_b» .entry)) x y colour ⌝ }
+{
+    if terms == 4 {
+        return unshade_4_lent(
+            side,
+            gain_r,
+            gain_g,
+            gain_b,
+            flare_r,
+            flare_g,
+            flare_b,
+            x,
+            y,
+            colour,
+        );
+    }
+    unshade_9_lent(
+        side,
+        gain_r,
+        gain_g,
+        gain_b,
+        flare_r,
+        flare_g,
+        flare_b,
+        x,
+        y,
+        colour,
+    )
+}
+
+// The affine part over them: the colour that `mix` gives, of rows that are lent.
+fn mix_lent(row_r: &[f64; 4], row_g: &[f64; 4], row_b: &[f64; 4], d: Unshaded) -> Linear
+    ensures { λ v. ⌜ v ≡ spec.mixedBy (now («row_r» .entry)) (now («row_g» .entry)) (now («row_b» .entry)) d ⌝ }
+{
+    let r = d.r;
+    let g = d.g;
+    let b = d.b;
+    Linear {
+        r: affine_row(*row_r, r.value, g.value, b.value),
+        g: affine_row(*row_g, r.value, g.value, b.value),
+        b: affine_row(*row_b, r.value, g.value, b.value),
+    }
+}
+
 // ---- reach: where no corrected colour is wild
 
 // Whether one of the first n numbers is not from -8 to 8.
@@ -477,78 +581,69 @@ fn bad_surface(terms: usize, c: [f64; 9]) -> bool
     bad_surface_9(c)
 }
 
-// The affine part has a number that is not finite.
-fn bad_affine(m: IlluminationModel) -> bool
-    ensures { λ r. ⌜ r ≡ notFiniteAffine m ⌝ }
+// One of three rows has one.
+fn bad_rows(r: &[f64; 4], g: &[f64; 4], b: &[f64; 4]) -> bool
+    ensures { λ v. ⌜ v ≡ notFiniteRows (now (r .entry)) (now (g .entry)) (now (b .entry)) ⌝ }
 {
-    let affine_r = m.affine_r;
-    if bad_row(affine_r) {
-        return true;
-    }
-    let affine_g = m.affine_g;
-    if bad_row(affine_g) {
-        return true;
-    }
-    let affine_b = m.affine_b;
-    bad_row(affine_b)
+    bad_row(*r) | bad_row(*g) | bad_row(*b)
 }
 
-// A gain surface has one.
-fn bad_gains(m: IlluminationModel) -> bool
-    ensures { λ r. ⌜ r ≡ notFiniteGains m ⌝ }
+// One of three surfaces has one.
+fn bad_surfaces(terms: usize, r: &[f64; 9], g: &[f64; 9], b: &[f64; 9]) -> bool
+    ensures { λ v. ⌜ v ≡ notFiniteSurfaces terms (now (r .entry)) (now (g .entry)) (now (b .entry)) ⌝ }
 {
-    let gain_r = m.gain_r;
-    if bad_surface(m.terms, gain_r) {
-        return true;
-    }
-    let gain_g = m.gain_g;
-    if bad_surface(m.terms, gain_g) {
-        return true;
-    }
-    let gain_b = m.gain_b;
-    bad_surface(m.terms, gain_b)
+    bad_surface(terms, *r) | bad_surface(terms, *g) | bad_surface(terms, *b)
 }
 
-// A flare surface has one.
-fn bad_flares(m: IlluminationModel) -> bool
-    ensures { λ r. ⌜ r ≡ notFiniteFlares m ⌝ }
+// A number of a model that is lent is not finite: of the affine part, of the gains, of the flares, or the residual.
+fn not_finite_lent<'a>(
+    terms: usize,
+    residual_rms: f32,
+    affine_r: &'a [f64; 4],
+    affine_g: &'a [f64; 4],
+    affine_b: &'a [f64; 4],
+    gain_r: &'a [f64; 9],
+    gain_g: &'a [f64; 9],
+    gain_b: &'a [f64; 9],
+    flare_r: &'a [f64; 9],
+    flare_g: &'a [f64; 9],
+    flare_b: &'a [f64; 9],
+) -> bool
+    ensures { λ v. ⌜ v ≡ notFiniteRows (now («affine_r» .entry)) (now («affine_g» .entry)) (now («affine_b» .entry)) || notFiniteSurfaces terms (now («gain_r» .entry)) (now («gain_g» .entry)) (now («gain_b» .entry)) || notFiniteSurfaces terms (now («flare_r» .entry)) (now («flare_g» .entry)) (now («flare_b» .entry)) || notFinite «residual_rms» ⌝ }
 {
-    let flare_r = m.flare_r;
-    if bad_surface(m.terms, flare_r) {
-        return true;
-    }
-    let flare_g = m.flare_g;
-    if bad_surface(m.terms, flare_g) {
-        return true;
-    }
-    let flare_b = m.flare_b;
-    bad_surface(m.terms, flare_b)
+    let rows = bad_rows(affine_r, affine_g, affine_b);
+    let gains = bad_surfaces(terms, gain_r, gain_g, gain_b);
+    let flares = bad_surfaces(terms, flare_r, flare_g, flare_b);
+    rows | gains | flares | not_finite(residual_rms)
 }
 
 // Core: a number of the model is not finite.
 pub fn not_finite_model(m: IlluminationModel) -> bool
     ensures { λ r. ⌜ r ≡ notFiniteModel m ⌝ }
 {
-    if bad_affine(m) {
-        return true;
-    }
-    if bad_gains(m) {
-        return true;
-    }
-    if bad_flares(m) {
-        return true;
-    }
-    not_finite(m.residual_rms)
+    not_finite_lent(
+        m.terms,
+        m.residual_rms,
+        &m.affine_r,
+        &m.affine_g,
+        &m.affine_b,
+        &m.gain_r,
+        &m.gain_g,
+        &m.gain_b,
+        &m.flare_r,
+        &m.flare_g,
+        &m.flare_b,
+    )
 }
 
 // The terms are neither 4 nor 9, or the side is not a whole number from 1 to 1,024.
-fn bad_shape(m: IlluminationModel) -> bool
-    ensures { λ r. ⌜ r ≡ badShape m ⌝ }
+fn bad_shape(terms: usize, side: f32) -> bool
+    ensures { λ r. ⌜ r ≡ badTerms terms || badModelSide side ⌝ }
 {
-    if bad_terms(m.terms) {
+    if bad_terms(terms) {
         return true;
     }
-    bad_model_side(m.side)
+    bad_model_side(side)
 }
 
 // Core: sentence 10, the model's terms are neither 4 nor 9, its side is not a whole number from 1 to 1,024, or one of its numbers is
@@ -556,7 +651,7 @@ fn bad_shape(m: IlluminationModel) -> bool
 pub fn bad_model(m: IlluminationModel) -> bool
     ensures { λ r. ⌜ r ≡ badModel m ⌝ }
 {
-    if bad_shape(m) {
+    if bad_shape(m.terms, m.side) {
         return true;
     }
     not_finite_model(m)
@@ -631,25 +726,80 @@ pub fn identity(side: usize) -> Modelled
 
 // Whether a corrected colour leaves it open that a number of its model is not finite. Such a number makes a component wild or an
 // inverse 0, save for the residual.
-fn leaves_open(model: IlluminationModel, d: Unshaded, out: Linear) -> bool
-    ensures { λ v. ⌜ v ≡ leavesOpen model d out ⌝ }
+fn leaves_open(residual_rms: f32, d: Unshaded, out: Linear) -> bool
+    ensures { λ v. ⌜ v ≡ leavesOpen «residual_rms» d out ⌝ }
 {
     if color::palette::wild_linear(out) {
         return true;
     }
     let r = d.r;
-    if r.value == 0.0 {
-        return true;
-    }
     let g = d.g;
-    if g.value == 0.0 {
-        return true;
-    }
     let b = d.b;
-    if b.value == 0.0 {
+    if (r.value == 0.0) | (g.value == 0.0) | (b.value == 0.0) {
         return true;
     }
-    not_finite(model.residual_rms)
+    not_finite(residual_rms)
+}
+
+// Core: `correct` of a model that is lent part by part.
+pub fn correct_lent<'a>(
+    terms: usize,
+    side: f32,
+    residual_rms: f32,
+    affine_r: &'a [f64; 4],
+    affine_g: &'a [f64; 4],
+    affine_b: &'a [f64; 4],
+    gain_r: &'a [f64; 9],
+    gain_g: &'a [f64; 9],
+    gain_b: &'a [f64; 9],
+    flare_r: &'a [f64; 9],
+    flare_g: &'a [f64; 9],
+    flare_b: &'a [f64; 9],
+    x: f32,
+    y: f32,
+    colour: Linear,
+) -> Correction
+    ensures { λ r. ⌜ r ≡ correctOf (spec.lentModel terms side «residual_rms» (now («affine_r» .entry)) (now («affine_g» .entry)) (now («affine_b» .entry)) (now («gain_r» .entry)) (now («gain_g» .entry)) (now («gain_b» .entry)) (now («flare_r» .entry)) (now («flare_g» .entry)) (now («flare_b» .entry))) x y colour ⌝ }
+{
+    if color::palette::wild_linear(colour) {
+        return Correction::Refused(8);
+    }
+    if bad_shape(terms, side) {
+        return Correction::Refused(10);
+    }
+    let d = unshade_lent(
+        terms,
+        side,
+        gain_r,
+        gain_g,
+        gain_b,
+        flare_r,
+        flare_g,
+        flare_b,
+        x,
+        y,
+        colour,
+    );
+    let out = mix_lent(affine_r, affine_g, affine_b, d);
+    if !leaves_open(residual_rms, d, out) {
+        return Correction::Corrected(out);
+    }
+    if not_finite_lent(
+        terms,
+        residual_rms,
+        affine_r,
+        affine_g,
+        affine_b,
+        gain_r,
+        gain_g,
+        gain_b,
+        flare_r,
+        flare_g,
+        flare_b,
+    ) {
+        return Correction::Refused(10);
+    }
+    Correction::Corrected(out)
 }
 
 // An observed colour at a position, corrected by the model. The position is any float, and so is what comes out. Refused by 8
@@ -657,20 +807,21 @@ fn leaves_open(model: IlluminationModel, d: Unshaded, out: Linear) -> bool
 pub fn correct(model: IlluminationModel, x: f32, y: f32, colour: Linear) -> Correction
     ensures { λ r. ⌜ r ≡ correctOf model x y colour ⌝ }
 {
-    if color::palette::wild_linear(colour) {
-        return Correction::Refused(8);
-    }
-    if bad_shape(model) {
-        return Correction::Refused(10);
-    }
-    let d = unshade(model, x, y, colour);
-    let m = mix(model, d);
-    let out = m.colour;
-    if !leaves_open(model, d, out) {
-        return Correction::Corrected(out);
-    }
-    if not_finite_model(model) {
-        return Correction::Refused(10);
-    }
-    Correction::Corrected(out)
+    correct_lent(
+        model.terms,
+        model.side,
+        model.residual_rms,
+        &model.affine_r,
+        &model.affine_g,
+        &model.affine_b,
+        &model.gain_r,
+        &model.gain_g,
+        &model.gain_b,
+        &model.flare_r,
+        &model.flare_g,
+        &model.flare_b,
+        x,
+        y,
+        colour,
+    )
 }

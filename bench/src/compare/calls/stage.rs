@@ -91,7 +91,7 @@ fn correct(t: &mut Record) {
     let (model, count) = (t.inputs.model(), t.inputs.count());
     for _ in 0..count {
         let (x, y, c) = (t.inputs.single(), t.inputs.single(), t.inputs.linear());
-        let r = unsafe { purdolve_correct(model, x, y, c) };
+        let r = model.correct(x, y, c);
         let mut same = r.number as u64 == t.answer.word();
         for v in [r.colour.r, r.colour.g, r.colour.b] {
             same &= if r.number == 0 && same { v.same(t.answer.single()) } else { v.bits() == 0 };

@@ -12,4 +12,4 @@ unfolding leavesOpen ofBits
 leaves-open-spec =
     tie.close
     (tie.spec (λ c κs. search needs) (λ c. search (ors) depth 15 fits 50000) (λ c. search (ors) depth 15 fits 50000)
-    (λ c. search (ors) depth 15 fits 50000) (λ c. search (ors) depth 15 fits 50000) (λ c κs. search needs) (λ c. search (ors) depth 15 fits 50000))
+    (λ c κs. search needs) (λ c. search (ors) depth 15 fits 50000))

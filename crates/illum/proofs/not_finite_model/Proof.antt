@@ -1,14 +1,15 @@
--- `illum::not_finite_model` meets its contract: the affine part, the surfaces and the residual, one after the other.
+-- `illum::not_finite_model` meets its contract: it looks at the numbers of the model.
 -- Assumes nothing.
 use borrow.Author.Needs.{needs}
-use Rattle.sentences.proofs.Laws.{ors}
-use Rattle.illum.specs.Refusals.{notFiniteModel}
+use Rattle.illum.specs.Refusals.{notFiniteAffine, notFiniteGains, notFiniteFlares, notFiniteModel}
 use Rattle.illum.proofs.not_finite_model.Statement.{statement}
 use Rattle.illum.proofs.not_finite_model.Tie as tie
 
+returns : tie.Need-returns
+unfolding notFiniteModel notFiniteAffine notFiniteGains notFiniteFlares
+returns c = c .not-finite-lent .ensures
+
 pub not-finite-model-spec : {M : Type 1} → statement M
-unfolding notFiniteModel
 not-finite-model-spec =
     tie.close
-    (tie.spec (λ c κs. search needs) (λ c. search (ors) depth 15 fits 50000) (λ c κs. search needs) (λ c. search (ors) depth 15 fits 50000)
-    (λ c κs. search needs) (λ c. search (ors) depth 15 fits 50000) (λ c κs. search needs) (λ c. search (ors) depth 15 fits 50000))
+    (tie.spec (λ c κs. search needs) returns)
