@@ -87,9 +87,12 @@ pub record Sheet : Type 0 where
 abbrev pub sheet : List Float → List Float → Sheet
 sheet luma colours = record { luma = luma; colours = colours }
 
--- c at the three places of entry i
+-- three numbers at the places of entry i, and a colour there
+abbrev pub putThree : List Float → ℕ → Float → Float → Float → List Float
+putThree l i x y z = set (set (set l (3 * i) x) (3 * i + 1) y) (3 * i + 2) z
+
 abbrev pub putColour : List Float → ℕ → Linear → List Float
-putColour l i c = set (set (set l (3 * i) (c .r)) (3 * i + 1) (c .g)) (3 * i + 2) (c .b)
+putColour l i c = putThree l i (c .r) (c .g) (c .b)
 
 -- module i: its score, and its corrected colour, which `colour` gives
 unfoldable pub writeModule : ChannelStats → List Float → ℕ → (ℕ → Linear) → ℕ → Sheet → Sheet

@@ -15,6 +15,7 @@ ghost use Rattle.limits.specs.Limits.{badHues};
 ghost use Rattle.limits.specs.Chroma.{symbolBits, chromaLength, ringModules};
 ghost use Rattle.color.specs.Color.{linearToLab};
 ghost use Rattle.color.specs.Palette.{paletteLen, linearAt};
+ghost use Rattle.illum.specs.Correct.{rounded};
 ghost use Rattle.stats.specs.Noise.{Sigmas};
 ghost use Rattle.demod.specs.Score as spec;
 ghost use Rattle.demod.specs.Score.{Block, Exact, sheet};
@@ -28,6 +29,7 @@ use color::palette::linear_at;
 use color::palette::wild_in;
 use color::xyz_to_lab;
 use illum::IlluminationModel;
+use illum::Unrounded;
 use modulate::Cell;
 use stats::ChannelStats;
 
@@ -142,13 +144,28 @@ pub fn luma_score(
     noise.luma_llr_of(lightness(c))
 }
 
-fn put_colour(l: &mut [f32], i: usize, c: Linear)
+// Three numbers at the places of entry i.
+fn put_three(l: &mut [f32], i: usize, x: f32, y: f32, z: f32)
     requires { ⌜ 3 * i + 2 < length (now l) ⌝ }
-    ensures { λ _. ⌜ now (l .exit) ≡ spec.putColour (now (l .entry)) i c ⌝ }
+    ensures { λ _. ⌜ now (l .exit) ≡ spec.putThree (now (l .entry)) i x y z ⌝ }
 {
-    l[3 * i] = c.r;
-    l[3 * i + 1] = c.g;
-    l[3 * i + 2] = c.b;
+    l[3 * i] = x;
+    l[3 * i + 1] = y;
+    l[3 * i + 2] = z;
+}
+
+// A corrected colour, rounded to f32, at the places of entry i.
+fn put_rows(l: &mut [f32], i: usize, v: Unrounded)
+    requires { ⌜ 3 * i + 2 < length (now l) ⌝ }
+    ensures { λ _. ⌜ now (l .exit) ≡ spec.putColour (now (l .entry)) i (rounded v) ⌝ }
+{
+    put_three(
+        l,
+        i,
+        float::narrow(v.r),
+        float::narrow(v.g),
+        float::narrow(v.b),
+    );
 }
 
 // Writes the corrected colour of every module. (All colours first and the scores after take less time than both in one loop.)
@@ -159,8 +176,7 @@ fn write_colours(model: IlluminationModel, xs: &[i32], ys: &[i32], raw: &[f32], 
     for i in 0..xs.len() {
         let s = module_spot(xs, ys, raw, i);
         let d = illum::unshade(model, s.x, s.y, s.colour);
-        let m = illum::mix(model, d);
-        put_colour(colours, i, m.colour);
+        put_rows(colours, i, illum::rows(model, d));
     }
 }
 
@@ -306,8 +322,7 @@ fn correct_cells(
     for i in from..to {
         let s = cell_spot(size, cxs, cys, raw, i);
         let d = illum::unshade(model, s.x, s.y, s.colour);
-        let m = illum::mix(model, d);
-        put_colour(room, i - from, m.colour);
+        put_rows(room, i - from, illum::rows(model, d));
     }
 }
 
@@ -410,7 +425,7 @@ fn write_ring(
 {
     let c = module_colour(model, xs, ys, raw, i);
     let mut one = [0.0f32; 3];
-    put_colour(&mut one, 0, c);
+    put_three(&mut one, 0, c.r, c.g, c.b);
     let e = cells + (i - grid);
     write_entry(
         noise,

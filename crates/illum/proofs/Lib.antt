@@ -4,6 +4,7 @@ pub mod Gaps
 pub mod Inverses
 pub mod Moderate
 pub mod Passes
+pub mod Rounded
 pub mod Shown
 pub mod Side
 pub mod Terms

@@ -5,7 +5,7 @@ use Prim.Native.Nat.{_-_, _≤_}
 use lib.ListN.{length}
 use Rattle.demod.specs.Score.{Block, cellColour}
 use Rattle.demod.proofs.Blocks.{no-colours, one-colour, all-colours}
-use Rattle.demod.proofs.Spots.{cell-colour}
+use Rattle.demod.proofs.Spots.{cell-rounded}
 use Rattle.demod.proofs.correct_cells.Statement.{statement}
 use Rattle.demod.proofs.correct_cells.Tie as tie
 
@@ -24,8 +24,8 @@ loop-again c =
     let at = c .before .before .before .before .before .before .before in
     let p = c .before .before .before .before .before .before .before .before .before .before .before .before .before .pre in
     let g = at .before .loop .inv in
-    let colour = cell-colour _ _ _ _ _ _ _ _ _ (c .before .before .before .before .before .before .cell-spot .ensures) (c .before .before .before .before .before .unshade .ensures) (c .before .before .before .before .mix .ensures) in
-    (search needs, search needs, one-colour _ _ _ _ _ _ _ _ (g .0) (at .loop-test .taken) (p .5) (g .1) (g .2) (c .before .before .put-colour .ensures) colour)
+    let colour = cell-rounded _ _ _ _ (c .before .before .before .before .before .unshade .ensures) _ _ _ _ (c .before .before .before .before .before .before .cell-spot .ensures) _ (c .before .before .before .rows .ensures) in
+    (search needs, search needs, one-colour _ _ _ _ _ _ _ _ (g .0) (at .loop-test .taken) (p .5) (g .1) (g .2) (c .before .before .put-rows .ensures) colour)
 
 add-i : tie.Need-add-i Inv μ
 add-i c = search (c .before .before .before .before .before .before .before .loop-test, c .before .before .before .before .before .before .before .before .loop, c .before .before .before .before .before .before .before .before .before .before .before .before .before .good, needs)
@@ -36,5 +36,5 @@ returns c = search (all-colours)
 pub correct-cells-spec : {M : Type 1} → statement M
 correct-cells-spec =
     tie.close
-    (tie.spec Inv μ loop-holds (λ c κs. search needs) (λ c κs. search needs) (λ c κs. search needs) (λ c. search needs)
+    (tie.spec Inv μ loop-holds (λ c κs. search needs) (λ c κs. search needs) (λ c. search needs) (λ c κs. search needs)
     (λ c κs. search needs) add-i (λ c. search needs) loop-again (λ c. search needs) returns)
