@@ -11,3 +11,4 @@ mod Literals
 mod Places
 mod Spots
 mod Blocks
+mod Threes

@@ -7,7 +7,8 @@ use lib.Ieee.{Float}
 use Rattle.float.specs.Single.{toSingle}
 use Rattle.illum.specs.declared.Unrounded.{Unrounded}
 use Rattle.illum.specs.Correct.{rounded}
-use Rattle.demod.specs.Score.{putThree, putColour}
+use Rattle.demod.specs.Samples.{putThree}
+use Rattle.demod.specs.Score.{putColour}
 use Rattle.demod.proofs.put_rows.Statement.{statement}
 use Rattle.demod.proofs.put_rows.Tie as tie
 

@@ -2,8 +2,8 @@
 use borrow.Author.Needs.{needs}
 use native.Mathlib.Omega.{arith}
 use lib.ListN.{length-set}
-use Rattle.demod.proofs.put_three.Statement.{statement}
-use Rattle.demod.proofs.put_three.Tie as tie
+use Rattle.demod.proofs.samples.put_three.Statement.{statement}
+use Rattle.demod.proofs.samples.put_three.Tie as tie
 
 slice-write-l-2 : tie.Need-slice-write-l-2
 slice-write-l-2 c = simp length-set (omega arith)
