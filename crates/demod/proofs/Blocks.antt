@@ -2,13 +2,12 @@
 -- some j and then those from j on. Assumes nothing.
 use mathlib.Core.Path.{_≡_, refl, sym, ap, _∙_}
 use mathlib.Core.Logic.{⊎-elim}
-use mathlib.Core.Bool.{true, false}
+use mathlib.Core.Bool.{true}
 use mathlib.Core.List.{List}
 use Prim.Native.Nat.{ℕ, suc, _+_, _-_, _*_, _≤_, _<_, zero-le}
 use native.Mathlib.Omega.{arith}
 use native.Mathlib.Nat.{eq-or-lt-of-le, zero-add}
 use borrow.Author.Tests.{lt-ltb, le-ltb}
-use lib.Dec.{ltb}
 use lib.ListN.{length, set}
 use lib.Seq.{getD-set-same, getD-set-other}
 use lib.Ieee.{Float, nan}
@@ -19,8 +18,6 @@ use Rattle.color.specs.declared.Linear.{Linear}
 use Rattle.color.specs.declared.Lab.{Lab}
 use Rattle.color.specs.Color.{linearToLab}
 use Rattle.color.specs.Palette.{linearAt}
-use Rattle.modulate.specs.declared.Cell.{Cell}
-use Rattle.modulate.specs.declared.Cell.the-variants.{Unmasked, At}
 use Rattle.stats.specs.declared.ChannelStats.{ChannelStats}
 use Rattle.stats.specs.Noise.{nearest, weight, reliability}
 use Rattle.demod.specs.Samples.{putThree, numberAt, labAt, Block, onwards, labOf, distanceOf, weightOf, reliabilityOf, Samples}

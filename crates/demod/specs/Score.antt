@@ -1,8 +1,7 @@
 -- Scoring, the Rust's `demodulate` without its last call: each colour corrected, a luma score a module, log2(hues) chroma scores a cell and, at cell size 1, a ring module. Definitions only.
-use mathlib.Core.Path.{_≡_}
 use mathlib.Core.Bool.{cond}
 use mathlib.Core.List.{List}
-use Prim.Native.Nat.{ℕ, _+_, _-_, _*_, _≤_, _<_}
+use Prim.Native.Nat.{ℕ, _+_, _-_, _*_, _<_}
 use lib.Dec.{T, ltb, eqb}
 use lib.IntN.{ℤ, pos}
 use lib.ListN.{length, getD, set, replicate}

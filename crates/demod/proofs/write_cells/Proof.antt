@@ -1,11 +1,9 @@
 -- `write_cells` meets its contract: what is left from the block's first cell on gives the same, and a block makes the turns of its cells. Assumes nothing.
 use mathlib.Core.Path.{_≡_}
 use borrow.Author.Needs.{needs}
-use Prim.Native.Nat.{ℕ, _-_, _*_, _≤_}
-use native.Mathlib.Nat.{le-trans, mul-le-mul-right}
+use Prim.Native.Nat.{_-_}
 use lib.ListN.{length}
 use Rattle.loops.proofs.Laws.{Left, loops}
-use Rattle.limits.specs.Chroma.{symbolBits}
 use Rattle.demod.specs.Score.{cellColour, writeCell, writeCells}
 use Rattle.demod.proofs.Blocks.{block-to}
 use Rattle.demod.proofs.Chroma.{part-long}
