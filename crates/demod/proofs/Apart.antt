@@ -1,16 +1,17 @@
--- The modules' colours and scores in two passes are those of one: the two lists do not touch each other, and the second pass finds in the first list the colours that
--- the first one wrote. Assumes nothing.
+-- The modules' colours and scores in two passes are those of one, and the ring's chroma scores after them: the lists do not touch each other, and the later passes find in
+-- the list of colours those that the first one wrote. Assumes nothing.
 use mathlib.Core.Path.{_≡_, refl, sym, ap, _∙_}
 use mathlib.Core.List.{List}
-use Prim.Native.Nat.{ℕ, zero, suc, _-_, _*_, _≤_, _<_}
+use Prim.Native.Nat.{ℕ, zero, suc, _+_, _-_, _*_, _≤_, _<_}
 use lib.ListN.{length, set}
 use lib.Ieee.{Float}
 use Rattle.loops.specs.Loops.{turns, forUp}
 use Rattle.loops.proofs.Laws.{forUp-same}
 use Rattle.color.specs.declared.Linear.{Linear}
 use Rattle.color.specs.Palette.{linearAt}
+use Rattle.modulate.specs.declared.Cell.the-variants.{Unmasked}
 use Rattle.stats.specs.declared.ChannelStats.{ChannelStats}
-use Rattle.demod.specs.Score.{lumaScore, Sheet, sheet, writeModule, writeModules, colourAt, writeColours, lumaAt, writeLumas}
+use Rattle.demod.specs.Score.{lumaScore, Sheet, sheet, writeModule, writeModules, colourAt, writeColours, lumaAt, writeLumas, writeEntry, writeCells, writeRing, writeRings, ringChroma, chromaWritten}
 use Rattle.demod.proofs.Written.{modules-are}
 
 module _ (n : ChannelStats) (palette : List Float) (hues : ℕ) (colour : ℕ → Linear) where
@@ -40,3 +41,13 @@ module _ (n : ChannelStats) (palette : List Float) (hues : ℕ) (colour : ℕ �
       in-two after lit e h =
           let q : lit ≡ writeLumas n palette hues colour m luma = h ∙ (ap (λ (l : List Float). writeLumas n palette hues (linearAt l) m luma) e ∙ scores) in
           rw (q, e) (sym apart)
+
+-- the chroma list takes nothing of the modules' colours but each by itself, so it is the same by any list that holds them
+module _ (n : ChannelStats) (palette : List Float) (hues size grid : ℕ) (f g : ℕ → Linear) (m : ℕ) (cxs cys : List ℕ) (cells : ℕ → Linear) (chroma : List Float) (h : (j : ℕ) → j < m → f j ≡ g j) where
+  rings-same : (count : ℕ) (s : List Float) → writeRings n palette hues count grid f m s ≡ writeRings n palette hues count grid g m s
+  unfolding writeRing
+  rings-same count s = forUp-same _ _ m grid s (λ j k l t. ap (λ (c : Linear). writeEntry n palette hues Unmasked c (count + (j - grid)) t) (h j l))
+
+  pub chroma-same : chromaWritten n palette hues size grid f m cxs cys cells chroma ≡ chromaWritten n palette hues size grid g m cxs cys cells chroma
+  unfolding chromaWritten ringChroma
+  chroma-same = rw (rings-same (length cxs) (writeCells n palette hues cxs cys cells (length cxs) chroma))

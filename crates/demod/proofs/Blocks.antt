@@ -1,66 +1,115 @@
--- Cells that are corrected and scored a block at a time are scored as one by one: the turns of a loop up to n are those up to some j and then those from j on, and a block's
--- list holds the corrected colours of its cells. Assumes nothing.
+-- Colours that are taken a block at a time are scored as one by one: a block's lists hold, entry by entry, what the definitions give of its colours, and the turns of a loop up to n are those up to
+-- some j and then those from j on. Assumes nothing.
 use mathlib.Core.Path.{_≡_, refl, sym, ap, _∙_}
 use mathlib.Core.Logic.{⊎-elim}
+use mathlib.Core.Bool.{true}
 use mathlib.Core.List.{List}
-use Prim.Native.Nat.{ℕ, _+_, _-_, _*_, _≤_, _<_}
+use Prim.Native.Nat.{ℕ, suc, _+_, _-_, _*_, _≤_, _<_, zero-le}
 use native.Mathlib.Omega.{arith}
-use native.Mathlib.Nat.{eq-or-lt-of-le}
-use lib.ListN.{length}
-use lib.Ieee.{Float}
+use native.Mathlib.Nat.{eq-or-lt-of-le, zero-add}
+use borrow.Author.Tests.{lt-ltb, le-ltb}
+use lib.ListN.{length, set}
+use lib.Seq.{getD-set-same, getD-set-other}
+use lib.Ieee.{Float, nan}
 use Rattle.loops.specs.Loops.{forUp}
-use Rattle.loops.proofs.Laws.{Left, forUp-turn, forUp-to, forUp-same}
+use Rattle.loops.proofs.Laws.{Left, forUp-done, forUp-turn, forUp-to}
+use Rattle.limits.specs.Chroma.{weighted}
 use Rattle.color.specs.declared.Linear.{Linear}
+use Rattle.color.specs.declared.Lab.{Lab}
+use Rattle.color.specs.Color.{linearToLab}
 use Rattle.color.specs.Palette.{linearAt}
 use Rattle.stats.specs.declared.ChannelStats.{ChannelStats}
-use Rattle.demod.specs.Score.{Block, blockColour, only, putColour, writeCell, writeBlock}
-use Rattle.demod.proofs.Written.{put-same, put-apart}
+use Rattle.stats.specs.Noise.{nearest, weight, reliability}
+use Rattle.demod.specs.Samples.{putThree, numberAt, labAt, Block, onwards, labOf, distanceOf, weightOf, reliabilityOf, Samples}
+use Rattle.demod.specs.Score.{putColour, lumaScore, lumaAt, putLuma, putLumas, lumaBlock, drawnAt, putEntry, putEntries, writeEntry, writeCell, cellBlock, writeRing, ringBlock}
+use Rattle.demod.proofs.Threes.{colour-own, colour-other, lab-own, lab-other}
 
--- ---- a loop in two parts
+-- ---- what a block's list holds
+
+module _ {A : Type 0} (read : List Float → ℕ → A) (f : ℕ → A) where
+  -- nothing yet
+  pub none-held : (room : List Float) → Block read f 0 room
+  none-held room = record { at = λ j h. absurd (omega arith) }
+
+  -- one entry more, the others as they were
+  one-held : (j : ℕ) (room after : List Float) → Block read f j room → read after j ≡ f j → ((i : ℕ) → (i ≡ j → ⊥) → read after i ≡ read room i) → Block read f (j + 1) after
+  one-held j room after p e o =
+      record {
+        at = λ i h. ⊎-elim (λ (u : i ≡ j). rw u e) (λ (u : i < j). o i (λ v. omega arith) ∙ p .at i u) (eq-or-lt-of-le (let z : i ≤ j = omega arith in z));
+      }
+
+  -- those below j are enough for those below n
+  pub all-held : (j n : ℕ) (room : List Float) → Block read f j room → n ≤ j → Block read f n room
+  all-held j n room p h = record { at = λ i l. p .at i (omega arith) }
+
+module _ (j : ℕ) (room after : List Float) where
+  pub number-held : (f : ℕ → Float) (v : Float) → Block numberAt f j room → after ≡ set room j v → v ≡ f j → j < length room → Block numberAt f (j + 1) after
+  number-held f v p e h l = rw e (one-held numberAt f j room (set room j v) p (getD-set-same room j v nan l ∙ h) (λ i d. getD-set-other room j i v nan d))
+
+  pub colour-held : (f : ℕ → Linear) (c : Linear) → Block linearAt f j room → after ≡ putColour room j c → c ≡ f j → 3 * j + 2 < length room → Block linearAt f (j + 1) after
+  colour-held f c p e h l = rw e (one-held linearAt f j room (putColour room j c) p (colour-own room j (c .r) (c .g) (c .b) l ∙ h) (colour-other room j (c .r) (c .g) (c .b)))
+
+  pub lab-held : (f : ℕ → Lab) (c : Lab) → Block labAt f j room → after ≡ putThree room j (c .l) (c .a) (c .b) → c ≡ f j → 3 * j + 2 < length room → Block labAt f (j + 1) after
+  lab-held f c p e h l = rw e (one-held labAt f j room (putThree room j (c .l) (c .a) (c .b)) p (lab-own room j (c .l) (c .a) (c .b) l ∙ h) (lab-other room j (c .l) (c .a) (c .b)))
+
+-- ---- the samples of a block
+
+module _ (n : ChannelStats) (palette : List Float) (hues : ℕ) (colour : ℕ → Linear) (k : ℕ) (labs weights : List Float) where
+  -- by the Labs, the distances of these and the weights of those
+  pub by-stages : (distances : List Float) → Block labAt (labOf colour) k labs → Block numberAt (distanceOf n palette hues (labAt labs)) k distances → Block numberAt (weightOf (numberAt distances)) k weights →
+      Samples n palette hues colour k labs weights
+  unfolding labOf distanceOf weightOf reliabilityOf reliability
+  by-stages distances p q r =
+      record {
+        sampled = p;
+        believed = record { at = λ j h. r .at j h ∙ ap weight (q .at j h ∙ ap (λ (s : Lab). nearest n s palette hues) (p .at j h)) };
+      }
+
+  -- of colours that stand in a list of their own
+  pub of-room : (room : List Float) → Block linearAt colour k room → Samples n palette hues (onwards (linearAt room) 0) k labs weights → Samples n palette hues colour k labs weights
+  unfolding labOf reliabilityOf onwards
+  of-room room p s =
+      let same : (j : ℕ) → j < k → linearAt room (0 + j) ≡ colour j = λ j h. ap (linearAt room) (zero-add j) ∙ p .at j h in
+      record {
+        sampled = record { at = λ j h. s .sampled .at j h ∙ ap linearToLab (same j h) };
+        believed = record { at = λ j h. s .believed .at j h ∙ ap (λ (c : Linear). reliability n (linearToLab c) palette hues) (same j h) };
+      }
+
+-- ---- a loop in parts
 
 in-parts : {S : Type 0} (f : ℕ → S → S) (n i j : ℕ) (s : S) → i ≤ j → j ≤ n → forUp i n f s ≡ forUp j n f (forUp i j f s)
 in-parts f n i j s h k = forUp-to (λ m t. forUp i n f s ≡ forUp m n f t) f j i s h refl (λ m p q t e. e ∙ forUp-turn f n m t (omega arith))
 
--- ---- the colours of a block
+-- the turns that are left before a block are, after its k, those from its end on
+pub block-to : {S : Type 0} {f : ℕ → S → S} {n from : ℕ} {before after all : S} (k : ℕ) → Left f n from before all → after ≡ forUp from (from + k) f before → from + k ≤ n → Left f n (from + k) after all
+block-to {f = f} {n = n} {from = from} {before = before} k inv e h = record { same = ap (forUp (from + k) n f) e ∙ sym (in-parts f n from (from + k) before (omega arith) h) ∙ inv .same }
 
-module _ (colour : ℕ → Linear) (from : ℕ) where
-  -- none yet
-  pub no-colours : (room : List Float) → Block colour from from room
-  no-colours room = record { at = λ j h l. absurd (omega arith) }
+-- k turns that are counted from 0, and are those from `from` on
+counted : {S : Type 0} (f g : ℕ → S → S) (from k : ℕ) (s : S) → ((j : ℕ) → j < k → (t : S) → g j t ≡ f (from + j) t) → forUp 0 k g s ≡ forUp from (from + k) f s
+counted f g from k s same =
+    sym (forUp-to (λ j t. forUp from (from + j) f s ≡ t) g k 0 s zero-le (forUp-done f (from + 0) from s (omega arith))
+    (λ j p q t e. in-parts f (from + suc j) from (from + j) s (omega arith) (omega arith) ∙ forUp-turn f (from + suc j) (from + j) (forUp from (from + j) f s) (omega arith) ∙
+    forUp-done f (from + suc j) (suc (from + j)) _ (omega arith) ∙ ap (f (from + j)) e ∙ sym (same j q t)))
 
-  -- one more
-  pub one-colour : (i to lent : ℕ) (room after : List Float) (c : Linear) → from ≤ i → i < to → 3 * (to - from) ≤ lent → length room ≡ lent → Block colour from i room → after ≡ putColour room (i - from) c
-      → c ≡ colour i → Block colour from (i + 1) after
-  unfolding blockColour
-  one-colour i to lent room after c h k m l p e ec =
-      record {
-        at = λ j hj lj.
-            rw e
-            (⊎-elim (λ (u : j ≡ i). rw u (put-same room (i - from) c (omega arith) ∙ ec)) (λ (u : j < i). put-apart room (i - from) c (j - from) (λ v. omega arith) ∙ p .at j hj u)
-            (eq-or-lt-of-le (let z : j ≤ i = omega arith in z)));
-      }
+-- ---- the scores of a block, by its samples
 
-  -- those of the entries below i are enough for those below `to`
-  pub all-colours : (i to : ℕ) (room : List Float) → Block colour from i room → to ≤ i → Block colour from to room
-  all-colours i to room p h = record { at = λ j hj lj. p .at j hj (omega arith) }
+module _ (n : ChannelStats) (palette : List Float) (hues : ℕ) (colour : ℕ → Linear) (from k : ℕ) (labs weights before after : List Float) (s : Samples n palette hues (onwards colour from) k labs weights) where
+  pub luma-scores : weighted hues ≡ true → after ≡ putLumas n labs weights from k before → after ≡ lumaBlock n palette hues colour from k before
+  unfolding putLuma lumaAt lumaScore labOf reliabilityOf onwards
+  luma-scores w e = e ∙ counted (lumaAt n palette hues colour) (putLuma n labs weights from) from k before (λ j h t. rw (s .sampled .at j h, s .believed .at j h, w))
 
--- ---- the scores of a block
+  module _ (cxs cys : List ℕ) where
+    pub cell-scores : from + k ≤ length cxs → after ≡ putEntries n palette hues cxs cys labs weights from k before → after ≡ cellBlock n palette hues cxs cys colour from k before
+    unfolding putEntry drawnAt writeCell writeEntry labOf reliabilityOf onwards
+    cell-scores l e =
+        e ∙ counted (writeCell n palette hues cxs cys colour) (putEntry n palette hues cxs cys labs weights from) from k before
+        (λ j h t. rw (s .sampled .at j h, s .believed .at j h, lt-ltb (from + j) (length cxs) (omega arith)))
 
-module _ (n : ChannelStats) (palette : List Float) (hues : ℕ) (cxs cys : List ℕ) where
-  -- a cell's step with the colour that stands in the list
-  pub block-step : (room : List Float) (from i : ℕ) (before after : List Float) → after ≡ writeCell n palette hues cxs cys (only (linearAt room (i - from))) i before →
-      after ≡ writeCell n palette hues cxs cys (blockColour room from) i before
-  unfolding writeCell blockColour
-  block-step room from i before after e = e
-
-  module _ (colour : ℕ → Linear) (from to : ℕ) (room before : List Float) (p : Block colour from to room) where
-    -- the list's colours are those that `colour` gives
-    block-same : writeBlock n palette hues cxs cys (blockColour room from) from to before ≡ writeBlock n palette hues cxs cys colour from to before
-    unfolding writeCell
-    block-same = forUp-same _ _ to from before (λ j h l s. rw (p .at j h l))
-
-    -- so the turns that are left before a block are, after it, those from its end on
-    pub block-to : (cells : ℕ) (after all : List Float) → Left (writeCell n palette hues cxs cys colour) cells from before all → from < to → to ≤ cells →
-        after ≡ writeBlock n palette hues cxs cys (blockColour room from) from to before → Left (writeCell n palette hues cxs cys colour) cells to after all
-    block-to cells after all inv h k e =
-        record { same = ap (forUp to cells (writeCell n palette hues cxs cys colour)) (e ∙ block-same) ∙ sym (in-parts (writeCell n palette hues cxs cys colour) cells from to before (omega arith) k) ∙ inv .same }
+    pub ring-scores : (grid first : ℕ) → first ≡ length cxs + (from - grid) → grid ≤ from → after ≡ putEntries n palette hues cxs cys labs weights first k before →
+        after ≡ ringBlock n palette hues (length cxs) grid colour from k before
+    unfolding putEntry drawnAt writeRing writeEntry labOf reliabilityOf onwards
+    ring-scores grid first f g e =
+        e ∙ counted (writeRing n palette hues (length cxs) grid colour) (putEntry n palette hues cxs cys labs weights first) from k before
+        (λ j h t.
+        let p : first + j ≡ length cxs + (from + j - grid) = omega arith in
+        rw (s .sampled .at j h, s .believed .at j h, p, le-ltb (length cxs + (from + j - grid)) (length cxs) (omega arith)))

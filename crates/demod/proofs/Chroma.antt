@@ -10,16 +10,13 @@ use lib.Ieee.{Float, nan, binary32, ofBits}
 use Rattle.limits.specs.Limits.{badHues}
 use Rattle.limits.specs.Chroma.{log2, symbolBits}
 use Rattle.limits.proofs.Laws.{hues-in, symbol-bits-few}
-use Rattle.color.specs.declared.Linear.{Linear}
 use Rattle.color.specs.declared.Lab.{Lab}
-use Rattle.color.specs.Color.{linearToLab}
-use Rattle.color.specs.Palette.{linearAt}
 use Rattle.modulate.specs.declared.Cell.{Cell}
 use Rattle.modulate.specs.Score.{bitLlrAt, chromaBitLlrs}
 use Rattle.lists.proofs.Laws.{Reached, reached}
 use Rattle.stats.specs.declared.ChannelStats.{ChannelStats}
-use Rattle.stats.specs.Noise.{denominator, hueLogLikelihood, putLikelihood, hueLogLikelihoods, reliability}
-use Rattle.demod.specs.Score.{putScores, writeEntry}
+use Rattle.stats.specs.Noise.{denominator, hueLogLikelihood, putLikelihood, hueLogLikelihoods}
+use Rattle.demod.specs.Score.{putScores, writeSample}
 use Rattle.color.proofs.Numbers.{n0}
 
 -- each hue's likelihood, and the tail as it was
@@ -55,11 +52,10 @@ module _ (hues e k long : ℕ) (h : k ≡ symbolBits hues) (l : e * symbolBits h
   entry-in = rw h l
 
 -- one entry, from what the code has at hand
-pub entry : (n : ChannelStats) (palette : List Float) (hues : ℕ) (cell : Cell) (colours : List Float) (j : ℕ) (c : Linear) (e : ℕ) (chroma : List Float) (lab : Lab) (ll bits : List Float) (weight : Float) (k : ℕ) (after : List Float) →
-    c ≡ linearAt colours j → lab ≡ linearToLab c → ll ≡ hueLogLikelihoods n lab palette hues (replicate 16 (ofBits binary32 0)) → bits ≡ chromaBitLlrs ll cell hues (replicate 4 (ofBits binary32 0)) →
-    weight ≡ reliability n lab palette hues → k ≡ symbolBits hues → after ≡ putScores bits weight k (e * k) chroma → after ≡ writeEntry n palette hues cell (linearAt colours j) e chroma
-unfolding writeEntry
-entry n palette hues cell colours j c e chroma lab ll bits weight k after ec el ell eb ew ek h = rw (← n0, ← ek, ← ec, ← el, ← ell, ← eb, ← ew) h
+pub entry : (n : ChannelStats) (palette : List Float) (hues : ℕ) (cell : Cell) (lab sample : Lab) (weight : Float) (e : ℕ) (chroma ll bits : List Float) (k : ℕ) (after : List Float) →
+    after ≡ putScores bits weight k (e * k) chroma → bits ≡ chromaBitLlrs ll cell hues (replicate 4 (ofBits binary32 0)) → ll ≡ hueLogLikelihoods n lab palette hues (replicate 16 (ofBits binary32 0)) →
+    lab ≡ sample → k ≡ symbolBits hues → after ≡ writeSample n palette hues cell sample weight e chroma
+entry n palette hues cell lab sample weight e chroma ll bits k after h eb ell el ek = rw (← n0, ← ek, ← el, ← ell, ← eb) h
 
 -- ---- the entries' places in the list
 
@@ -67,3 +63,7 @@ module _ (hues i n long : ℕ) where
   -- entry i is one of n
   pub entry-of : i < n → n * symbolBits hues ≤ long → i * symbolBits hues + symbolBits hues ≤ long
   entry-of h l = le-trans (le-of-eq (sym (suc-mul i (symbolBits hues)))) (le-trans (mul-le-mul-right (symbolBits hues) h) l)
+
+-- the scores of the entries below `to` have room where those of all n have
+pub part-long : (hues to n long lent : ℕ) → to ≤ n → long ≡ lent → n * symbolBits hues ≤ lent → to * symbolBits hues ≤ long
+part-long hues to n long lent h e l = rw e (le-trans (mul-le-mul-right (symbolBits hues) h) l)

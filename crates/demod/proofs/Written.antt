@@ -19,41 +19,8 @@ use Rattle.modulate.specs.declared.Cell.the-variants.{Unmasked, At}
 use Rattle.stats.specs.declared.ChannelStats.{ChannelStats}
 use Rattle.stats.specs.Noise.{reliability}
 use Rattle.demod.proofs.Chroma.{entry-of}
+use Rattle.demod.proofs.Threes.{three-long, three-other, colour-own, colour-other}
 use Rattle.demod.specs.Score.{lumaScore, Sheet, sheet, putColour, writeModule, writeModules, bitScores, chromaScore, putScore, putScores, writeEntry, writeCell, writeCells, writeRing, writeRings}
-
--- ---- one colour at its three places
-
-module _ (l : List Float) (i : ℕ) (c : Linear) where
-  put-long : length (putColour l i c) ≡ length l
-  put-long = simp length-set
-
-  put-other : (j : ℕ) → (j ≡ 3 * i → ⊥) → (j ≡ 3 * i + 1 → ⊥) → (j ≡ 3 * i + 2 → ⊥) → getD (putColour l i c) j nan ≡ getD l j nan
-  put-other j p q r =
-      getD-set-other (set (set l (3 * i) (c .r)) (3 * i + 1) (c .g)) (3 * i + 2) j (c .b) nan r ∙
-      getD-set-other (set l (3 * i) (c .r)) (3 * i + 1) j (c .g) nan q ∙ getD-set-other l (3 * i) j (c .r) nan p
-
-  -- the other entries stay
-  pub put-apart : (j : ℕ) → (j ≡ i → ⊥) → linearAt (putColour l i c) j ≡ linearAt l j
-  unfolding linearAt
-  put-apart j h =
-      let r = put-other (3 * j) (λ e. h (omega arith)) (λ e. omega arith) (λ e. omega arith) in
-      let g = put-other (3 * j + 1) (λ e. omega arith) (λ e. h (omega arith)) (λ e. omega arith) in
-      let b = put-other (3 * j + 2) (λ e. omega arith) (λ e. omega arith) (λ e. h (omega arith)) in
-      rw (r, g, b)
-
-  pub put-same : 3 * i + 2 < length l → linearAt (putColour l i c) i ≡ c
-  unfolding linearAt
-  put-same h =
-      let r : getD (putColour l i c) (3 * i) nan ≡ c .r =
-      getD-set-other (set (set l (3 * i) (c .r)) (3 * i + 1) (c .g)) (3 * i + 2) (3 * i) (c .b) nan (λ e. omega arith) ∙ getD-set-other (set l (3 * i) (c .r)) (3 * i + 1) (3 * i) (c .g) nan (λ e. omega arith) ∙
-      getD-set-same l (3 * i) (c .r) nan (omega arith) in
-      let g : getD (putColour l i c) (3 * i + 1) nan ≡ c .g =
-      getD-set-other (set (set l (3 * i) (c .r)) (3 * i + 1) (c .g)) (3 * i + 2) (3 * i + 1) (c .b) nan (λ e. omega arith) ∙
-      getD-set-same (set l (3 * i) (c .r)) (3 * i + 1) (c .g) nan (omega (arith, length-set l (3 * i) (c .r))) in
-      let b : getD (putColour l i c) (3 * i + 2) nan ≡ c .b =
-      getD-set-same (set (set l (3 * i) (c .r)) (3 * i + 1) (c .g)) (3 * i + 2) (c .b) nan
-      (omega (arith, length-set l (3 * i) (c .r), length-set (set l (3 * i) (c .r)) (3 * i + 1) (c .g))) in
-      rw (r, g, b)
 
 -- ---- the modules
 
@@ -87,8 +54,8 @@ module _ (n : ChannelStats) (palette : List Float) (hues : ℕ) (colour : ℕ �
 
     coloured-next : (j : ℕ) → j < suc i → linearAt (putColour (s .colours) i (colour i)) j ≡ colour j
     coloured-next j h =
-        ⊎-elim (λ (e : j ≡ i). rw e (put-same (s .colours) i (colour i) (omega (arith, p .colours-long))))
-        (λ (q : j < i). put-apart (s .colours) i (colour i) j (λ e. omega arith) ∙ p .coloured j q)
+        ⊎-elim (λ (e : j ≡ i). rw e (colour-own (s .colours) i (colour i .r) (colour i .g) (colour i .b) (omega (arith, p .colours-long))))
+        (λ (q : j < i). colour-other (s .colours) i (colour i .r) (colour i .g) (colour i .b) j (λ e. omega arith) ∙ p .coloured j q)
         (eq-or-lt-of-le (let z : j ≤ i = omega arith in z))
 
     next : Modules (suc i) (writeModule n palette hues colour i s)
@@ -98,9 +65,9 @@ module _ (n : ChannelStats) (palette : List Float) (hues : ℕ) (colour : ℕ �
           luma-long = length-set (s .luma) i _ ∙ p .luma-long;
           scored = scored-next;
           luma-kept = λ j h. getD-set-other (s .luma) i j _ nan (λ e. omega arith) ∙ p .luma-kept j (omega arith);
-          colours-long = put-long (s .colours) i _ ∙ p .colours-long;
+          colours-long = three-long (s .colours) i (colour i .r) (colour i .g) (colour i .b) ∙ p .colours-long;
           coloured = coloured-next;
-          colours-kept = λ j h. put-other (s .colours) i _ j (λ e. omega arith) (λ e. omega arith) (λ e. omega arith) ∙ p .colours-kept j (omega arith);
+          colours-kept = λ j h. three-other (s .colours) i (colour i .r) (colour i .g) (colour i .b) j (λ e. omega arith) (λ e. omega arith) (λ e. omega arith) ∙ p .colours-kept j (omega arith);
         }
 
   -- all m modules are written, and nothing else

@@ -1,3 +1,4 @@
--- `Score` is what scoring computes, `Call` the public call with its refusals.
+-- `Samples` is how scoring takes colours a block at a time, `Score` what it computes, `Call` the public call with its refusals.
+pub mod Samples
 pub mod Score
 pub mod Call

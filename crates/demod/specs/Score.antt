@@ -1,9 +1,8 @@
 -- Scoring, the Rust's `demodulate` without its last call: each colour corrected, a luma score a module, log2(hues) chroma scores a cell and, at cell size 1, a ring module. Definitions only.
-use mathlib.Core.Path.{_≡_}
 use mathlib.Core.Bool.{cond}
 use mathlib.Core.List.{List}
-use Prim.Native.Nat.{ℕ, _+_, _-_, _*_, _≤_, _<_}
-use lib.Dec.{T, eqb}
+use Prim.Native.Nat.{ℕ, _+_, _-_, _*_, _<_}
+use lib.Dec.{T, ltb, eqb}
 use lib.IntN.{ℤ, pos}
 use lib.ListN.{length, getD, set, replicate}
 use lib.Ieee.{Float, nan, binary32, neg, ofInt, inFloat}
@@ -23,6 +22,7 @@ use Rattle.stats.specs.declared.ChannelStats.{ChannelStats}
 use Rattle.demod.specs.declared.Spot.{Spot}
 use Rattle.stats.specs.Arithmetic.{_⊕_, _⊗_, _⊘_}
 use Rattle.stats.specs.Noise.{lumaLlr, reliability, hueLogLikelihoods}
+use Rattle.demod.specs.Samples.{putThree, numberAt, labAt}
 
 -- ---- where a colour stands, and the colour corrected
 
@@ -55,18 +55,6 @@ moduleSpot xs ys raw i = record { x = centre (getD xs i (pos 0)); y = centre (ge
 unfoldable pub cellSpot : ℕ → List ℕ → List ℕ → List Float → ℕ → Spot
 cellSpot size cxs cys raw i = record { x = cellCentre size (getD cxs i 0); y = cellCentre size (getD cys i 0); colour = linearAt raw i }
 
--- the colour of entry i in a list that holds the colours from entry `from` on
-unfoldable pub blockColour : List Float → ℕ → ℕ → Linear
-blockColour room from i = linearAt room (i - from)
-
--- the list holds those of the entries below `to`, which `colour` gives
-pub record Block (colour : ℕ → Linear) (from to : ℕ) (room : List Float) : Type 0 where
-  pub at : (i : ℕ) → from ≤ i → i < to → blockColour room from i ≡ colour i
-
--- one colour for every entry
-abbrev pub only : Linear → ℕ → Linear
-only c i = c
-
 -- ---- luma
 
 -- a score, weighed by the reliability of its sample
@@ -87,9 +75,9 @@ pub record Sheet : Type 0 where
 abbrev pub sheet : List Float → List Float → Sheet
 sheet luma colours = record { luma = luma; colours = colours }
 
--- c at the three places of entry i
+-- a colour at the places of entry i
 abbrev pub putColour : List Float → ℕ → Linear → List Float
-putColour l i c = set (set (set l (3 * i) (c .r)) (3 * i + 1) (c .g)) (3 * i + 2) (c .b)
+putColour l i c = putThree l i (c .r) (c .g) (c .b)
 
 -- module i: its score, and its corrected colour, which `colour` gives
 unfoldable pub writeModule : ChannelStats → List Float → ℕ → (ℕ → Linear) → ℕ → Sheet → Sheet
@@ -112,6 +100,24 @@ lumaAt n palette hues colour i l = set l i (lumaScore n palette hues (colour i))
 abbrev pub writeLumas : ChannelStats → List Float → ℕ → (ℕ → Linear) → ℕ → List Float → List Float
 writeLumas n palette hues colour m l = forUp 0 m (lumaAt n palette hues colour) l
 
+-- those of k modules, from module `from` on
+abbrev pub lumaBlock : ChannelStats → List Float → ℕ → (ℕ → Linear) → ℕ → ℕ → List Float → List Float
+lumaBlock n palette hues colour from k l = forUp from (from + k) (lumaAt n palette hues colour) l
+
+-- the score of module from + j, by sample j of a block
+unfoldable pub putLuma : ChannelStats → List Float → List Float → ℕ → ℕ → List Float → List Float
+putLuma n labs weights from j l = set l (from + j) (weighed (lumaLlr n (labAt labs j .l)) (numberAt weights j))
+
+abbrev pub putLumas : ChannelStats → List Float → List Float → ℕ → ℕ → List Float → List Float
+putLumas n labs weights from k l = forUp 0 k (putLuma n labs weights from) l
+
+-- scores that are not weighted
+unfoldable pub plainLuma : ChannelStats → (ℕ → Linear) → ℕ → List Float → List Float
+plainLuma n colour i l = set l i (lumaLlr n (linearToLab (colour i) .l))
+
+abbrev pub plainLumas : ChannelStats → (ℕ → Linear) → ℕ → List Float → List Float
+plainLumas n colour m l = forUp 0 m (plainLuma n colour) l
+
 -- ---- chroma
 
 -- the likelihoods of the hues, in room for 16, and the scores of the symbol's bits, in room for 4
@@ -131,11 +137,28 @@ putScore bits weight at b chroma = set chroma (at + b) (chromaScore (getD bits b
 abbrev pub putScores : List Float → Float → ℕ → ℕ → List Float → List Float
 putScores bits weight n at chroma = forUp 0 n (putScore bits weight at) chroma
 
--- the scores of entry e of the chroma list, for a corrected colour
+-- the scores of entry e of the chroma list, for a sample and its weight
+abbrev pub writeSample : ChannelStats → List Float → ℕ → Cell → Lab → Float → ℕ → List Float → List Float
+writeSample n palette hues cell lab weight e chroma =
+    putScores (bitScores n palette hues cell lab) weight (symbolBits hues) (e * symbolBits hues) chroma
+
+-- for a corrected colour
 unfoldable pub writeEntry : ChannelStats → List Float → ℕ → Cell → Linear → ℕ → List Float → List Float
 writeEntry n palette hues cell c e chroma =
     let lab = linearToLab c in
-    putScores (bitScores n palette hues cell lab) (reliability n lab palette hues) (symbolBits hues) (e * symbolBits hues) chroma
+    writeSample n palette hues cell lab (reliability n lab palette hues) e chroma
+
+-- entry e is drawn on cell e or, past the cells, on a ring module, on which no mask lies
+unfoldable pub drawnAt : List ℕ → List ℕ → ℕ → Cell
+drawnAt cxs cys e = cond (ltb e (length cxs)) (At (getD cxs e 0) (getD cys e 0)) Unmasked
+
+-- entry first + j, by sample j of a block
+unfoldable pub putEntry : ChannelStats → List Float → ℕ → List ℕ → List ℕ → List Float → List Float → ℕ → ℕ → List Float → List Float
+putEntry n palette hues cxs cys labs weights first j chroma =
+    writeSample n palette hues (drawnAt cxs cys (first + j)) (labAt labs j) (numberAt weights j) (first + j) chroma
+
+abbrev pub putEntries : ChannelStats → List Float → ℕ → List ℕ → List ℕ → List Float → List Float → ℕ → ℕ → List Float → List Float
+putEntries n palette hues cxs cys labs weights first k chroma = forUp 0 k (putEntry n palette hues cxs cys labs weights first) chroma
 
 -- cell i is entry i
 unfoldable pub writeCell : ChannelStats → List Float → ℕ → List ℕ → List ℕ → (ℕ → Linear) → ℕ → List Float → List Float
@@ -144,9 +167,9 @@ writeCell n palette hues cxs cys colour i chroma = writeEntry n palette hues (At
 abbrev pub writeCells : ChannelStats → List Float → ℕ → List ℕ → List ℕ → (ℕ → Linear) → ℕ → List Float → List Float
 writeCells n palette hues cxs cys colour c chroma = forUp 0 c (writeCell n palette hues cxs cys colour) chroma
 
--- the cells from `from` on and below `to`
-abbrev pub writeBlock : ChannelStats → List Float → ℕ → List ℕ → List ℕ → (ℕ → Linear) → ℕ → ℕ → List Float → List Float
-writeBlock n palette hues cxs cys colour from to chroma = forUp from to (writeCell n palette hues cxs cys colour) chroma
+-- k cells, from cell `from` on
+abbrev pub cellBlock : ChannelStats → List Float → ℕ → List ℕ → List ℕ → (ℕ → Linear) → ℕ → ℕ → List Float → List Float
+cellBlock n palette hues cxs cys colour from k chroma = forUp from (from + k) (writeCell n palette hues cxs cys colour) chroma
 
 -- ring module i, one of those listed after the grid modules, stands after the cells, and no mask lies on it
 unfoldable pub writeRing : ChannelStats → List Float → ℕ → ℕ → ℕ → (ℕ → Linear) → ℕ → List Float → List Float
@@ -154,6 +177,10 @@ writeRing n palette hues cells grid colour i chroma = writeEntry n palette hues 
 
 abbrev pub writeRings : ChannelStats → List Float → ℕ → ℕ → ℕ → (ℕ → Linear) → ℕ → List Float → List Float
 writeRings n palette hues cells grid colour m chroma = forUp grid m (writeRing n palette hues cells grid colour) chroma
+
+-- k ring modules, from module `from` on
+abbrev pub ringBlock : ChannelStats → List Float → ℕ → ℕ → ℕ → (ℕ → Linear) → ℕ → ℕ → List Float → List Float
+ringBlock n palette hues cells grid colour from k chroma = forUp from (from + k) (writeRing n palette hues cells grid colour) chroma
 
 -- "ring modules carry chroma only at cell size 1"
 unfoldable pub ringChroma : ChannelStats → List Float → ℕ → ℕ → ℕ → ℕ → (ℕ → Linear) → ℕ → List Float → List Float

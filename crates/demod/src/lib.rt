@@ -4,7 +4,7 @@
 // modules and cells and writes a luma score a module, its corrected colour, and the chroma scores of the cells and, at
 // cell size 1, of the ring modules. Scores are positive for a 0.
 ghost use mathlib.Core.Path.{_≡_};
-ghost use mathlib.Core.Bool.{false};
+ghost use mathlib.Core.Bool.{true, false};
 ghost use Prim.Native.Nat.{_+_, _-_, _*_, _<_, _≤_};
 ghost use lib.Dec.{T};
 ghost use lib.IntN.{pos};
@@ -12,24 +12,32 @@ ghost use lib.Ieee.{binary32, inFloat};
 ghost use lib.ListN.{length, getD};
 ghost use Rattle.sentences.specs.Sentences.{refusal};
 ghost use Rattle.limits.specs.Limits.{badHues};
-ghost use Rattle.limits.specs.Chroma.{symbolBits, chromaLength, ringModules};
+ghost use Rattle.limits.specs.Chroma.{weighted, symbolBits, chromaLength, ringModules};
 ghost use Rattle.color.specs.Color.{linearToLab};
 ghost use Rattle.color.specs.Palette.{paletteLen, linearAt};
+ghost use Rattle.illum.specs.Correct.{rounded};
 ghost use Rattle.stats.specs.Noise.{Sigmas};
 ghost use Rattle.demod.specs.Score as spec;
-ghost use Rattle.demod.specs.Score.{Block, Exact, sheet};
+ghost use Rattle.demod.specs.Samples.{Block, labAt, numberAt, onwards};
+ghost use Rattle.demod.specs.Score.{Exact, sheet};
 ghost use Rattle.demod.specs.Call as call;
 use answers::Outcome;
 use color::Linear;
 use color::Xyz;
-use color::linear_to_lab;
 use color::linear_to_xyz;
 use color::palette::linear_at;
 use color::palette::wild_in;
 use color::xyz_to_lab;
 use illum::IlluminationModel;
+use illum::Unrounded;
 use modulate::Cell;
+use samples::block_size;
+use samples::lab_at;
+use samples::put_three;
+use samples::write_samples;
 use stats::ChannelStats;
+
+mod samples;
 
 // ---- the corrected colours
 
@@ -76,18 +84,6 @@ fn module_spot(xs: &[i32], ys: &[i32], raw: &[f32], i: usize) -> Spot
     }
 }
 
-// The corrected colour of module i.
-fn module_colour(model: IlluminationModel, xs: &[i32], ys: &[i32], raw: &[f32], i: usize) -> Linear
-    requires { ⌜ (i < length (now xs)) × (i < length (now ys)) × T (inFloat binary32 (getD (now xs) i (pos 0))) × T (inFloat binary32 (getD (now ys) i (pos 0))) × (3 * i + 2 < length (now raw)) ⌝ }
-    ensures { λ r. ⌜ r ≡ spec.moduleColour model (now (xs .entry)) (now (ys .entry)) (now (raw .entry)) i ⌝ }
-{
-    let x = centre_at(xs, i);
-    let y = centre_at(ys, i);
-    let marked = illum::corrected(model, x, y, linear_at(raw, i));
-    let c = marked.colour;
-    c
-}
-
 // Cell i, observed at its centre.
 fn cell_spot(size: usize, cxs: &[u16], cys: &[u16], raw: &[f32], i: usize) -> Spot
     requires { ⌜ (size ≤ 16) × (i < length (now cxs)) × (i < length (now cys)) × (3 * i + 2 < length (now raw)) ⌝ }
@@ -101,10 +97,57 @@ fn cell_spot(size: usize, cxs: &[u16], cys: &[u16], raw: &[f32], i: usize) -> Sp
     }
 }
 
+// A corrected colour, rounded to f32, at the places of entry i.
+fn put_rows(l: &mut [f32], i: usize, v: Unrounded)
+    requires { ⌜ 3 * i + 2 < length (now l) ⌝ }
+    ensures { λ _. ⌜ now (l .exit) ≡ spec.putColour (now (l .entry)) i (rounded v) ⌝ }
+{
+    put_three(
+        l,
+        i,
+        float::narrow(v.r),
+        float::narrow(v.g),
+        float::narrow(v.b),
+    );
+}
+
+// Writes the corrected colour of every module. (All colours first and the scores after take less time than both in one loop.)
+fn write_colours(model: IlluminationModel, xs: &[i32], ys: &[i32], raw: &[f32], colours: &mut [f32])
+    requires { ⌜ (length (now xs) ≡ length (now ys)) × Exact (now xs) (length (now xs)) × Exact (now ys) (length (now xs)) × (3 * length (now xs) ≤ length (now raw)) × (3 * length (now xs) ≤ length (now colours)) ⌝ }
+    ensures { λ _. ⌜ now (colours .exit) ≡ spec.writeColours (spec.moduleColour model (now (xs .entry)) (now (ys .entry)) (now (raw .entry))) (length (now (xs .entry))) (now (colours .entry)) ⌝ }
+{
+    for i in 0..xs.len() {
+        let s = module_spot(xs, ys, raw, i);
+        let d = illum::unshade(model, s.x, s.y, s.colour);
+        put_rows(colours, i, illum::rows(model, d));
+    }
+}
+
+// Corrects the colours of n cells, from cell `from` on, into `room`, three numbers each.
+fn correct_cells(
+    model: IlluminationModel,
+    size: usize,
+    cxs: &[u16],
+    cys: &[u16],
+    raw: &[f32],
+    from: usize,
+    n: usize,
+    room: &mut [f32],
+)
+    requires { ⌜ (size ≤ 16) × (from + n ≤ length (now cxs)) × (from + n ≤ length (now cys)) × (3 * (from + n) ≤ length (now raw)) × (3 * n ≤ length (now room)) ⌝ }
+    ensures { λ _. ⌜ Block linearAt (onwards (spec.cellColour model size (now (cxs .entry)) (now (cys .entry)) (now (raw .entry))) from) n (now (room .exit)) ⌝ }
+{
+    for j in 0..n {
+        let s = cell_spot(size, cxs, cys, raw, from + j);
+        let d = illum::unshade(model, s.x, s.y, s.colour);
+        put_rows(room, j, illum::rows(model, d));
+    }
+}
+
 // ---- luma
 
-// Core: a score, weighed by the reliability of its sample.
-pub fn weigh(llr: f32, weight: f32) -> f32
+// A score, weighed by the reliability of its sample.
+fn weigh(llr: f32, weight: f32) -> f32
     ensures { λ r. ⌜ r ≡ spec.weighed llr weight ⌝ }
 {
     llr * weight
@@ -123,64 +166,102 @@ fn lightness(c: Linear) -> f32
     lab.l
 }
 
-// Core: the luma score of a corrected colour, of a palette that is long enough and its chroma noises.
-pub fn luma_score(
+// Writes the luma scores of the first n modules, not weighted; their corrected colours stand in `colours`.
+fn plain_lumas(noise: ChannelStats, colours: &[f32], n: usize, luma: &mut [f32])
+    requires { ⌜ (3 * n ≤ length (now colours)) × (n ≤ length (now luma)) ⌝ }
+    ensures { λ _. ⌜ now (luma .exit) ≡ spec.plainLumas noise (linearAt (now (colours .entry))) n (now (luma .entry)) ⌝ }
+{
+    for i in 0..n {
+        luma[i] = noise.luma_llr_of(lightness(linear_at(colours, i)));
+    }
+}
+
+// Writes the luma score of module from + j, of sample j.
+fn put_luma(
     noise: ChannelStats,
-    palette: &[f32],
-    hues: usize,
-    sigmas: &[f32],
-    c: Linear,
-) -> f32
-    requires { ⌜ (paletteLen hues ≤ length (now palette)) × Sigmas noise (now palette) hues (now sigmas) ⌝ }
-    ensures { λ r. ⌜ r ≡ spec.lumaScore noise (now (palette .entry)) hues c ⌝ }
+    labs: &[f32],
+    weights: &[f32],
+    from: usize,
+    j: usize,
+    luma: &mut [f32],
+)
+    requires { ⌜ (3 * j + 2 < length (now labs)) × (j < length (now weights)) × (from + j < length (now luma)) ⌝ }
+    ensures { λ _. ⌜ now (luma .exit) ≡ spec.putLuma noise (now (labs .entry)) (now (weights .entry)) from j (now (luma .entry)) ⌝ }
 {
-    if limits::weighted(hues) {
-        let lab = linear_to_lab(c);
-        let llr = noise.luma_llr_of(lab.l);
-        return weigh(llr, noise.reliability_by(lab, palette, hues, sigmas));
-    }
-    noise.luma_llr_of(lightness(c))
+    let lab = lab_at(labs, j);
+    let llr = noise.luma_llr_of(lab.l);
+    luma[from + j] = weigh(llr, weights[j]);
 }
 
-fn put_colour(l: &mut [f32], i: usize, c: Linear)
-    requires { ⌜ 3 * i + 2 < length (now l) ⌝ }
-    ensures { λ _. ⌜ now (l .exit) ≡ spec.putColour (now (l .entry)) i c ⌝ }
+// Those of n modules, of the samples from the first on.
+fn put_lumas(
+    noise: ChannelStats,
+    labs: &[f32],
+    weights: &[f32],
+    from: usize,
+    n: usize,
+    luma: &mut [f32],
+)
+    requires { ⌜ (3 * n ≤ length (now labs)) × (n ≤ length (now weights)) × (from + n ≤ length (now luma)) ⌝ }
+    ensures { λ _. ⌜ now (luma .exit) ≡ spec.putLumas noise (now (labs .entry)) (now (weights .entry)) from n (now (luma .entry)) ⌝ }
 {
-    l[3 * i] = c.r;
-    l[3 * i + 1] = c.g;
-    l[3 * i + 2] = c.b;
-}
-
-// Writes the corrected colour of every module. (All colours first and the scores after take less time than both in one loop.)
-fn write_colours(model: IlluminationModel, xs: &[i32], ys: &[i32], raw: &[f32], colours: &mut [f32])
-    requires { ⌜ (length (now xs) ≡ length (now ys)) × Exact (now xs) (length (now xs)) × Exact (now ys) (length (now xs)) × (3 * length (now xs) ≤ length (now raw)) × (3 * length (now xs) ≤ length (now colours)) ⌝ }
-    ensures { λ _. ⌜ now (colours .exit) ≡ spec.writeColours (spec.moduleColour model (now (xs .entry)) (now (ys .entry)) (now (raw .entry))) (length (now (xs .entry))) (now (colours .entry)) ⌝ }
-{
-    for i in 0..xs.len() {
-        let s = module_spot(xs, ys, raw, i);
-        let d = illum::unshade(model, s.x, s.y, s.colour);
-        let m = illum::mix(model, d);
-        put_colour(colours, i, m.colour);
+    for j in 0..n {
+        put_luma(noise, labs, weights, from, j, luma);
     }
 }
 
-// Writes the luma score of module i, whose corrected colour is entry i of `colours`.
-fn write_luma(
+// The luma scores of a block of modules.
+fn luma_block(
     noise: ChannelStats,
     palette: &[f32],
     hues: usize,
     sigmas: &[f32],
     colours: &[f32],
-    i: usize,
+    from: usize,
+    n: usize,
     luma: &mut [f32],
 )
-    requires { ⌜ (paletteLen hues ≤ length (now palette)) × Sigmas noise (now palette) hues (now sigmas) × (3 * i + 2 < length (now colours)) × (i < length (now luma)) ⌝ }
-    ensures { λ _. ⌜ now (luma .exit) ≡ spec.lumaAt noise (now (palette .entry)) hues (linearAt (now (colours .entry))) i (now (luma .entry)) ⌝ }
+    requires { ⌜ (weighted hues ≡ true) × (paletteLen hues ≤ length (now palette)) × Sigmas noise (now palette) hues (now sigmas) × (n ≤ 16) × (3 * (from + n) ≤ length (now colours)) × (from + n ≤ length (now luma)) ⌝ }
+    ensures { λ _. ⌜ now (luma .exit) ≡ spec.lumaBlock noise (now (palette .entry)) hues (linearAt (now (colours .entry))) from n (now (luma .entry)) ⌝ }
 {
-    luma[i] = luma_score(noise, palette, hues, sigmas, linear_at(colours, i));
+    let mut labs = [0.0f32; 48];
+    let mut weights = [0.0f32; 16];
+    write_samples(
+        noise,
+        palette,
+        hues,
+        sigmas,
+        colours,
+        from,
+        n,
+        &mut labs,
+        &mut weights,
+    );
+    put_lumas(noise, &labs, &weights, from, n, luma);
 }
 
-// Writes those of the first n modules.
+// Writes the luma scores of the first n modules, each weighted by the reliability of its colour.
+fn weighted_lumas(
+    noise: ChannelStats,
+    palette: &[f32],
+    hues: usize,
+    sigmas: &[f32],
+    colours: &[f32],
+    n: usize,
+    luma: &mut [f32],
+)
+    requires { ⌜ (weighted hues ≡ true) × (paletteLen hues ≤ length (now palette)) × Sigmas noise (now palette) hues (now sigmas) × (3 * n ≤ length (now colours)) × (n ≤ length (now luma)) ⌝ }
+    ensures { λ _. ⌜ now (luma .exit) ≡ spec.writeLumas noise (now (palette .entry)) hues (linearAt (now (colours .entry))) n (now (luma .entry)) ⌝ }
+{
+    let mut from = 0;
+    while from < n {
+        let k = block_size(from, n);
+        luma_block(noise, palette, hues, sigmas, colours, from, k, luma);
+        from = from + k;
+    }
+}
+
+// Writes the luma scores of the first n modules.
 fn write_lumas(
     noise: ChannelStats,
     palette: &[f32],
@@ -193,8 +274,10 @@ fn write_lumas(
     requires { ⌜ (paletteLen hues ≤ length (now palette)) × Sigmas noise (now palette) hues (now sigmas) × (3 * n ≤ length (now colours)) × (n ≤ length (now luma)) ⌝ }
     ensures { λ _. ⌜ now (luma .exit) ≡ spec.writeLumas noise (now (palette .entry)) hues (linearAt (now (colours .entry))) n (now (luma .entry)) ⌝ }
 {
-    for i in 0..n {
-        write_luma(noise, palette, hues, sigmas, colours, i, luma);
+    if limits::weighted(hues) {
+        weighted_lumas(noise, palette, hues, sigmas, colours, n, luma);
+    } else {
+        plain_lumas(noise, colours, n, luma);
     }
 }
 
@@ -243,118 +326,142 @@ fn put_scores(bits: &[f32], weight: f32, n: usize, at: usize, chroma: &mut [f32]
     }
 }
 
-// Core: the scores of entry e of the chroma list, for corrected colour k of a list, the palette's chroma noises being given. (Handed
-// over by value, the colour takes more time.)
-pub fn write_entry(
+// Writes the scores of entry e of the chroma list, of sample j.
+fn write_entry(
     noise: ChannelStats,
     palette: &[f32],
     hues: usize,
-    sigmas: &[f32],
     cell: Cell,
-    colours: &[f32],
-    k: usize,
+    labs: &[f32],
+    weights: &[f32],
+    j: usize,
     e: usize,
     chroma: &mut [f32],
 )
-    requires { ⌜ (badHues hues ≡ false) × (paletteLen hues ≤ length (now palette)) × Sigmas noise (now palette) hues (now sigmas) × (3 * k + 2 < length (now colours)) × (e * symbolBits hues + symbolBits hues ≤ length (now chroma)) ⌝ }
-    ensures { λ _. ⌜ now (chroma .exit) ≡ spec.writeEntry noise (now (palette .entry)) hues cell (linearAt (now (colours .entry)) k) e (now (chroma .entry)) ⌝ }
+    requires { ⌜ (badHues hues ≡ false) × (paletteLen hues ≤ length (now palette)) × (3 * j + 2 < length (now labs)) × (j < length (now weights)) × (e * symbolBits hues + symbolBits hues ≤ length (now chroma)) ⌝ }
+    ensures { λ _. ⌜ now (chroma .exit) ≡ spec.writeSample noise (now (palette .entry)) hues cell (labAt (now (labs .entry)) j) (numberAt (now (weights .entry)) j) e (now (chroma .entry)) ⌝ }
 {
-    let lab = linear_to_lab(linear_at(colours, k));
+    let lab = lab_at(labs, j);
     let mut ll = [0.0f32; 16];
     noise.hue_log_likelihoods_of(lab, palette, hues, &mut ll);
     let mut bits = [0.0f32; 4];
     modulate::bit_llrs(&ll, cell, hues, &mut bits);
-    let weight = noise.reliability_by(lab, palette, hues, sigmas);
     let n = limits::symbol_bits(hues);
-    put_scores(&bits, weight, n, e * n, chroma);
+    put_scores(&bits, weights[j], n, e * n, chroma);
 }
 
-// Writes for cell i, whose corrected colour is colour k of a list.
-fn write_cell(
+// Where entry e is drawn: on cell e, or past the cells on a ring module, on which no mask lies.
+fn drawn_at(cxs: &[u16], cys: &[u16], e: usize) -> Cell
+    requires { ⌜ length (now cxs) ≡ length (now cys) ⌝ }
+    ensures { λ r. ⌜ r ≡ spec.drawnAt (now (cxs .entry)) (now (cys .entry)) e ⌝ }
+{
+    if e < cxs.len() {
+        return Cell::At(cxs[e], cys[e]);
+    }
+    Cell::Unmasked
+}
+
+// Writes the scores of entry first + j, of sample j.
+fn put_entry(
+    noise: ChannelStats,
+    palette: &[f32],
+    hues: usize,
+    cxs: &[u16],
+    cys: &[u16],
+    labs: &[f32],
+    weights: &[f32],
+    first: usize,
+    j: usize,
+    chroma: &mut [f32],
+)
+    requires { ⌜ (badHues hues ≡ false) × (paletteLen hues ≤ length (now palette)) × (length (now cxs) ≡ length (now cys)) × (3 * j + 2 < length (now labs)) × (j < length (now weights)) × (first + j ≤ 2097152) × ((first + j) * symbolBits hues + symbolBits hues ≤ length (now chroma)) ⌝ }
+    ensures { λ _. ⌜ now (chroma .exit) ≡ spec.putEntry noise (now (palette .entry)) hues (now (cxs .entry)) (now (cys .entry)) (now (labs .entry)) (now (weights .entry)) first j (now (chroma .entry)) ⌝ }
+{
+    let e = first + j;
+    let cell = drawn_at(cxs, cys, e);
+    write_entry(noise, palette, hues, cell, labs, weights, j, e, chroma);
+}
+
+// Those of n entries, of the samples from the first on.
+fn put_entries(
+    noise: ChannelStats,
+    palette: &[f32],
+    hues: usize,
+    cxs: &[u16],
+    cys: &[u16],
+    labs: &[f32],
+    weights: &[f32],
+    first: usize,
+    n: usize,
+    chroma: &mut [f32],
+)
+    requires { ⌜ (badHues hues ≡ false) × (paletteLen hues ≤ length (now palette)) × (length (now cxs) ≡ length (now cys)) × (3 * n ≤ length (now labs)) × (n ≤ length (now weights)) × (first + n ≤ 2097152) × ((first + n) * symbolBits hues ≤ length (now chroma)) ⌝ }
+    ensures { λ _. ⌜ now (chroma .exit) ≡ spec.putEntries noise (now (palette .entry)) hues (now (cxs .entry)) (now (cys .entry)) (now (labs .entry)) (now (weights .entry)) first n (now (chroma .entry)) ⌝ }
+{
+    for j in 0..n {
+        put_entry(
+            noise,
+            palette,
+            hues,
+            cxs,
+            cys,
+            labs,
+            weights,
+            first,
+            j,
+            chroma,
+        );
+    }
+}
+
+// The chroma scores of a block of cells.
+fn cell_block(
     noise: ChannelStats,
     palette: &[f32],
     hues: usize,
     sigmas: &[f32],
-    cxs: &[u16],
-    cys: &[u16],
-    colours: &[f32],
-    k: usize,
-    i: usize,
-    chroma: &mut [f32],
-)
-    requires { ⌜ (badHues hues ≡ false) × (paletteLen hues ≤ length (now palette)) × Sigmas noise (now palette) hues (now sigmas) × (3 * k + 2 < length (now colours)) × (i < length (now cxs)) × (i < length (now cys)) × (i * symbolBits hues + symbolBits hues ≤ length (now chroma)) ⌝ }
-    ensures { λ _. ⌜ now (chroma .exit) ≡ spec.writeCell noise (now (palette .entry)) hues (now (cxs .entry)) (now (cys .entry)) (spec.only (linearAt (now (colours .entry)) k)) i (now (chroma .entry)) ⌝ }
-{
-    let cell = Cell::At(cxs[i], cys[i]);
-    write_entry(noise, palette, hues, sigmas, cell, colours, k, i, chroma);
-}
-
-// Corrects the colours of the cells from `from` on and below `to` into `room`, three numbers each.
-fn correct_cells(
     model: IlluminationModel,
     size: usize,
     cxs: &[u16],
     cys: &[u16],
     raw: &[f32],
     from: usize,
-    to: usize,
-    room: &mut [f32],
-)
-    requires { ⌜ (size ≤ 16) × (from ≤ to) × (to ≤ length (now cxs)) × (to ≤ length (now cys)) × (3 * to ≤ length (now raw)) × (3 * (to - from) ≤ length (now room)) ⌝ }
-    ensures { λ _. ⌜ Block (spec.cellColour model size (now (cxs .entry)) (now (cys .entry)) (now (raw .entry))) from to (now (room .exit)) ⌝ }
-{
-    for i in from..to {
-        let s = cell_spot(size, cxs, cys, raw, i);
-        let d = illum::unshade(model, s.x, s.y, s.colour);
-        let m = illum::mix(model, d);
-        put_colour(room, i - from, m.colour);
-    }
-}
-
-// Writes for the cells from `from` on and below `to`, whose corrected colours stand in `room`.
-fn write_block(
-    noise: ChannelStats,
-    palette: &[f32],
-    hues: usize,
-    sigmas: &[f32],
-    cxs: &[u16],
-    cys: &[u16],
-    from: usize,
-    to: usize,
-    room: &[f32],
+    n: usize,
     chroma: &mut [f32],
 )
-    requires { ⌜ (badHues hues ≡ false) × (paletteLen hues ≤ length (now palette)) × Sigmas noise (now palette) hues (now sigmas) × (from ≤ to) × (to ≤ length (now cxs)) × (to ≤ length (now cys)) × (3 * (to - from) ≤ length (now room)) × (to * symbolBits hues ≤ length (now chroma)) ⌝ }
-    ensures { λ _. ⌜ now (chroma .exit) ≡ spec.writeBlock noise (now (palette .entry)) hues (now (cxs .entry)) (now (cys .entry)) (spec.blockColour (now (room .entry)) from) from to (now (chroma .entry)) ⌝ }
+    requires { ⌜ (badHues hues ≡ false) × (paletteLen hues ≤ length (now palette)) × Sigmas noise (now palette) hues (now sigmas) × (size ≤ 16) × (length (now cxs) ≡ length (now cys)) × (length (now cxs) ≤ 1048576) × (n ≤ 16) × (from + n ≤ length (now cxs)) × (3 * (from + n) ≤ length (now raw)) × ((from + n) * symbolBits hues ≤ length (now chroma)) ⌝ }
+    ensures { λ _. ⌜ now (chroma .exit) ≡ spec.cellBlock noise (now (palette .entry)) hues (now (cxs .entry)) (now (cys .entry)) (spec.cellColour model size (now (cxs .entry)) (now (cys .entry)) (now (raw .entry))) from n (now (chroma .entry)) ⌝ }
 {
-    for i in from..to {
-        write_cell(
-            noise,
-            palette,
-            hues,
-            sigmas,
-            cxs,
-            cys,
-            room,
-            i - from,
-            i,
-            chroma,
-        );
-    }
+    let mut room = [0.0f32; 48];
+    correct_cells(model, size, cxs, cys, raw, from, n, &mut room);
+    let mut labs = [0.0f32; 48];
+    let mut weights = [0.0f32; 16];
+    write_samples(
+        noise,
+        palette,
+        hues,
+        sigmas,
+        &room,
+        0,
+        n,
+        &mut labs,
+        &mut weights,
+    );
+    put_entries(
+        noise,
+        palette,
+        hues,
+        cxs,
+        cys,
+        &labs,
+        &weights,
+        from,
+        n,
+        chroma,
+    );
 }
 
-// Where the block of at most 16 cells that starts at `from` ends, of n cells.
-fn block_end(from: usize, n: usize) -> usize
-    requires { ⌜ from < n ⌝ }
-    ensures { λ r. ⌜ (from < r) × (r ≤ n) × (r ≤ from + 16) ⌝ }
-{
-    if n - from < 16 {
-        return n;
-    }
-    from + 16
-}
-
-// The cells by blocks of 16, each block corrected and then scored, which takes less time than one loop that does both.
+// The chroma scores of all cells.
 fn write_cells(
     noise: ChannelStats,
     palette: &[f32],
@@ -367,95 +474,108 @@ fn write_cells(
     raw: &[f32],
     chroma: &mut [f32],
 )
-    requires { ⌜ (badHues hues ≡ false) × (paletteLen hues ≤ length (now palette)) × Sigmas noise (now palette) hues (now sigmas) × (size ≤ 16) × (length (now cxs) ≡ length (now cys)) × (3 * length (now cxs) ≤ length (now raw)) × (length (now cxs) * symbolBits hues ≤ length (now chroma)) ⌝ }
+    requires { ⌜ (badHues hues ≡ false) × (paletteLen hues ≤ length (now palette)) × Sigmas noise (now palette) hues (now sigmas) × (size ≤ 16) × (length (now cxs) ≡ length (now cys)) × (length (now cxs) ≤ 1048576) × (3 * length (now cxs) ≤ length (now raw)) × (length (now cxs) * symbolBits hues ≤ length (now chroma)) ⌝ }
     ensures { λ _. ⌜ now (chroma .exit) ≡ spec.writeCells noise (now (palette .entry)) hues (now (cxs .entry)) (now (cys .entry)) (spec.cellColour model size (now (cxs .entry)) (now (cys .entry)) (now (raw .entry))) (length (now (cxs .entry))) (now (chroma .entry)) ⌝ }
 {
-    let mut room = [0.0f32; 48];
     let mut from = 0;
     while from < cxs.len() {
-        let to = block_end(from, cxs.len());
-        correct_cells(model, size, cxs, cys, raw, from, to, &mut room);
-        write_block(
+        let n = block_size(from, cxs.len());
+        cell_block(
+            noise,
+            palette,
+            hues,
+            sigmas,
+            model,
+            size,
+            cxs,
+            cys,
+            raw,
+            from,
+            n,
+            chroma,
+        );
+        from = from + n;
+    }
+}
+
+// The chroma scores of a block of ring modules, whose corrected colours stand in `colours`.
+fn ring_block(
+    noise: ChannelStats,
+    palette: &[f32],
+    hues: usize,
+    sigmas: &[f32],
+    cxs: &[u16],
+    cys: &[u16],
+    colours: &[f32],
+    grid: usize,
+    from: usize,
+    n: usize,
+    chroma: &mut [f32],
+)
+    requires { ⌜ (badHues hues ≡ false) × (paletteLen hues ≤ length (now palette)) × Sigmas noise (now palette) hues (now sigmas) × (length (now cxs) ≡ length (now cys)) × (length (now cxs) ≤ 1048576) × (n ≤ 16) × (grid ≤ from) × (from + n ≤ 1048576) × (3 * (from + n) ≤ length (now colours)) × ((length (now cxs) + (from + n - grid)) * symbolBits hues ≤ length (now chroma)) ⌝ }
+    ensures { λ _. ⌜ now (chroma .exit) ≡ spec.ringBlock noise (now (palette .entry)) hues (length (now (cxs .entry))) grid (linearAt (now (colours .entry))) from n (now (chroma .entry)) ⌝ }
+{
+    let mut labs = [0.0f32; 48];
+    let mut weights = [0.0f32; 16];
+    write_samples(
+        noise,
+        palette,
+        hues,
+        sigmas,
+        colours,
+        from,
+        n,
+        &mut labs,
+        &mut weights,
+    );
+    let first = cxs.len() + (from - grid);
+    put_entries(
+        noise,
+        palette,
+        hues,
+        cxs,
+        cys,
+        &labs,
+        &weights,
+        first,
+        n,
+        chroma,
+    );
+}
+
+// The chroma scores of the ring modules, those from module `grid` on, of m modules.
+fn write_rings(
+    noise: ChannelStats,
+    palette: &[f32],
+    hues: usize,
+    sigmas: &[f32],
+    cxs: &[u16],
+    cys: &[u16],
+    colours: &[f32],
+    grid: usize,
+    m: usize,
+    chroma: &mut [f32],
+)
+    requires { ⌜ (badHues hues ≡ false) × (paletteLen hues ≤ length (now palette)) × Sigmas noise (now palette) hues (now sigmas) × (length (now cxs) ≡ length (now cys)) × (length (now cxs) ≤ 1048576) × (grid ≤ m) × (m ≤ 1048576) × (3 * m ≤ length (now colours)) × ((length (now cxs) + (m - grid)) * symbolBits hues ≤ length (now chroma)) ⌝ }
+    ensures { λ _. ⌜ now (chroma .exit) ≡ spec.writeRings noise (now (palette .entry)) hues (length (now (cxs .entry))) grid (linearAt (now (colours .entry))) m (now (chroma .entry)) ⌝ }
+{
+    let mut from = grid;
+    while from < m {
+        let n = block_size(from, m);
+        ring_block(
             noise,
             palette,
             hues,
             sigmas,
             cxs,
             cys,
-            from,
-            to,
-            &room,
-            chroma,
-        );
-        from = to;
-    }
-}
-
-fn write_ring(
-    noise: ChannelStats,
-    palette: &[f32],
-    hues: usize,
-    sigmas: &[f32],
-    model: IlluminationModel,
-    xs: &[i32],
-    ys: &[i32],
-    raw: &[f32],
-    cells: usize,
-    grid: usize,
-    i: usize,
-    chroma: &mut [f32],
-)
-    requires { ⌜ (badHues hues ≡ false) × (paletteLen hues ≤ length (now palette)) × Sigmas noise (now palette) hues (now sigmas) × (grid ≤ i) × (cells ≤ 1048576) × (i < length (now xs)) × (i < length (now ys)) × T (inFloat binary32 (getD (now xs) i (pos 0))) × T (inFloat binary32 (getD (now ys) i (pos 0))) × (3 * i + 2 < length (now raw)) × ((cells + (i - grid)) * symbolBits hues + symbolBits hues ≤ length (now chroma)) ⌝ }
-    ensures { λ _. ⌜ now (chroma .exit) ≡ spec.writeRing noise (now (palette .entry)) hues cells grid (spec.moduleColour model (now (xs .entry)) (now (ys .entry)) (now (raw .entry))) i (now (chroma .entry)) ⌝ }
-{
-    let c = module_colour(model, xs, ys, raw, i);
-    let mut one = [0.0f32; 3];
-    put_colour(&mut one, 0, c);
-    let e = cells + (i - grid);
-    write_entry(
-        noise,
-        palette,
-        hues,
-        sigmas,
-        Cell::Unmasked,
-        &one,
-        0,
-        e,
-        chroma,
-    );
-}
-
-fn write_rings(
-    noise: ChannelStats,
-    palette: &[f32],
-    hues: usize,
-    sigmas: &[f32],
-    model: IlluminationModel,
-    xs: &[i32],
-    ys: &[i32],
-    raw: &[f32],
-    cells: usize,
-    grid: usize,
-    chroma: &mut [f32],
-)
-    requires { ⌜ (badHues hues ≡ false) × (paletteLen hues ≤ length (now palette)) × Sigmas noise (now palette) hues (now sigmas) × (cells ≤ 1048576) × (grid ≤ length (now xs)) × (length (now xs) ≡ length (now ys)) × Exact (now xs) (length (now xs)) × Exact (now ys) (length (now xs)) × (3 * length (now xs) ≤ length (now raw)) × ((cells + (length (now xs) - grid)) * symbolBits hues ≤ length (now chroma)) ⌝ }
-    ensures { λ _. ⌜ now (chroma .exit) ≡ spec.writeRings noise (now (palette .entry)) hues cells grid (spec.moduleColour model (now (xs .entry)) (now (ys .entry)) (now (raw .entry))) (length (now (xs .entry))) (now (chroma .entry)) ⌝ }
-{
-    for i in grid..xs.len() {
-        write_ring(
-            noise,
-            palette,
-            hues,
-            sigmas,
-            model,
-            xs,
-            ys,
-            raw,
-            cells,
+            colours,
             grid,
-            i,
+            from,
+            n,
             chroma,
         );
+        from = from + n;
     }
 }
 
@@ -465,17 +585,16 @@ fn ring_chroma(
     palette: &[f32],
     hues: usize,
     sigmas: &[f32],
-    model: IlluminationModel,
     size: usize,
-    xs: &[i32],
-    ys: &[i32],
-    raw: &[f32],
-    cells: usize,
+    cxs: &[u16],
+    cys: &[u16],
+    colours: &[f32],
     grid: usize,
+    m: usize,
     chroma: &mut [f32],
 )
-    requires { ⌜ (badHues hues ≡ false) × (paletteLen hues ≤ length (now palette)) × Sigmas noise (now palette) hues (now sigmas) × (cells ≤ 1048576) × (grid ≤ length (now xs)) × (length (now xs) ≡ length (now ys)) × Exact (now xs) (length (now xs)) × Exact (now ys) (length (now xs)) × (3 * length (now xs) ≤ length (now raw)) × (chromaLength hues cells (ringModules (length (now xs)) grid) size ≤ length (now chroma)) ⌝ }
-    ensures { λ _. ⌜ now (chroma .exit) ≡ spec.ringChroma noise (now (palette .entry)) hues size cells grid (spec.moduleColour model (now (xs .entry)) (now (ys .entry)) (now (raw .entry))) (length (now (xs .entry))) (now (chroma .entry)) ⌝ }
+    requires { ⌜ (badHues hues ≡ false) × (paletteLen hues ≤ length (now palette)) × Sigmas noise (now palette) hues (now sigmas) × (length (now cxs) ≡ length (now cys)) × (length (now cxs) ≤ 1048576) × (grid ≤ m) × (m ≤ 1048576) × (3 * m ≤ length (now colours)) × (chromaLength hues (length (now cxs)) (ringModules m grid) size ≤ length (now chroma)) ⌝ }
+    ensures { λ _. ⌜ now (chroma .exit) ≡ spec.ringChroma noise (now (palette .entry)) hues size (length (now (cxs .entry))) grid (linearAt (now (colours .entry))) m (now (chroma .entry)) ⌝ }
 {
     if size == 1 {
         write_rings(
@@ -483,18 +602,17 @@ fn ring_chroma(
             palette,
             hues,
             sigmas,
-            model,
-            xs,
-            ys,
-            raw,
-            cells,
+            cxs,
+            cys,
+            colours,
             grid,
+            m,
             chroma,
         );
     }
 }
 
-// The chroma scores: with chroma on those of the cells, then those of the ring modules.
+// The chroma scores: with chroma on those of the cells, then those of the ring modules. The corrected colours of the m modules stand in `colours`.
 fn write_chroma(
     noise: ChannelStats,
     palette: &[f32],
@@ -502,17 +620,16 @@ fn write_chroma(
     sigmas: &[f32],
     model: IlluminationModel,
     size: usize,
-    xs: &[i32],
-    ys: &[i32],
+    colours: &[f32],
     grid: usize,
-    raw: &[f32],
+    m: usize,
     cxs: &[u16],
     cys: &[u16],
     craw: &[f32],
     chroma: &mut [f32],
 )
-    requires { ⌜ (badHues hues ≡ false) × (paletteLen hues ≤ length (now palette)) × Sigmas noise (now palette) hues (now sigmas) × (size ≤ 16) × (grid ≤ length (now xs)) × (length (now xs) ≡ length (now ys)) × Exact (now xs) (length (now xs)) × Exact (now ys) (length (now xs)) × (3 * length (now xs) ≤ length (now raw)) × (length (now cxs) ≡ length (now cys)) × (length (now cxs) ≤ 1048576) × (3 * length (now cxs) ≤ length (now craw)) × (chromaLength hues (length (now cxs)) (ringModules (length (now xs)) grid) size ≤ length (now chroma)) ⌝ }
-    ensures { λ _. ⌜ now (chroma .exit) ≡ spec.chromaWritten noise (now (palette .entry)) hues size grid (spec.moduleColour model (now (xs .entry)) (now (ys .entry)) (now (raw .entry))) (length (now (xs .entry))) (now (cxs .entry)) (now (cys .entry)) (spec.cellColour model size (now (cxs .entry)) (now (cys .entry)) (now (craw .entry))) (now (chroma .entry)) ⌝ }
+    requires { ⌜ (badHues hues ≡ false) × (paletteLen hues ≤ length (now palette)) × Sigmas noise (now palette) hues (now sigmas) × (size ≤ 16) × (grid ≤ m) × (m ≤ 1048576) × (3 * m ≤ length (now colours)) × (length (now cxs) ≡ length (now cys)) × (length (now cxs) ≤ 1048576) × (3 * length (now cxs) ≤ length (now craw)) × (chromaLength hues (length (now cxs)) (ringModules m grid) size ≤ length (now chroma)) ⌝ }
+    ensures { λ _. ⌜ now (chroma .exit) ≡ spec.chromaWritten noise (now (palette .entry)) hues size grid (linearAt (now (colours .entry))) m (now (cxs .entry)) (now (cys .entry)) (spec.cellColour model size (now (cxs .entry)) (now (cys .entry)) (now (craw .entry))) (now (chroma .entry)) ⌝ }
 {
     if limits::chroma_on(hues) {
         write_cells(
@@ -532,13 +649,12 @@ fn write_chroma(
             palette,
             hues,
             sigmas,
-            model,
             size,
-            xs,
-            ys,
-            raw,
-            cxs.len(),
+            cxs,
+            cys,
+            colours,
             grid,
+            m,
             chroma,
         );
     }
@@ -852,10 +968,9 @@ pub fn score(
         &sigmas,
         model,
         size,
-        xs,
-        ys,
+        colours,
         grid,
-        raw,
+        xs.len(),
         cxs,
         cys,
         craw,

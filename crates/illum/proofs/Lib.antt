@@ -5,6 +5,7 @@ pub mod Inverses
 pub mod Lent
 pub mod Moderate
 pub mod Passes
+pub mod Rounded
 pub mod Shown
 pub mod Side
 pub mod Terms

@@ -9,18 +9,22 @@ use Rattle.float.specs.Single.{toSingle}
 use Rattle.color.specs.declared.Linear.{Linear}
 use Rattle.illum.specs.declared.Unshaded.{Unshaded}
 use Rattle.illum.specs.declared.Marked.{Marked}
+use Rattle.illum.specs.declared.Unrounded.{Unrounded}
 use Rattle.illum.specs.declared.IlluminationModel.{IlluminationModel}
 use Rattle.illum.specs.Surface.{zero64, one64, basisAt, deshade}
 
 -- ---- correct
 
--- one row of the affine part: a0 * r + a1 * g + a2 * b + a3, rounded to an f32
-unfoldable pub affineRow : List Float → Float → Float → Float → Float
-affineRow a r g b =
-    toSingle
-    (add binary64
+-- one row of the affine part: a0 * r + a1 * g + a2 * b + a3
+abbrev pub row : List Float → Float → Float → Float → Float
+row a r g b =
+    add binary64
     (add binary64 (add binary64 (mul binary64 (getD a 0 nan) r) (mul binary64 (getD a 1 nan) g)) (mul binary64 (getD a 2 nan) b))
-    (getD a 3 nan))
+    (getD a 3 nan)
+
+-- rounded to an f32
+unfoldable pub affineRow : List Float → Float → Float → Float → Float
+affineRow a r g b = toSingle (row a r g b)
 
 -- the three channels' inverses at a position, of a side and six surfaces with so many terms: gains, then flares
 abbrev pub inverses : ℕ → Float → List Float → List Float → List Float → List Float → List Float → List Float → Float → Float → Linear → Unshaded
@@ -46,6 +50,19 @@ mixedBy row-r row-g row-b d =
       g = affineRow row-g (d .r .value) (d .g .value) (d .b .value);
       b = affineRow row-b (d .r .value) (d .g .value) (d .b .value);
     }
+
+-- the affine part over them, before it is rounded
+unfoldable pub rows : IlluminationModel → Unshaded → Unrounded
+rows m d =
+    record {
+      r = row (m .«affine_r») (d .r .value) (d .g .value) (d .b .value);
+      g = row (m .«affine_g») (d .r .value) (d .g .value) (d .b .value);
+      b = row (m .«affine_b») (d .r .value) (d .g .value) (d .b .value);
+    }
+
+-- a colour of three rows, rounded
+abbrev pub rounded : Unrounded → Linear
+rounded v = record { r = toSingle (v .r); g = toSingle (v .g); b = toSingle (v .b) }
 
 -- the affine part over them, with the mark of each
 unfoldable pub mixed : IlluminationModel → Unshaded → Marked

@@ -8,6 +8,7 @@ ghost use mathlib.Core.Bool.{not, _||_};
 ghost use Prim.Native.Nat.{_≤_};
 ghost use lib.Ieee.Scale.{finite};
 ghost use lib.ListN.{length};
+ghost use Rattle.float.specs.Single.{toSingle};
 ghost use Rattle.color.specs.Palette.{wild, wildLinear};
 ghost use Rattle.illum.specs.Surface.{termsUsed, basisAt, summed, isHeld, holdGain, inverted, deshade, normalised};
 ghost use Rattle.illum.specs.Correct as spec;
@@ -60,6 +61,13 @@ pub struct Unshaded {
     pub r: Inverse,
     pub g: Inverse,
     pub b: Inverse,
+}
+
+// Core: the affine part over the three channels' inverses, a row a channel, before it is rounded to f32.
+pub struct Unrounded {
+    pub r: f64,
+    pub g: f64,
+    pub b: f64,
 }
 
 // A corrected colour, and the channels whose gain was held.
@@ -185,11 +193,11 @@ fn invert_9(gain: [f64; 9], flare: [f64; 9], b: [f64; 9], observed: f32) -> Inve
 
 // ---- correct
 
-// One row of the affine part, rounded to an f32.
-fn affine_row(a: [f64; 4], r: f64, g: f64, b: f64) -> f32
-    ensures { λ v. ⌜ v ≡ spec.affineRow a r g b ⌝ }
+// One row of the affine part.
+fn row(a: [f64; 4], r: f64, g: f64, b: f64) -> f64
+    ensures { λ v. ⌜ v ≡ spec.row a r g b ⌝ }
 {
-    float::narrow(a[0] * r + a[1] * g + a[2] * b + a[3])
+    a[0] * r + a[1] * g + a[2] * b + a[3]
 }
 
 // The three channels' inverses of a model of 4 terms. (Written out, as is that of 9: no coefficient is copied.)
@@ -236,9 +244,10 @@ pub fn unshade(model: IlluminationModel, x: f32, y: f32, colour: Linear) -> Unsh
     unshade_9(model, x, y, colour)
 }
 
-// Core: the affine part over the three channels' inverses, with the mark of each.
-pub fn mix(model: IlluminationModel, d: Unshaded) -> Marked
-    ensures { λ v. ⌜ v ≡ spec.mixed model d ⌝ }
+// Core: the affine part over the three channels' inverses, not yet rounded. (A caller that stores the colour rounds each row itself: a
+// colour of three f32 is handed over through memory and read back in other widths, for which a processor waits.)
+pub fn rows(model: IlluminationModel, d: Unshaded) -> Unrounded
+    ensures { λ v. ⌜ v ≡ spec.rows model d ⌝ }
 {
     let r = d.r;
     let g = d.g;
@@ -246,11 +255,26 @@ pub fn mix(model: IlluminationModel, d: Unshaded) -> Marked
     let affine_r = model.affine_r;
     let affine_g = model.affine_g;
     let affine_b = model.affine_b;
+    Unrounded {
+        r: row(affine_r, r.value, g.value, b.value),
+        g: row(affine_g, r.value, g.value, b.value),
+        b: row(affine_b, r.value, g.value, b.value),
+    }
+}
+
+// Core: the affine part over the three channels' inverses, with the mark of each.
+pub fn mix(model: IlluminationModel, d: Unshaded) -> Marked
+    ensures { λ v. ⌜ v ≡ spec.mixed model d ⌝ }
+{
+    let v = rows(model, d);
     let colour = Linear {
-        r: affine_row(affine_r, r.value, g.value, b.value),
-        g: affine_row(affine_g, r.value, g.value, b.value),
-        b: affine_row(affine_b, r.value, g.value, b.value),
+        r: float::narrow(v.r),
+        g: float::narrow(v.g),
+        b: float::narrow(v.b),
     };
+    let r = d.r;
+    let g = d.g;
+    let b = d.b;
     Marked {
         colour,
         held_r: r.held,
@@ -259,12 +283,11 @@ pub fn mix(model: IlluminationModel, d: Unshaded) -> Marked
     }
 }
 
-// Whether a row of the affine part, rounded to an f32, is not finite or above 1,048,576 in magnitude. It is where the row itself
-// is above 1,048,576 and half a step of an f32 there.
-fn wild_row(a: [f64; 4], r: f64, g: f64, b: f64) -> bool
-    ensures { λ v. ⌜ v ≡ wild (spec.affineRow a r g b) ⌝ }
+// Whether a row, rounded to an f32, is not finite or above 1,048,576 in magnitude. It is where the row itself is above 1,048,576 and
+// half a step of an f32 there.
+fn wild_row(v: f64) -> bool
+    ensures { λ r. ⌜ r ≡ wild (toSingle v) ⌝ }
 {
-    let v = a[0] * r + a[1] * g + a[2] * b + a[3];
     if v <= 1048576.0625 {
         return !(-1048576.0625 <= v);
     }
@@ -275,19 +298,14 @@ fn wild_row(a: [f64; 4], r: f64, g: f64, b: f64) -> bool
 pub fn wild_mix(model: IlluminationModel, d: Unshaded) -> bool
     ensures { λ v. ⌜ v ≡ wildLinear (spec.mixed model d .colour) ⌝ }
 {
-    let r = d.r;
-    let g = d.g;
-    let b = d.b;
-    let affine_r = model.affine_r;
-    if wild_row(affine_r, r.value, g.value, b.value) {
+    let v = rows(model, d);
+    if wild_row(v.r) {
         return true;
     }
-    let affine_g = model.affine_g;
-    if wild_row(affine_g, r.value, g.value, b.value) {
+    if wild_row(v.g) {
         return true;
     }
-    let affine_b = model.affine_b;
-    wild_row(affine_b, r.value, g.value, b.value)
+    wild_row(v.b)
 }
 
 // Core: an observed colour at a position, corrected, with the marks of the channels whose gain was held. Takes every float.

@@ -6,7 +6,7 @@
 // `read_list` makes bits of scores.
 ghost use mathlib.Core.Path.{_≡_};
 ghost use mathlib.Core.Bool.{false, true};
-ghost use Prim.Native.Nat.{_+_, _*_, _≤_, _<_};
+ghost use Prim.Native.Nat.{_+_, _*_, _%_, _≤_, _<_};
 ghost use lib.IntN.{pos};
 ghost use lib.ListN.{length, getD};
 ghost use lib.Ieee.{inf, nan};
@@ -52,18 +52,38 @@ pub fn gray_inverse(g: usize) -> usize
     n
 }
 
+// The remainder by the hue count: by a constant, which takes no division, for the counts above 1 that cards have.
+fn remainder(n: usize, hues: usize) -> usize
+    requires { ⌜ 0 < hues ⌝ }
+    ensures { λ r. ⌜ r ≡ n % hues ⌝ }
+{
+    if hues == 2 {
+        return n % 2;
+    }
+    if hues == 4 {
+        return n % 4;
+    }
+    if hues == 8 {
+        return n % 8;
+    }
+    if hues == 16 {
+        return n % 16;
+    }
+    n % hues
+}
+
 fn symbol_hue(symbol: usize, hues: usize) -> usize
     requires { ⌜ 0 < hues ⌝ }
     ensures { λ r. ⌜ r ≡ gray_code.chromaSymbolToHue symbol hues ⌝ }
 {
-    gray_inverse(symbol % hues) % hues
+    remainder(gray_inverse(remainder(symbol, hues)), hues)
 }
 
 fn hue_symbol(hue: usize, hues: usize) -> usize
     requires { ⌜ 0 < hues ⌝ }
     ensures { λ r. ⌜ r ≡ gray_code.hueToChromaSymbol hue hues ⌝ }
 {
-    gray(hue % hues) % hues
+    remainder(gray(remainder(hue, hues)), hues)
 }
 
 // The hue state of a chroma symbol: neighbours on the colour wheel differ in one bit of the symbol.
@@ -123,21 +143,21 @@ fn rotation(cx: u16, cy: u16, hues: usize) -> usize
     requires { ⌜ 0 < hues ⌝ }
     ensures { λ r. ⌜ (r ≡ masks.chromaRotation cx cy hues) × (r < hues) ⌝ }
 {
-    (cx as usize + cy as usize) % hues
+    remainder(cx as usize + cy as usize, hues)
 }
 
 fn apply(hue: usize, cx: u16, cy: u16, hues: usize) -> usize
     requires { ⌜ (0 < hues) × (hues ≤ 16) ⌝ }
     ensures { λ r. ⌜ r ≡ masks.chromaMaskApply hue cx cy hues ⌝ }
 {
-    (hue % hues + rotation(cx, cy, hues)) % hues
+    remainder(remainder(hue, hues) + rotation(cx, cy, hues), hues)
 }
 
 fn remove(hue: usize, cx: u16, cy: u16, hues: usize) -> usize
     requires { ⌜ (0 < hues) × (hues ≤ 16) ⌝ }
     ensures { λ r. ⌜ r ≡ masks.chromaMaskRemove hue cx cy hues ⌝ }
 {
-    (hue % hues + hues - rotation(cx, cy, hues)) % hues
+    remainder(remainder(hue, hues) + hues - rotation(cx, cy, hues), hues)
 }
 
 // The number of the first sentence on a hue count and a cell that holds, or 0.

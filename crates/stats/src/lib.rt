@@ -165,8 +165,8 @@ impl ChannelStats {
         float::min(best, self.distance(sample, c, sigmas[i]))
     }
 
-    // `nearest`, the palette's chroma noises being given.
-    fn nearest_by(self, sample: Lab, palette: &[f32], hues: usize, sigmas: &[f32]) -> f32
+    // Core: the distance from the nearest palette colour, the palette's chroma noises being given.
+    pub fn nearest_by(self, sample: Lab, palette: &[f32], hues: usize, sigmas: &[f32]) -> f32
         requires { ⌜ (paletteLen hues ≤ length (now palette)) × spec.Sigmas self (now palette) hues (now sigmas) ⌝ }
         ensures { λ r. ⌜ r ≡ spec.nearest self sample (now (palette .entry)) hues ⌝ }
     {
@@ -175,14 +175,6 @@ impl ChannelStats {
             best = self.closer_by(sample, palette, hues, sigmas, i, best);
         }
         best
-    }
-
-    // Core: `reliability_of`, the palette's chroma noises being given.
-    pub fn reliability_by(self, sample: Lab, palette: &[f32], hues: usize, sigmas: &[f32]) -> f32
-        requires { ⌜ (paletteLen hues ≤ length (now palette)) × spec.Sigmas self (now palette) hues (now sigmas) ⌝ }
-        ensures { λ r. ⌜ r ≡ spec.reliability self sample (now (palette .entry)) hues ⌝ }
-    {
-        weight(self.nearest_by(sample, palette, hues, sigmas))
     }
 
     // Twice the squared chroma noise at the sample's lightness.
@@ -219,8 +211,8 @@ impl ChannelStats {
     }
 }
 
-// How much a squared distance d lets a sample be believed: flat out to about 3 sigmas, then falling.
-fn weight(d: f32) -> f32
+// Core: how much a squared distance d lets a sample be believed: flat out to about 3 sigmas, then falling.
+pub fn weight(d: f32) -> f32
     ensures { λ r. ⌜ r ≡ spec.weight d ⌝ }
 {
     let t = float::sqrt(d) / 3.0;

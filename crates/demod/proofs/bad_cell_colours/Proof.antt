@@ -29,9 +29,9 @@ loop-again c =
     let g = at .before .before .loop .inv in (
       g .0,
       ⊎-elim
-          (λ w. turn-any (g .1) (at .before .loop-test .taken) (cell-wild _ _ _ _ _ (w .2 .ensures) _ _ _ _ (at .cell-spot .ensures) (w .1 .ensures)) (w .3 .left))
+          (λ w. turn-any (g .1) (at .before .loop-test .taken) (cell-wild _ _ _ _ (w .1 .ensures) _ _ _ _ (at .cell-spot .ensures) _ (w .2 .ensures)) (w .3 .left))
           (λ w. turn-any (g .1) (at .before .loop-test .taken)
-          (cell-wild _ _ _ _ false (sym (in-reach _ _ _ _ _ _ (at .before .before .before .reach .ensures) (c .before .within .ensures) (w .left))) _ _ _ _ (at .cell-spot .ensures) refl)
+          (cell-wild _ _ _ _ refl _ _ _ _ (at .cell-spot .ensures) false (sym (in-reach _ _ _ _ _ _ (at .before .before .before .reach .ensures) (c .before .within .ensures) (w .left))))
           refl)
           (c .if1 .came),
     )

@@ -28,8 +28,7 @@ module _ (n : ChannelStats) (palette : List Float) (hues size cells grid : ℕ) 
   none d = rw (ne-eqb size 1 d)
 
 write-rings-requires : tie.Need-write-rings-requires
-write-rings-requires c κs =
-    (search needs, search needs, search needs, search needs, search needs, search needs, search needs, search needs, search needs, search (long))
+write-rings-requires c κs = (search needs, search needs, search needs, search needs, search needs, search needs, search needs, search needs, search (long))
 
 returns : tie.Need-returns
 returns c = search (rings)

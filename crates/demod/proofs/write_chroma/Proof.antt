@@ -39,11 +39,10 @@ module _ (n : ChannelStats) (palette : List Float) (hues size grid : ℕ) (modul
   off t = rw (← e, t)
 
 write-cells-requires : tie.Need-write-cells-requires
-write-cells-requires c κs = (search needs, search needs, search needs, search needs, search needs, search needs, search (cells-long))
+write-cells-requires c κs = (search needs, search needs, search needs, search needs, search needs, search needs, search needs, search (cells-long))
 
 ring-chroma-requires : tie.Need-ring-chroma-requires
-ring-chroma-requires c κs =
-    (search needs, search needs, search needs, search needs, search needs, search needs, search needs, search needs, search needs, search (still))
+ring-chroma-requires c κs = (search needs, search needs, search needs, search needs, search needs, search needs, search needs, search needs, search (still))
 
 returns : tie.Need-returns
 returns c = search (scored)

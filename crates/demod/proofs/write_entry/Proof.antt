@@ -1,4 +1,4 @@
--- `write_entry` meets its contract: likelihoods, bit scores and weight of one colour, put at its entry. Assumes nothing.
+-- `write_entry` meets its contract: likelihoods and bit scores of one sample, put at its entry. Assumes nothing.
 use mathlib.Core.Path.{_≡_}
 use borrow.Author.Needs.{needs}
 use Rattle.demod.proofs.Chroma.{few, short, room, bits-room, entry-in, entry}
@@ -19,10 +19,10 @@ bit-llrs-requires c κs = (search needs, search (room), search (short))
 small : (hues e k long : ℕ) → k ≡ symbolBits hues → e * symbolBits hues + symbolBits hues ≤ long → long < 2 ^ 64 → Fits w64 (e * k)
 small hues e k long h l f = record { fits = omega (arith, entry-in hues e k long h l) }
 
-mul-put-scores : tie.Need-mul-put-scores
-mul-put-scores c =
-    let start = c .before .before .before .before .before .before .before .before .before .before .before .before .before .before .before .before in
-    small _ _ _ _ (c .before .symbol-bits .ensures) (start .pre .4) (search (start .good .1 .1 .1 .1 .1 .1 .1 .1, needs))
+mul-put-scores-2 : tie.Need-mul-put-scores-2
+mul-put-scores-2 c =
+    let start = c .before .before .before .before .before .before .before .before .before .before .before .before .before .before .before in
+    small _ _ _ _ (c .before .before .symbol-bits .ensures) (start .pre .4) (search (start .good .1 .1 .1 .1 .1 .1 .1 .1, needs))
 
 put-scores-requires : tie.Need-put-scores-requires
 put-scores-requires c κs = (search (bits-room), search (entry-in))
@@ -33,6 +33,5 @@ returns c = search (entry)
 pub write-entry-spec : {M : Type 1} → statement M
 write-entry-spec =
     tie.close
-    (tie.spec (λ c κs. search needs) (λ c κs. search needs) (λ c. search needs) hue-log-likelihoods-of-requires (λ c. search needs)
-    (λ c. search needs) bit-llrs-requires (λ c κs. search needs) (λ c κs. search needs) (λ c. search needs) mul-put-scores put-scores-requires
-    (λ c. search needs) returns)
+    (tie.spec (λ c κs. search needs) (λ c. search needs) hue-log-likelihoods-of-requires (λ c. search needs) (λ c. search needs) bit-llrs-requires (λ c κs. search needs)
+    (λ c. search needs) (λ c. search needs) (λ c. search needs) mul-put-scores-2 put-scores-requires (λ c. search needs) returns)

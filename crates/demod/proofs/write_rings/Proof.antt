@@ -1,35 +1,39 @@
--- `write_rings` meets its contract: what is left from i on gives the same. Assumes nothing.
+-- `write_rings` meets its contract: what is left from the block's first module on gives the same, and a block makes the turns of its modules. Assumes nothing.
 use mathlib.Core.Path.{_≡_}
 use borrow.Author.Needs.{needs}
-use Prim.Native.Nat.{ℕ, _+_, _-_, _*_, _≤_, _<_}
+use Prim.Native.Nat.{ℕ, _+_, _-_, _*_, _≤_}
 use native.Mathlib.Omega.{arith}
 use lib.ListN.{length}
 use Rattle.loops.proofs.Laws.{Left, loops}
 use Rattle.limits.specs.Chroma.{symbolBits}
-use Rattle.demod.specs.Score.{moduleColour, writeRing, writeRings}
-use Rattle.demod.proofs.Places.{exact-at}
-use Rattle.demod.proofs.Chroma.{entry-of}
+use Rattle.color.specs.Palette.{linearAt}
+use Rattle.demod.specs.Score.{writeRing, writeRings}
+use Rattle.demod.proofs.Blocks.{block-to}
+use Rattle.demod.proofs.Chroma.{part-long}
 use Rattle.demod.proofs.write_rings.Statement.{statement}
 use Rattle.demod.proofs.write_rings.Tie as tie
 
 abbrev Inv : tie.InvT-loop
-Inv noise palette hues sigmas model xs ys raw cells grid chroma₀ i₀ n chroma i =
-    (n ≡ length xs) × (grid ≤ i) × (length chroma ≡ length chroma₀) ×
-    Left (writeRing noise palette hues cells grid (moduleColour model xs ys raw)) n i chroma (writeRings noise palette hues cells grid (moduleColour model xs ys raw) (length xs) chroma₀)
+Inv noise palette hues sigmas cxs cys colours grid m chroma₀ from₀ chroma from =
+    (grid ≤ from) × (length chroma ≡ length chroma₀) ×
+    Left (writeRing noise palette hues (length cxs) grid (linearAt colours)) m from chroma (writeRings noise palette hues (length cxs) grid (linearAt colours) m chroma₀)
 
 abbrev μ : tie.MeasureT-loop
-μ noise palette hues sigmas model xs ys raw cells grid chroma₀ i₀ n chroma i = n - i
+μ noise palette hues sigmas cxs cys colours grid m chroma₀ from₀ chroma from = m - from
 
--- n is the number of modules, and the list keeps its length
-ring-entry : (hues cells grid i n m long lent : ℕ) → grid ≤ i → i < n → n ≡ m → long ≡ lent → (cells + (m - grid)) * symbolBits hues ≤ lent → (cells + (i - grid)) * symbolBits hues + symbolBits hues ≤ long
-ring-entry hues cells grid i n m long lent g h e f l = entry-of hues (cells + (i - grid)) (cells + (m - grid)) long (omega arith) (rw f l)
+-- the entries of the ring modules below `to` have room among those of all
+ring-long : (hues cells grid to m long lent : ℕ) → to ≤ m → long ≡ lent → (cells + (m - grid)) * symbolBits hues ≤ lent → (cells + (to - grid)) * symbolBits hues ≤ long
+ring-long hues cells grid to m long lent h e l = part-long hues (cells + (to - grid)) (cells + (m - grid)) long lent (omega arith) e l
 
-write-ring-requires : tie.Need-write-ring-requires Inv μ
-write-ring-requires c κs =
-    (search needs, search needs, search needs, search needs, search needs, search needs, search needs, search (exact-at), search (exact-at), search needs, search (ring-entry))
+ring-block-requires : tie.Need-ring-block-requires Inv μ
+ring-block-requires c κs =
+    (search needs, search needs, search needs, search needs, search needs, search needs, search needs, search needs, search needs, search (ring-long, needs))
+
+loop-again : tie.Need-loop-again Inv μ
+loop-again c = (search needs, search needs, search (block-to, needs))
 
 pub write-rings-spec : {M : Type 1} → statement M
 write-rings-spec =
     tie.close
-    (tie.spec Inv μ (λ c. search (loops, needs)) write-ring-requires (λ c. search needs) (λ c. search needs) (λ c. search (loops, needs))
-    (λ c. search needs) (λ c. search (loops, needs)))
+    (tie.spec Inv μ (λ c. search (loops, needs)) (λ c κs. search needs) ring-block-requires (λ c. search needs) (λ c. search needs) loop-again (λ c. search needs)
+    (λ c. search (loops, needs)))

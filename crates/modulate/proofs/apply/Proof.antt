@@ -1,5 +1,5 @@
 -- `modulate::apply` meets its contract: the hue counts as its remainder, so nothing wraps. Assumes nothing.
-use mathlib.Core.Path.{_≡_, refl, sym, ap, _∙_}
+use mathlib.Core.Path.{_≡_, _∙_}
 use borrow.Author.Needs.{needs}
 use Prim.Native.Nat.{ℕ, _+_, _%_, _≤_, _<_}
 use native.Mathlib.Omega.{arith}
@@ -11,16 +11,16 @@ use Rattle.modulate.proofs.Rotations.{apply-remainder}
 use Rattle.modulate.proofs.apply.Statement.{statement}
 use Rattle.modulate.proofs.apply.Tie as tie
 
-module _ (h cx cy k r : ℕ) where
-  small : 0 < k → k ≤ 16 → r < k → Fits w64 (h % k + r)
-  small p m l = record { fits = omega (arith, mod-lt h p) }
+module _ (h k q r : ℕ) (e : q ≡ h % k) where
+  small : 0 < k → k ≤ 16 → r < k → Fits w64 (q + r)
+  small p m l = record { fits = omega (arith, e, mod-lt h p) }
 
-  steps : r ≡ chromaRotation cx cy k → 0 < k → (h % k + r) % k ≡ chromaMaskApply h cx cy k
+  steps : (cx cy out : ℕ) → r ≡ chromaRotation cx cy k → out ≡ (q + r) % k → 0 < k → out ≡ chromaMaskApply h cx cy k
   unfolding chromaMaskApply
-  steps e p = ap (λ (x : ℕ). (h % k + x) % k) e ∙ apply-remainder k p h cx cy
+  steps cx cy out f g p = g ∙ rw (e, f) (apply-remainder k p h cx cy)
 
-add-result : tie.Need-add-result
-add-result c = small _ 0 0 _ _ (search needs) (search needs) (search needs)
+add-remainder : tie.Need-add-remainder
+add-remainder c = search (small, needs)
 
 returns : tie.Need-returns
 returns c = search (steps, needs)
@@ -28,4 +28,4 @@ returns c = search (steps, needs)
 pub apply-spec : {M : Type 1} → statement M
 apply-spec =
     tie.close
-    (tie.spec (λ c. search needs) (λ c κs. search needs) add-result (λ c. search needs) returns)
+    (tie.spec (λ c κs. search needs) (λ c κs. search needs) add-remainder (λ c κs. search needs) returns)

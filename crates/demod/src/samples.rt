@@ -1,0 +1,106 @@
+// Samples: the Lab of a corrected colour and the weight by which its scores count, of at most 16 colours at a time. Labs, distances and weights are a
+// loop each, whose turns are short and do not wait for each other: one colour's whole arithmetic is a chain longer than a processor looks ahead.
+ghost use mathlib.Core.Path.{_≡_};
+ghost use Prim.Native.Nat.{_+_, _*_, _<_, _≤_};
+ghost use lib.ListN.{length};
+ghost use Rattle.color.specs.Palette.{paletteLen, linearAt};
+ghost use Rattle.stats.specs.Noise.{Sigmas};
+ghost use Rattle.demod.specs.Samples as spec;
+ghost use Rattle.demod.specs.Samples.{Block, Samples};
+use color::Lab;
+use color::linear_to_lab;
+use color::palette::linear_at;
+use stats::ChannelStats;
+
+// How many colours the block that starts at `from` has, of n colours: 16, or those that are left.
+pub fn block_size(from: usize, n: usize) -> usize
+    requires { ⌜ from < n ⌝ }
+    ensures { λ r. ⌜ (0 < r) × (r ≤ 16) × (from + r ≤ n) ⌝ }
+{
+    if n - from < 16 {
+        return n - from;
+    }
+    16
+}
+
+// Three numbers at the places of entry i.
+pub fn put_three(l: &mut [f32], i: usize, x: f32, y: f32, z: f32)
+    requires { ⌜ 3 * i + 2 < length (now l) ⌝ }
+    ensures { λ _. ⌜ now (l .exit) ≡ spec.putThree (now (l .entry)) i x y z ⌝ }
+{
+    l[3 * i] = x;
+    l[3 * i + 1] = y;
+    l[3 * i + 2] = z;
+}
+
+// Lab j of a list that has three numbers for each.
+pub fn lab_at(labs: &[f32], j: usize) -> Lab
+    requires { ⌜ 3 * j + 2 < length (now labs) ⌝ }
+    ensures { λ r. ⌜ r ≡ spec.labAt (now (labs .entry)) j ⌝ }
+{
+    Lab {
+        l: labs[3 * j],
+        a: labs[3 * j + 1],
+        b: labs[3 * j + 2],
+    }
+}
+
+// Writes the Labs of n colours of a list, from colour `from` on.
+fn write_labs(colours: &[f32], from: usize, n: usize, labs: &mut [f32])
+    requires { ⌜ (3 * (from + n) ≤ length (now colours)) × (3 * n ≤ length (now labs)) ⌝ }
+    ensures { λ _. ⌜ Block spec.labAt (spec.labOf (spec.onwards (linearAt (now (colours .entry))) from)) n (now (labs .exit)) ⌝ }
+{
+    for j in 0..n {
+        let lab = linear_to_lab(linear_at(colours, from + j));
+        put_three(labs, j, lab.l, lab.a, lab.b);
+    }
+}
+
+// Writes how far each of n Labs is from the nearest palette colour.
+fn write_distances(
+    noise: ChannelStats,
+    palette: &[f32],
+    hues: usize,
+    sigmas: &[f32],
+    labs: &[f32],
+    n: usize,
+    distances: &mut [f32],
+)
+    requires { ⌜ (paletteLen hues ≤ length (now palette)) × Sigmas noise (now palette) hues (now sigmas) × (3 * n ≤ length (now labs)) × (n ≤ length (now distances)) ⌝ }
+    ensures { λ _. ⌜ Block spec.numberAt (spec.distanceOf noise (now (palette .entry)) hues (spec.labAt (now (labs .entry)))) n (now (distances .exit)) ⌝ }
+{
+    for j in 0..n {
+        distances[j] = noise.nearest_by(lab_at(labs, j), palette, hues, sigmas);
+    }
+}
+
+// Writes the weights of n distances.
+fn write_weights(distances: &[f32], n: usize, weights: &mut [f32])
+    requires { ⌜ (n ≤ length (now distances)) × (n ≤ length (now weights)) ⌝ }
+    ensures { λ _. ⌜ Block spec.numberAt (spec.weightOf (spec.numberAt (now (distances .entry)))) n (now (weights .exit)) ⌝ }
+{
+    for j in 0..n {
+        weights[j] = stats::weight(distances[j]);
+    }
+}
+
+// Writes the samples of n colours of a list, from colour `from` on.
+pub fn write_samples(
+    noise: ChannelStats,
+    palette: &[f32],
+    hues: usize,
+    sigmas: &[f32],
+    colours: &[f32],
+    from: usize,
+    n: usize,
+    labs: &mut [f32],
+    weights: &mut [f32],
+)
+    requires { ⌜ (paletteLen hues ≤ length (now palette)) × Sigmas noise (now palette) hues (now sigmas) × (n ≤ 16) × (3 * (from + n) ≤ length (now colours)) × (3 * n ≤ length (now labs)) × (n ≤ length (now weights)) ⌝ }
+    ensures { λ _. ⌜ Samples noise (now (palette .entry)) hues (spec.onwards (linearAt (now (colours .entry))) from) n (now (labs .exit)) (now (weights .exit)) ⌝ }
+{
+    write_labs(colours, from, n, labs);
+    let mut distances = [0.0f32; 16];
+    write_distances(noise, palette, hues, sigmas, labs, n, &mut distances);
+    write_weights(&distances, n, weights);
+}
