@@ -4,6 +4,7 @@ use mathlib.Core.Path.{_≡_}
 use mathlib.Core.Bool.{Bool, true, false, cond, _&&_}
 use mathlib.Core.List.{List, _++_, map}
 use Prim.Native.Nat.{ℕ, _+_, _*_, _≤_, _<_}
+use lib.Dec.{ltb}
 use lib.ListN.{length, getD, set}
 use lib.Ieee.{Float, nan, binary32, ofBits, le}
 use Rattle.color.specs.declared.Linear.{Linear}
@@ -144,6 +145,9 @@ pub record Listed : Type 0 where
 abbrev pub listed : List Float → ℕ → Listed
 listed s k = record { s = s; k = k }
 
+-- it is written at place k, in the room of n, and counted where its mark is from lo to hi
 unfoldable pub listAt : ℕ → ℕ → Float → Float → Form → ℕ → ℕ → List Float → Listed
 listAt n column lo hi form i k s =
-    cond (marked lo hi (getD s (3 * n + i) nan)) (listed (set s k (formed form (getD s (n + column + i) nan))) (k + 1)) (listed s k)
+    cond (ltb k n)
+    (listed (set s k (formed form (getD s (n + column + i) nan))) (cond (marked lo hi (getD s (3 * n + i) nan)) (k + 1) k))
+    (listed s k)

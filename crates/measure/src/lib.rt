@@ -233,6 +233,8 @@ fn marked(lo: f32, hi: f32, mark: f32) -> bool
 }
 
 // Lists the number of reference i in a column, where its mark is from lo to hi: k were listed before, and one more may be after.
+// It is written at place k whatever its mark, as long as that is in the list's room, and counted where the mark says so: what
+// stands at place k and after is of no use, and a branch on the mark would often be guessed wrong.
 fn list_at(
     s: &mut [f32],
     n: usize,
@@ -243,12 +245,15 @@ fn list_at(
     i: usize,
     k: usize,
 ) -> usize
-    requires { ⌜ (n ≤ 16384) × (i < n) × (at ≤ n) × (k ≤ n) × (length (now s) ≡ 4 * n) × (column.marked lo hi (getD (now s) (3 * n + i) nan) ≡ true → k < n) ⌝ }
+    requires { ⌜ (n ≤ 16384) × (i < n) × (at ≤ n) × (length (now s) ≡ 4 * n) ⌝ }
     ensures { λ r. ⌜ column.listed (now (s .exit)) r ≡ column.listAt n at lo hi form i k (now (s .entry)) ⌝ }
 {
-    if marked(lo, hi, s[3 * n + i]) {
+    let counts = marked(lo, hi, s[3 * n + i]);
+    if k < n {
         s[k] = formed(form, s[n + at + i]);
-        return k + 1;
+        if counts {
+            return k + 1;
+        }
     }
     k
 }
