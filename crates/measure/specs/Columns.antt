@@ -6,10 +6,10 @@ use mathlib.Core.List.{List, _++_, map}
 use Prim.Native.Nat.{ℕ, _+_, _*_, _≤_, _<_}
 use lib.Dec.{ltb}
 use lib.ListN.{length, getD, set}
-use lib.Ieee.{Float, nan, binary32, ofBits, le}
+use lib.Ieee.{Float, nan, binary32, add, sub, mul, ofBits, le}
+use Rattle.float.specs.Root.{sqrtOf}
 use Rattle.color.specs.declared.Linear.{Linear}
 use Rattle.color.specs.declared.Lab.{Lab}
-use Rattle.color.specs.Color.{abDistance}
 use Rattle.order.specs.Median.{medianOf}
 use Rattle.order.specs.Deviation.{deviation}
 use Rattle.illum.specs.declared.IlluminationModel.{IlluminationModel}
@@ -17,7 +17,7 @@ use Rattle.measure.specs.declared.Level.{Level}
 use Rattle.measure.specs.declared.Form.{Form}
 use Rattle.measure.specs.declared.Form.the-variants.{Plain, Less, Apart, LessApart}
 use Rattle.stats.specs.declared.ChannelStats.{ChannelStats}
-use Rattle.measure.specs.Measure.{figuresOf, recordOf, less, isLight, atLevel, colourful, correctedAt, correctedLab, nominalLab, lightnessAt, errorAt, picked}
+use Rattle.measure.specs.Measure.{figuresOf, recordOf, less, isLight, atLevel, colourful, correctedAt, correctedLab, nominalLab, lightnessAt, picked}
 
 -- ---- marks: which lists a reference counts for. From 1 to 2 dark lightness, 5 to 6 light lightness, 2 to 5 chroma, 2 to 3 dark chroma, 4 to 5 light chroma.
 
@@ -65,23 +65,35 @@ marked lo hi mark = le lo mark && le mark hi
 
 -- ---- what is written of reference i of n
 
--- the chroma error of a colourful reference; 0 of any other, which is listed nowhere
-unfoldable pub chromaError : Lab → Lab → Float
-chromaError c nominal = cond (colourful nominal) (abDistance c nominal) m0
+-- the square of the chroma error: the distance in the plane of a and b is its root
+unfoldable pub squareOf : Lab → Lab → Float
+squareOf c d =
+    let da = sub binary32 (c .a) (d .a) in
+    let db = sub binary32 (c .b) (d .b) in
+    add binary32 (mul binary32 da da) (mul binary32 db db)
+
+unfoldable pub squareAt : IlluminationModel → List Float → ℕ → Float
+squareAt m flat i = squareOf (correctedLab m flat i) (nominalLab flat i)
 
 -- of a reference whose corrected Lab is c
 unfoldable pub noted : Lab → List Float → List Float → ℕ → ℕ → List Float → List Float
 noted c palette flat n i s =
-    set (set (set s (n + i) (c .l)) (2 * n + i) (chromaError c (nominalLab flat i))) (3 * n + i) (markAt palette flat i)
+    set (set (set s (n + i) (c .l)) (2 * n + i) (squareOf c (nominalLab flat i))) (3 * n + i) (markAt palette flat i)
 
 unfoldable pub notedAt : IlluminationModel → List Float → List Float → ℕ → ℕ → List Float → List Float
 notedAt m palette flat n i s = noted (correctedLab m flat i) palette flat n i s
 
--- the columns of k references are written, the chroma errors of the colourful ones
-pub record Noted (m : IlluminationModel) (palette flat : List Float) (n k : ℕ) (s : List Float) : Type 0 where
+-- the columns of k references are written; e of each is in the second
+pub record Noted (m : IlluminationModel) (palette flat : List Float) (n k : ℕ) (e : ℕ → Float) (s : List Float) : Type 0 where
   pub l : (j : ℕ) → j < k → getD s (n + j) nan ≡ lightnessAt m flat j
-  pub e : (j : ℕ) → j < k → colourful (nominalLab flat j) ≡ true → getD s (2 * n + j) nan ≡ errorAt m flat j
+  pub second : (j : ℕ) → j < k → getD s (2 * n + j) nan ≡ e j
   pub mark : (j : ℕ) → j < k → getD s (3 * n + j) nan ≡ markAt palette flat j
+
+-- t is s with the roots of the second column's first k
+pub record Rooted (n k : ℕ) (s t : List Float) : Type 0 where
+  pub root : (j : ℕ) → j < k → getD t (2 * n + j) nan ≡ sqrtOf (getD s (2 * n + j) nan)
+  pub before : (j : ℕ) → j < 2 * n → getD t j nan ≡ getD s j nan
+  pub after : (j : ℕ) → 2 * n + k ≤ j → getD t j nan ≡ getD s j nan
 
 -- ---- the corrected colours, which stand in the columns until these are written
 
@@ -99,7 +111,7 @@ pub record Corrected (m : IlluminationModel) (flat : List Float) (n a b : ℕ) (
 
 -- where t holds the corrected colours of all n, by whichever model, s has those of k references replaced by their numbers
 pub record Converted (palette flat : List Float) (n k : ℕ) (t s : List Float) : Type 0 where
-  pub done : (m : IlluminationModel) → Corrected m flat n 0 n t → Noted m palette flat n k s
+  pub done : (m : IlluminationModel) → Corrected m flat n 0 n t → Noted m palette flat n k (squareAt m flat) s
   pub left : (m : IlluminationModel) → Corrected m flat n 0 n t → Corrected m flat n k n s
 
 -- ---- the list of a column's elements whose mark is from lo to hi. t has the three columns after the first, and `column` is where one starts.

@@ -129,18 +129,6 @@ fn mark_for(palette: &[f32], mid: f32, nominal: Lab, colourful: bool) -> f32
     mark_of(near, light, colourful)
 }
 
-// The chroma error: how far a colourful reference is from its nominal colour in the plane of a and b. That of any other is listed
-// nowhere, so no root is taken and it is 0.
-fn chroma_error(corrected: Lab, nominal: Lab, colourful: bool) -> f32
-    requires { ⌜ colourful ≡ spec.colourful nominal ⌝ }
-    ensures { λ r. ⌜ r ≡ column.chromaError corrected nominal ⌝ }
-{
-    if colourful {
-        return corrected.ab_distance(nominal);
-    }
-    0.0
-}
-
 // Writes three numbers of reference i of n, each into its column.
 fn place(n: usize, i: usize, a: f32, b: f32, c: f32, s: &mut [f32])
     requires { ⌜ (n ≤ 16384) × (i < n) × (length (now s) ≡ 4 * n) ⌝ }
@@ -164,7 +152,7 @@ fn correct(model: IlluminationModel, flat: &[f32], n: usize, s: &mut [f32])
     }
 }
 
-// Writes the three numbers of reference i of n over its corrected colour; mid as in `mark_for`.
+// Writes the three numbers of reference i of n over its corrected colour, the chroma error squared; mid as in `mark_for`.
 fn note_at(palette: &[f32], mid: f32, flat: &[f32], n: usize, i: usize, s: &mut [f32])
     requires { ⌜ (n ≤ 16384) × (i < n) × (8 * n ≤ length (now flat)) × (2 ≤ length (now palette)) × (mid ≡ spec.middle (now palette)) × (length (now s) ≡ 4 * n) ⌝ }
     ensures { λ _. ⌜ now (s .exit) ≡ column.noted (linearToLab (column.colourAt n i (now (s .entry)))) (now (palette .entry)) (now (flat .entry)) n i (now (s .entry)) ⌝ }
@@ -175,10 +163,10 @@ fn note_at(palette: &[f32], mid: f32, flat: &[f32], n: usize, i: usize, s: &mut 
         b: s[3 * n + i],
     });
     let nominal = nominal_lab(flat, i);
-    let is_colourful = colourful(nominal);
-    let error = chroma_error(corrected, nominal, is_colourful);
-    let mark = mark_for(palette, mid, nominal, is_colourful);
-    place(n, i, corrected.l, error, mark, s);
+    let mark = mark_for(palette, mid, nominal, colourful(nominal));
+    let da = corrected.a - nominal.a;
+    let db = corrected.b - nominal.b;
+    place(n, i, corrected.l, da * da + db * db, mark, s);
 }
 
 // Writes them of all n over the corrected colours.
@@ -192,13 +180,25 @@ fn convert(palette: &[f32], flat: &[f32], n: usize, s: &mut [f32])
     }
 }
 
-// Writes them of all n: all are corrected first and then converted, which takes less time than one loop that does both.
+// Takes the roots of the squared chroma errors.
+fn roots(n: usize, s: &mut [f32])
+    requires { ⌜ (n ≤ 16384) × (length (now s) ≡ 4 * n) ⌝ }
+    ensures { λ _. ⌜ column.Rooted n n (now (s .entry)) (now (s .exit)) ⌝ }
+{
+    for i in 0..n {
+        s[2 * n + i] = float::sqrt(s[2 * n + i]);
+    }
+}
+
+// Writes them of all n: all are corrected, then converted, and then the roots are taken, which takes less time than one loop that
+// does it all.
 fn note(model: IlluminationModel, palette: &[f32], flat: &[f32], n: usize, s: &mut [f32])
     requires { ⌜ (n ≤ 16384) × (8 * n ≤ length (now flat)) × (2 ≤ length (now palette)) × (length (now s) ≡ 4 * n) ⌝ }
-    ensures { λ _. ⌜ column.Noted model (now (palette .entry)) (now (flat .entry)) n n (now (s .exit)) ⌝ }
+    ensures { λ _. ⌜ column.Noted model (now (palette .entry)) (now (flat .entry)) n n (spec.errorAt model (now (flat .entry))) (now (s .exit)) ⌝ }
 {
     correct(model, flat, n, s);
     convert(palette, flat, n, s);
+    roots(n, s);
 }
 
 // ---- the lists
