@@ -5,6 +5,7 @@ mod Literals
 mod Listing
 mod Noting
 mod Observed
+mod Remembering
 mod Sigmas
 pub mod Accepted
 mod Bounds

@@ -25,21 +25,21 @@ use Rattle.measure.proofs.Lists.{picked-same, picked-two}
 
 -- ---- three writes at x < y < z
 module _ (s : List Float) (x y z : ℕ) (a b c : Float) where
-  abbrev three : List Float
+  abbrev pub three : List Float
   three = set (set (set s x a) y b) z c
 
-  at-other : (j : ℕ) → j ≢ x → j ≢ y → j ≢ z → getD three j nan ≡ getD s j nan
+  pub at-other : (j : ℕ) → j ≢ x → j ≢ y → j ≢ z → getD three j nan ≡ getD s j nan
   at-other j p q r = getD-set-other (set (set s x a) y b) z j c nan r ∙ getD-set-other (set s x a) y j b nan q ∙ getD-set-other s x j a nan p
 
   module _ (h : x < y) (k : y < z) (l : z < length s) where
-    at-x : getD three x nan ≡ a
+    pub at-x : getD three x nan ≡ a
     at-x =
         getD-set-other (set (set s x a) y b) z x c nan (λ q. omega arith) ∙ getD-set-other (set s x a) y x b nan (λ q. omega arith) ∙ getD-set-same s x a nan (omega arith)
 
-    at-y : getD three y nan ≡ b
+    pub at-y : getD three y nan ≡ b
     at-y = getD-set-other (set (set s x a) y b) z y c nan (λ q. omega arith) ∙ getD-set-same (set s x a) y b nan (omega (arith, length-set s x a))
 
-    at-z : getD three z nan ≡ c
+    pub at-z : getD three z nan ≡ c
     at-z = getD-set-same (set (set s x a) y b) z c nan (omega (arith, length-set s x a, length-set (set s x a) y b))
 
 module _ {m : IlluminationModel} {palette flat : List Float} {n : ℕ} where

@@ -6,13 +6,15 @@ use mathlib.Core.List.{List, _++_, map}
 use Prim.Native.Nat.{ℕ, _+_, _*_, _≤_, _<_}
 use lib.Dec.{ltb}
 use lib.ListN.{length, getD, set}
-use lib.Ieee.{Float, nan, binary32, add, sub, mul, ofBits, le}
+use lib.Ieee.{Float, nan, binary32, add, sub, mul, ofBits, le, isNan}
 use Rattle.float.specs.Root.{sqrtOf}
 use Rattle.color.specs.declared.Linear.{Linear}
 use Rattle.color.specs.declared.Lab.{Lab}
+use Rattle.color.specs.Color.{linearToLab}
 use Rattle.order.specs.Median.{medianOf}
 use Rattle.order.specs.Deviation.{deviation}
 use Rattle.illum.specs.declared.IlluminationModel.{IlluminationModel}
+use Rattle.measure.specs.declared.Known.{Known}
 use Rattle.measure.specs.declared.Level.{Level}
 use Rattle.measure.specs.declared.Form.{Form}
 use Rattle.measure.specs.declared.Form.the-variants.{Plain, Less, Apart, LessApart}
@@ -62,6 +64,39 @@ markAt palette flat i = markFor palette (nominalLab flat i)
 -- a mark from lo to hi
 unfoldable pub marked : Float → Float → Float → Bool
 marked lo hi mark = le lo mark && le mark hi
+
+-- ---- what is known of a nominal colour, and the slots of six numbers in which it is remembered
+
+unfoldable pub knownOf : List Float → Linear → Known
+knownOf palette c = let nominal = linearToLab c in record { a = nominal .a; b = nominal .b; mark = markFor palette nominal }
+
+-- one float, and no NaN
+pub record Same (a b : Float) : Type 0 where
+  pub one : a ≡ b
+  pub real : isNan a ≡ false
+
+-- the colour in slot j, and what is known of it
+unfoldable pub colourIn : ℕ → List Float → Linear
+colourIn j memo = record { r = getD memo (6 * j) nan; g = getD memo (6 * j + 1) nan; b = getD memo (6 * j + 2) nan }
+
+unfoldable pub knownIn : ℕ → List Float → Known
+knownIn j memo = record { a = getD memo (6 * j + 3) nan; b = getD memo (6 * j + 4) nan; mark = getD memo (6 * j + 5) nan }
+
+-- slot j is in use, by colour c
+pub record Held (j : ℕ) (c : Linear) (memo : List Float) : Type 0 where
+  pub used : isNan (getD memo (6 * j) nan) ≡ false
+  pub colour : colourIn j memo ≡ c
+
+-- every slot in use holds a colour with what is known of it
+pub record Remembered (palette memo : List Float) : Type 0 where
+  pub long : length memo ≡ 1536
+  pub slot : (j : ℕ) → j < 256 → isNan (getD memo (6 * j) nan) ≡ false → knownIn j memo ≡ knownOf palette (colourIn j memo)
+
+-- a colour, and what is known of it, written into slot j
+abbrev pub kept : ℕ → Linear → Known → List Float → List Float
+kept j c k memo =
+    let colour = set (set (set memo (6 * j) (c .r)) (6 * j + 1) (c .g)) (6 * j + 2) (c .b) in
+    set (set (set colour (6 * j + 3) (k .a)) (6 * j + 4) (k .b)) (6 * j + 5) (k .mark)
 
 -- ---- what is written of reference i of n
 
