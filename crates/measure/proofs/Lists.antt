@@ -1,12 +1,12 @@
 -- Laws of the lists that are picked: how one goes on from i, that equal tests and equal values give equal lists, that two tests which exclude each other
 -- pick no more than there are, and that what holds of every value holds of every element. Assumes nothing.
-use mathlib.Core.Path.{_≡_, refl, sym, ap, _∙_}
+use mathlib.Core.Path.{_≡_, refl, ap}
 use mathlib.Core.Bool.{Bool, true, false, cond}
 use mathlib.Core.List.{List, [], _∷_}
 use Prim.Native.Nat.{ℕ, zero, suc, _+_, _-_, _≤_, _<_}
 use native.Mathlib.Omega.{arith}
-use lib.ListN.{length, getD}
-use lib.Ieee.{Float, nan}
+use lib.ListN.{length}
+use lib.Ieee.{Float}
 use Rattle.measure.specs.Measure.{picked}
 
 sub-done : (n i : ℕ) → n ≤ i → n - i ≡ zero

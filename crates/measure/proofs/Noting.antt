@@ -2,13 +2,12 @@
 -- the references, a mark lying in a list's range exactly where the reference counts for it. Assumes nothing.
 use mathlib.Core.Path.{_≡_, refl, sym, ap, _∙_}
 use mathlib.Core.Logic.{_≢_}
-use mathlib.Core.Bool.{Bool, true, false, cond, not, _&&_}
+use mathlib.Core.Bool.{Bool, true, false, cond, _&&_}
 use mathlib.Core.List.{List}
-use Prim.Native.Nat.{ℕ, suc, _+_, _*_, _≤_, _<_}
+use Prim.Native.Nat.{ℕ, _+_, _*_, _≤_, _<_}
 use native.Mathlib.Decide.{ℕ-discrete}
 use native.Mathlib.Omega.{arith}
 use lib.ListN.{length, getD, set, drop, length-set}
-use lib.Dec.{ltb}
 use borrow.Author.Tests.{lt-ltb, le-ltb}
 use Rattle.stats.specs.declared.ChannelStats.{ChannelStats}
 use Rattle.stats.specs.Noise.{nominal}
@@ -19,8 +18,8 @@ use Rattle.color.specs.declared.Linear.{Linear}
 use Rattle.color.specs.declared.Lab.{Lab}
 use Rattle.color.specs.Color.{linearToLab, abDistance, length2}
 use Rattle.illum.specs.declared.IlluminationModel.{IlluminationModel}
-use Rattle.measure.specs.Measure.{picked, sameLevel, atLevel, isLight, colourful, correctedAt, correctedLab, nominalLab, lightnessAt, errorAt, forLevel, forLevelChroma, levelOf, errorsOf, levelErrorsOf, recordOf, measuredOf, measured}
-use Rattle.measure.specs.Columns.{m0, m1, m2, m3, m4, m5, m6, markOf, markFor, markAt, marked, squareOf, squareAt, noted, notedAt, Noted, Rooted, placed, colourAt, Corrected, Converted, pickedIn, levelIn, recordIn}
+use Rattle.measure.specs.Measure.{picked, sameLevel, atLevel, isLight, colourful, correctedAt, correctedLab, nominalLab, lightnessAt, errorAt, forLevel, forLevelChroma, levelOf, measuredOf, measured}
+use Rattle.measure.specs.Columns.{m1, m2, m3, m4, m5, m6, markOf, markFor, markAt, marked, squareOf, squareAt, noted, notedAt, Noted, Rooted, placed, colourAt, Corrected, Converted, pickedIn, levelIn, recordIn}
 use Rattle.measure.proofs.Lists.{picked-same, picked-two}
 
 -- ---- three writes at x < y < z

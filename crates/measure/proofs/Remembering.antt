@@ -9,7 +9,7 @@ use native.Mathlib.Decide.{ℕ-discrete}
 use native.Mathlib.Omega.{arith}
 use borrow.Author.Tests.{eqb-true}
 use lib.Dec.{T, eqb}
-use lib.ListN.{length, getD, set, replicate, length-set, length-replicate, getD-replicate}
+use lib.ListN.{length, getD, replicate, length-set, length-replicate, getD-replicate}
 use lib.Ieee.{Float, nan, inf, fin, binary32, isNan, eq, fits, ofBits, toBits}
 use lib.Ieee.Bits.{ofBits-toBits}
 use Rattle.color.specs.declared.Linear.{Linear}
