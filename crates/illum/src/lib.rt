@@ -413,9 +413,9 @@ fn mix_lent(row_r: &[f64; 4], row_g: &[f64; 4], row_b: &[f64; 4], d: Unshaded) -
     let g = d.g;
     let b = d.b;
     Linear {
-        r: affine_row(*row_r, r.value, g.value, b.value),
-        g: affine_row(*row_g, r.value, g.value, b.value),
-        b: affine_row(*row_b, r.value, g.value, b.value),
+        r: float::narrow(row(*row_r, r.value, g.value, b.value)),
+        g: float::narrow(row(*row_g, r.value, g.value, b.value)),
+        b: float::narrow(row(*row_b, r.value, g.value, b.value)),
     }
 }
 

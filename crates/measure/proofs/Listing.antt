@@ -6,8 +6,10 @@ use Prim.Native.Nat.{ℕ, suc, _+_, _*_, _-_, _≤_, _<_}
 use native.Mathlib.Omega.{arith}
 use native.Mathlib.Numerals.{add-one}
 use lib.ListN.{length, getD, set, take, drop, length-set}
-use lib.Seq.{take-suc-set, drop-set-lt, getD-drop}
+use lib.Dec.{ltb}
+use lib.Seq.{take-suc-set, take-set-le, drop-set-lt, getD-drop}
 use lib.Ieee.{Float, nan}
+use borrow.Author.Tests.{ltb-true, ltb-false, lt-ltb, le-ltb}
 use Rattle.measure.specs.declared.Form.{Form}
 use Rattle.measure.specs.Measure.{picked}
 use Rattle.measure.specs.Columns.{marked, pickedIn, formed, Listed, listed, listAt}
@@ -68,12 +70,13 @@ module _ {n at : ℕ} {lo hi : Float} {form : Form} where
     skip : i < n → markIn n lo hi t i ≡ false → leftIn n at lo hi t i ≡ leftIn n at lo hi t (suc i)
     skip h m = picked-turn (markIn n lo hi t) (λ j. getD t (at + j) nan) n i h ∙ rw m
 
-    pub list-room : i < n → marked lo hi (getD s (3 * n + i) nan) ≡ true → k < n
-    list-room h m =
-        let e = next h (ap (marked lo hi) (read-mark n s t (inv .kept) i) ∙ m) in
-        let c = inv .count in
-        let r = inv .room in
-        omega (arith, ap length e)
+    room : i < n → markIn n lo hi t i ≡ true → k < n
+    room h m = let e = next h m in let c = inv .count in let r = inv .room in omega (arith, ap length e)
+
+    -- where there is no room left, it is not listed
+    full : n ≤ k → i < n → (b : Bool) → markIn n lo hi t i ≡ b → markIn n lo hi t i ≡ false
+    full g h true m = absurd (omega (arith, room h m))
+    full g h false m = m
 
     in-turn : (v : Float) → i < n → markIn n lo hi t i ≡ true → v ≡ formed form (getD t (at + i) nan)
         → Listing n at lo hi form t whole total (suc i) (k + 1) (set s k v)
@@ -82,7 +85,7 @@ module _ {n at : ℕ} {lo hi : Float} {form : Form} where
         let l = inv .long in
         let c = inv .count in
         let r = inv .room in
-        let small : k < n = omega (arith, ap length e) in
+        let small = room h m in
         let rest = map (formed form) (leftIn n at lo hi t (suc i)) in
         let tk : take (k + 1) (set s k v) ≡ take k s ++ (v ∷ []) = rw add-one (take-suc-set s k v (omega arith)) in
         let tl : take k s ++ (v ∷ rest) ≡ whole = rw (ev) (rw e at (inv .list)) in
@@ -99,16 +102,16 @@ module _ {n at : ℕ} {lo hi : Float} {form : Form} where
         let e = skip h m in
         record { long = inv .long; kept = inv .kept; room = inv .room; list = rw e at (inv .list); count = rw e at (inv .count) }
 
-    by-test : (b : Bool) (s′ : List Float) (k′ : ℕ) → i < n → markIn n lo hi t i ≡ b
-        → listed s′ k′ ≡ cond b (listed (set s k (formed form (getD t (at + i) nan))) (k + 1)) (listed s k) → Listing n at lo hi form t whole total (suc i) k′ s′
-    by-test true s′ k′ h m e = rw (ap (λ (x : Listed). x .s) e, ap (λ (x : Listed). x .k) e) (in-turn _ h m refl)
-    by-test false s′ k′ h m e = rw (ap (λ (x : Listed). x .s) e, ap (λ (x : Listed). x .k) e) (out-turn h m)
-
-    pub list-turn : {s′ : List Float} {k′ : ℕ} → i < n → listed s′ k′ ≡ listAt n at lo hi form i k s → Listing n at lo hi form t whole total (i + 1) k′ s′
-    unfolding listAt
-    list-turn {s′} {k′} h e =
-        rw add-one
-        (by-test (markIn n lo hi t i) s′ k′ h refl (rw (read-mark n s t (inv .kept) i, read-at n s t (inv .kept) i at) e))
+    -- what is written at place k is not among the first k
+    unseen : (v : Float) → k < n → Listing n at lo hi form t whole total i k (set s k v)
+    unseen v h =
+        record {
+          long = length-set s k v ∙ inv .long;
+          kept = drop-set-lt n s k v h ∙ inv .kept;
+          room = inv .room;
+          list = rw (take-set-le k s k v (omega arith)) (inv .list);
+          count = inv .count;
+        }
 
     module _ (h : n ≤ i) where
       over : leftIn n at lo hi t i ≡ []
@@ -126,12 +129,35 @@ module _ {n at : ℕ} {lo hi : Float} {form : Form} where
     pub list-kept : drop n s ≡ t
     list-kept = inv .kept
 
+  module _ {t whole : List Float} {total i k : ℕ} {s : List Float} (inv : Listing n at lo hi form t whole total i k s) where
+    -- by the test of the room, and that of the mark
+    by-tests : (w b : Bool) (s′ : List Float) (k′ : ℕ) → i < n → ltb k n ≡ w → markIn n lo hi t i ≡ b
+        → listed s′ k′ ≡ cond w (listed (set s k (formed form (getD t (at + i) nan))) (cond b (k + 1) k)) (listed s k)
+        → Listing n at lo hi form t whole total (suc i) k′ s′
+    by-tests true true s′ k′ h w m e = rw (ap (λ (x : Listed). x .s) e, ap (λ (x : Listed). x .k) e) (in-turn inv _ h m refl)
+    by-tests true false s′ k′ h w m e =
+        rw (ap (λ (x : Listed). x .s) e, ap (λ (x : Listed). x .k) e) (out-turn (unseen inv _ (ltb-true k n w)) h m)
+    by-tests false b s′ k′ h w m e =
+        rw (ap (λ (x : Listed). x .s) e, ap (λ (x : Listed). x .k) e) (out-turn inv h (full inv (ltb-false k n w) h b m))
+
+    pub list-turn : {s′ : List Float} {k′ : ℕ} → i < n → listed s′ k′ ≡ listAt n at lo hi form i k s → Listing n at lo hi form t whole total (i + 1) k′ s′
+    unfolding listAt
+    list-turn {s′} {k′} h e =
+        rw add-one
+        (by-tests (ltb k n) (markIn n lo hi t i) s′ k′ h refl refl (rw (read-mark n s t (inv .kept) i, read-at n s t (inv .kept) i at) e))
+
 -- one step of the code: r is what the test of the mark gave
 module _ (n at : ℕ) (lo hi : Float) (form : Form) (i k : ℕ) (s : List Float) (r : Bool) where
-  pub step-in : (v : Float) → r ≡ marked lo hi (getD s (3 * n + i) nan) → r ≡ true → v ≡ formed form (getD s (n + at + i) nan) → listed (set s k v) (k + 1) ≡ listAt n at lo hi form i k s
+  pub step-in : (v : Float) → r ≡ marked lo hi (getD s (3 * n + i) nan) → k < n → r ≡ true → v ≡ formed form (getD s (n + at + i) nan)
+      → listed (set s k v) (k + 1) ≡ listAt n at lo hi form i k s
   unfolding listAt
-  step-in v e t ev = cc
+  step-in v e h t ev = cc (lt-ltb k n h)
 
-  pub step-out : r ≡ marked lo hi (getD s (3 * n + i) nan) → r ≡ false → listed s k ≡ listAt n at lo hi form i k s
+  pub step-out : (v : Float) → r ≡ marked lo hi (getD s (3 * n + i) nan) → k < n → r ≡ false → v ≡ formed form (getD s (n + at + i) nan)
+      → listed (set s k v) k ≡ listAt n at lo hi form i k s
   unfolding listAt
-  step-out e t = cc
+  step-out v e h t ev = cc (lt-ltb k n h)
+
+pub step-full : (n at : ℕ) (lo hi : Float) (form : Form) (i k : ℕ) (s : List Float) → n ≤ k → listed s k ≡ listAt n at lo hi form i k s
+unfolding listAt
+step-full n at lo hi form i k s h = cc (le-ltb k n h)

@@ -1,12 +1,12 @@
--- Laws of the lists that are picked: how one goes on from i, that equal tests, and equal values where they hold, give equal lists, that two tests which exclude each other
+-- Laws of the lists that are picked: how one goes on from i, that equal tests and equal values give equal lists, that two tests which exclude each other
 -- pick no more than there are, and that what holds of every value holds of every element. Assumes nothing.
-use mathlib.Core.Path.{_≡_, refl, sym, ap, _∙_}
+use mathlib.Core.Path.{_≡_, refl, ap}
 use mathlib.Core.Bool.{Bool, true, false, cond}
 use mathlib.Core.List.{List, [], _∷_}
 use Prim.Native.Nat.{ℕ, zero, suc, _+_, _-_, _≤_, _<_}
 use native.Mathlib.Omega.{arith}
-use lib.ListN.{length, getD}
-use lib.Ieee.{Float, nan}
+use lib.ListN.{length}
+use lib.Ieee.{Float}
 use Rattle.measure.specs.Measure.{picked}
 
 sub-done : (n i : ℕ) → n ≤ i → n - i ≡ zero
@@ -31,16 +31,12 @@ module _ (p : ℕ → Bool) (f : ℕ → Float) (n : ℕ) where
   picked-turn i h = ap (λ (k : ℕ). picked k i p f) (sub-turn n i h)
 
 pub picked-same : (k i : ℕ) (p q : ℕ → Bool) (f g : ℕ → Float) → ((j : ℕ) → i ≤ j → j < i + k → p j ≡ q j)
-    → ((j : ℕ) → i ≤ j → j < i + k → q j ≡ true → f j ≡ g j) → picked k i p f ≡ picked k i q g
+    → ((j : ℕ) → i ≤ j → j < i + k → f j ≡ g j) → picked k i p f ≡ picked k i q g
 unfolding picked
 picked-same zero i p q f g hp hf = refl
 picked-same (suc k) i p q f g hp hf =
     let t = picked-same k (suc i) p q f g (λ j a b. hp j (omega arith) (omega arith)) (λ j a b. hf j (omega arith) (omega arith)) in
-    rw (hp i (omega arith) (omega arith), t) (one (q i) (hf i (omega arith) (omega arith)))
-  where
-    one : (b : Bool) → (b ≡ true → f i ≡ g i) → cond b (f i ∷ picked k (suc i) q g) (picked k (suc i) q g) ≡ cond b (g i ∷ picked k (suc i) q g) (picked k (suc i) q g)
-    one true h = rw (h refl)
-    one false h = refl
+    rw (hp i (omega arith) (omega arith), t, hf i (omega arith) (omega arith))
 
 -- of tests that are never both true
 either : (b c : Bool) (x y : Float) (xs ys : List Float) (k : ℕ) → (b ≡ true → c ≡ false) → length xs + length ys ≤ k

@@ -1,51 +1,51 @@
--- The columns: each reference's corrected colour, and then its three numbers, stand at its place, and those of no other are written over them. So the lists of the columns are those of
+-- The columns: each reference's corrected colour, and then its three numbers, stand at its place, and those of no other are written over them; then the roots are taken. So the lists of the columns are those of
 -- the references, a mark lying in a list's range exactly where the reference counts for it. Assumes nothing.
 use mathlib.Core.Path.{_≡_, refl, sym, ap, _∙_}
 use mathlib.Core.Logic.{_≢_}
-use mathlib.Core.Bool.{Bool, true, false, cond, not, _&&_}
+use mathlib.Core.Bool.{Bool, true, false, cond, _&&_}
 use mathlib.Core.List.{List}
-use Prim.Native.Nat.{ℕ, suc, _+_, _*_, _≤_, _<_}
+use Prim.Native.Nat.{ℕ, _+_, _*_, _≤_, _<_}
 use native.Mathlib.Decide.{ℕ-discrete}
 use native.Mathlib.Omega.{arith}
 use lib.ListN.{length, getD, set, drop, length-set}
-use lib.Dec.{ltb}
 use borrow.Author.Tests.{lt-ltb, le-ltb}
 use Rattle.stats.specs.declared.ChannelStats.{ChannelStats}
 use Rattle.stats.specs.Noise.{nominal}
 use lib.Seq.{getD-set-same, getD-set-other, getD-drop}
 use lib.Ieee.{Float, nan, le, lt, eq, ofBits}
+use Rattle.float.specs.Root.{sqrtOf}
 use Rattle.color.specs.declared.Linear.{Linear}
 use Rattle.color.specs.declared.Lab.{Lab}
-use Rattle.color.specs.Color.{linearToLab}
+use Rattle.color.specs.Color.{linearToLab, abDistance, length2}
 use Rattle.illum.specs.declared.IlluminationModel.{IlluminationModel}
-use Rattle.measure.specs.Measure.{picked, sameLevel, atLevel, isLight, colourful, correctedAt, correctedLab, nominalLab, lightnessAt, errorAt, forLevel, forLevelChroma, levelOf, errorsOf, levelErrorsOf, recordOf, measuredOf, measured}
-use Rattle.measure.specs.Columns.{m0, m1, m2, m3, m4, m5, m6, markOf, markFor, markAt, marked, chromaError, noted, notedAt, Noted, placed, colourAt, Corrected, Converted, pickedIn, levelIn, recordIn}
+use Rattle.measure.specs.Measure.{picked, sameLevel, atLevel, isLight, colourful, correctedAt, correctedLab, nominalLab, lightnessAt, errorAt, forLevel, forLevelChroma, levelOf, measuredOf, measured}
+use Rattle.measure.specs.Columns.{m1, m2, m3, m4, m5, m6, markOf, markFor, markAt, marked, squareOf, squareAt, noted, notedAt, Noted, Rooted, placed, colourAt, Corrected, Converted, pickedIn, levelIn, recordIn}
 use Rattle.measure.proofs.Lists.{picked-same, picked-two}
 
 -- ---- three writes at x < y < z
 module _ (s : List Float) (x y z : ℕ) (a b c : Float) where
-  abbrev three : List Float
+  abbrev pub three : List Float
   three = set (set (set s x a) y b) z c
 
-  at-other : (j : ℕ) → j ≢ x → j ≢ y → j ≢ z → getD three j nan ≡ getD s j nan
+  pub at-other : (j : ℕ) → j ≢ x → j ≢ y → j ≢ z → getD three j nan ≡ getD s j nan
   at-other j p q r = getD-set-other (set (set s x a) y b) z j c nan r ∙ getD-set-other (set s x a) y j b nan q ∙ getD-set-other s x j a nan p
 
   module _ (h : x < y) (k : y < z) (l : z < length s) where
-    at-x : getD three x nan ≡ a
+    pub at-x : getD three x nan ≡ a
     at-x =
         getD-set-other (set (set s x a) y b) z x c nan (λ q. omega arith) ∙ getD-set-other (set s x a) y x b nan (λ q. omega arith) ∙ getD-set-same s x a nan (omega arith)
 
-    at-y : getD three y nan ≡ b
+    pub at-y : getD three y nan ≡ b
     at-y = getD-set-other (set (set s x a) y b) z y c nan (λ q. omega arith) ∙ getD-set-same (set s x a) y b nan (omega (arith, length-set s x a))
 
-    at-z : getD three z nan ≡ c
+    pub at-z : getD three z nan ≡ c
     at-z = getD-set-same (set (set s x a) y b) z c nan (omega (arith, length-set s x a, length-set (set s x a) y b))
 
 module _ {m : IlluminationModel} {palette flat : List Float} {n : ℕ} where
-  pub note-begin : (s : List Float) → Noted m palette flat n 0 s
-  note-begin s = record { l = λ j h. absurd (omega arith); e = λ j h. absurd (omega arith); mark = λ j h. absurd (omega arith) }
+  note-begin : (e : ℕ → Float) (s : List Float) → Noted m palette flat n 0 e s
+  note-begin e s = record { l = λ j h. absurd (omega arith); second = λ j h. absurd (omega arith); mark = λ j h. absurd (omega arith) }
 
-  module _ {i : ℕ} {s : List Float} (inv : Noted m palette flat n i s) (h : i < n) (l : length s ≡ 4 * n) where
+  module _ {i : ℕ} {s : List Float} (inv : Noted m palette flat n i (squareAt m flat) s) (h : i < n) (l : length s ≡ 4 * n) where
     module _ (a b c : Float) where
       abbrev after : List Float
       after = placed n i a b c s
@@ -57,32 +57,31 @@ module _ {m : IlluminationModel} {palette flat : List Float} {n : ℕ} where
       l-at ea j (yes q) k = rw q (at-x s (n + i) (2 * n + i) (3 * n + i) a b c (omega arith) (omega arith) (omega arith) ∙ ea)
       l-at ea j (no q) k = kept (n + j) (λ e. q (omega arith)) (λ e. omega arith) (λ e. omega arith) _ (inv .l j (omega arith))
 
-      e-at : (colourful (nominalLab flat i) ≡ true → b ≡ errorAt m flat i) → (j : ℕ) → Dec (j ≡ i) → j < i + 1 → colourful (nominalLab flat j) ≡ true
-          → getD after (2 * n + j) nan ≡ errorAt m flat j
-      e-at eb j (yes q) k = rw q (λ t. at-y s (n + i) (2 * n + i) (3 * n + i) a b c (omega arith) (omega arith) (omega arith) ∙ eb t)
-      e-at eb j (no q) k = λ t. kept (2 * n + j) (λ e. omega arith) (λ e. q (omega arith)) (λ e. omega arith) _ (inv .e j (omega arith) t)
+      second-at : b ≡ squareAt m flat i → (j : ℕ) → Dec (j ≡ i) → j < i + 1 → getD after (2 * n + j) nan ≡ squareAt m flat j
+      second-at eb j (yes q) k = rw q (at-y s (n + i) (2 * n + i) (3 * n + i) a b c (omega arith) (omega arith) (omega arith) ∙ eb)
+      second-at eb j (no q) k = kept (2 * n + j) (λ e. omega arith) (λ e. q (omega arith)) (λ e. omega arith) _ (inv .second j (omega arith))
 
       mark-at : c ≡ markAt palette flat i → (j : ℕ) → Dec (j ≡ i) → j < i + 1 → getD after (3 * n + j) nan ≡ markAt palette flat j
       mark-at ec j (yes q) k = rw q (at-z s (n + i) (2 * n + i) (3 * n + i) a b c (omega arith) (omega arith) (omega arith) ∙ ec)
       mark-at ec j (no q) k = kept (3 * n + j) (λ e. omega arith) (λ e. omega arith) (λ e. q (omega arith)) _ (inv .mark j (omega arith))
 
-    written : Noted m palette flat n (i + 1) (notedAt m palette flat n i s)
-    unfolding noted notedAt lightnessAt errorAt chromaError
+    written : Noted m palette flat n (i + 1) (squareAt m flat) (notedAt m palette flat n i s)
+    unfolding noted notedAt lightnessAt squareAt
     written =
         let a = lightnessAt m flat i in
-        let b = chromaError (correctedLab m flat i) (nominalLab flat i) in
+        let b = squareAt m flat i in
         let c = markAt palette flat i in
         record {
           l = λ j k. l-at a b c refl j (ℕ-discrete j i) k;
-          e = λ j k. e-at a b c (λ t. rw t) j (ℕ-discrete j i) k;
+          second = λ j k. second-at a b c refl j (ℕ-discrete j i) k;
           mark = λ j k. mark-at a b c refl j (ℕ-discrete j i) k;
         }
 
-    pub note-turn : {s′ : List Float} → s′ ≡ notedAt m palette flat n i s → Noted m palette flat n (i + 1) s′
+    note-turn : {s′ : List Float} → s′ ≡ notedAt m palette flat n i s → Noted m palette flat n (i + 1) (squareAt m flat) s′
     note-turn e = rw e written
 
-  pub note-done : {i : ℕ} {s : List Float} → Noted m palette flat n i s → n ≤ i → Noted m palette flat n n s
-  note-done inv h = record { l = λ j k. inv .l j (omega arith); e = λ j k. inv .e j (omega arith); mark = λ j k. inv .mark j (omega arith) }
+  note-done : {i : ℕ} {e : ℕ → Float} {s : List Float} → Noted m palette flat n i e s → n ≤ i → Noted m palette flat n n e s
+  note-done inv h = record { l = λ j k. inv .l j (omega arith); second = λ j k. inv .second j (omega arith); mark = λ j k. inv .mark j (omega arith) }
 
 -- ---- the corrected colours: a turn writes that of reference i and changes no other
 
@@ -128,7 +127,7 @@ module _ {m : IlluminationModel} {flat : List Float} {n : ℕ} where
 
 module _ {palette flat : List Float} {n : ℕ} where
   pub convert-begin : (s : List Float) → Converted palette flat n 0 s s
-  convert-begin s = record { done = λ m q. note-begin s; left = λ m q. q }
+  convert-begin s = record { done = λ m q. note-begin _ s; left = λ m q. q }
 
   module _ {i : ℕ} {t s s′ : List Float} (inv : Converted palette flat n i t s) (h : i < n) (l : length s ≡ 4 * n)
       (e : s′ ≡ noted (linearToLab (colourAt n i s)) palette flat n i s) (m : IlluminationModel) (q : Corrected m flat n 0 n t) where
@@ -147,8 +146,48 @@ module _ {palette flat : List Float} {n : ℕ} where
   pub convert-done : {i : ℕ} {t s : List Float} → Converted palette flat n i t s → n ≤ i → Converted palette flat n n t s
   convert-done inv h = record { done = λ m q. note-done (inv .done m q) h; left = λ m q. record { colour = λ j g k. absurd (omega arith) } }
 
-  pub converted-noted : {m : IlluminationModel} {t s : List Float} → Converted palette flat n n t s → Corrected m flat n 0 n t → Noted m palette flat n n s
-  converted-noted inv q = inv .done _ q
+-- ---- the roots: a turn takes that of reference i and changes nothing else
+
+pub root-begin : (n : ℕ) (s : List Float) → Rooted n 0 s s
+root-begin n s = record { root = λ j h. absurd (omega arith); before = λ j h. refl; after = λ j h. refl }
+
+pub root-turn : {n i : ℕ} {s t : List Float} (v : Float) → v ≡ sqrtOf (getD t (2 * n + i) nan) → Rooted n i s t → i < n → length t ≡ 4 * n
+    → Rooted n (i + 1) s (set t (2 * n + i) v)
+root-turn {n} {i} {s} {t} v ev inv h l =
+    record {
+      root = λ j k. at j (ℕ-discrete j i) k;
+      before = λ j k. other j (λ z. omega arith) ∙ inv .before j k;
+      after = λ j k. other j (λ z. omega arith) ∙ inv .after j (omega arith);
+    }
+  where
+    other : (j : ℕ) → j ≢ 2 * n + i → getD (set t (2 * n + i) v) j nan ≡ getD t j nan
+    other j q = getD-set-other t (2 * n + i) j v nan q
+
+    at : (j : ℕ) → Dec (j ≡ i) → j < i + 1 → getD (set t (2 * n + i) v) (2 * n + j) nan ≡ sqrtOf (getD s (2 * n + j) nan)
+    at j (yes q) k = rw q (getD-set-same t (2 * n + i) v nan (omega arith) ∙ ev ∙ ap sqrtOf (inv .after (2 * n + i) (omega arith)))
+    at j (no q) k = other (2 * n + j) (λ z. q (omega arith)) ∙ inv .root j (omega (arith, q))
+
+pub root-done : {n i : ℕ} {s t : List Float} → Rooted n i s t → i ≤ n → n ≤ i → Rooted n n s t
+root-done inv g h =
+    record {
+      root = λ j k. inv .root j (omega arith);
+      before = inv .before;
+      after = λ j k. inv .after j (omega arith);
+    }
+
+root-error : (m : IlluminationModel) (flat : List Float) (j : ℕ) → sqrtOf (squareAt m flat j) ≡ errorAt m flat j
+unfolding errorAt abDistance length2 squareAt squareOf
+root-error m flat j = refl
+
+module _ {m : IlluminationModel} {palette flat : List Float} {n : ℕ} where
+  pub all-noted : {r s t : List Float} → Rooted n n s t → Converted palette flat n n r s → Corrected m flat n 0 n r → Noted m palette flat n n (errorAt m flat) t
+  all-noted roots inv q =
+      let had = inv .done m q in
+      record {
+        l = λ j k. roots .before (n + j) (omega arith) ∙ had .l j k;
+        second = λ j k. roots .root j k ∙ ap sqrtOf (had .second j k) ∙ root-error m flat j;
+        mark = λ j k. roots .after (3 * n + j) (omega arith) ∙ had .mark j k;
+      }
 
 -- ---- a mark lies in a list's range exactly where the reference counts for the list
 
@@ -224,15 +263,6 @@ module _ (palette : List Float) (nominal : Lab) where
   unfolding markFor forLevelChroma
   light-colour-counts = level-colour-mark true (atLevel palette nominal) (isLight palette nominal) (colourful nominal)
 
-  -- a reference that counts for a level's chroma noise is colourful
-  level-colourful : (light : Bool) → forLevelChroma light palette nominal ≡ true → colourful nominal ≡ true
-  unfolding forLevelChroma
-  level-colourful light = go (colourful nominal) (sameLevel light (isLight palette nominal))
-    where
-      go : (a b : Bool) → (a && b) ≡ true → a ≡ true
-      go true b e = refl
-      go false b e = e
-
   -- a reference of the dark level is none of the light one
   one-level : forLevel false palette nominal ≡ true → forLevel true palette nominal ≡ false
   unfolding forLevel
@@ -243,7 +273,7 @@ module _ (palette : List Float) (nominal : Lab) where
       go true false e = refl
       go false b e = refl
 
-module _ {m : IlluminationModel} {palette flat : List Float} {n : ℕ} {s : List Float} (inv : Noted m palette flat n n s) where
+module _ {m : IlluminationModel} {palette flat : List Float} {n : ℕ} {s : List Float} (inv : Noted m palette flat n n (errorAt m flat) s) where
   spot : (a j : ℕ) → n + (a + j) ≡ n + a + j
   spot a j = omega arith
 
@@ -251,19 +281,19 @@ module _ {m : IlluminationModel} {palette flat : List Float} {n : ℕ} {s : List
   read a j b v e h = getD-drop n s (a + j) nan ∙ ap (λ (k : ℕ). getD s k nan) (spot a j ∙ ap (λ (k : ℕ). k + j) e) ∙ h
 
   module _ (at b : ℕ) (e : n + at ≡ b) (f : ℕ → Float) (lo hi : Float) (q : ℕ → Bool)
-      (reads : (j : ℕ) → j < n → q j ≡ true → getD s (b + j) nan ≡ f j) (counts : (j : ℕ) → marked lo hi (markAt palette flat j) ≡ q j) where
+      (reads : (j : ℕ) → j < n → getD s (b + j) nan ≡ f j) (counts : (j : ℕ) → marked lo hi (markAt palette flat j) ≡ q j) where
     same-list : pickedIn n at lo hi (drop n s) ≡ picked n 0 q f
     same-list =
         picked-same n 0 _ q _ f (λ j a k. ap (marked lo hi) (read (2 * n) j (3 * n) _ (omega arith) (inv .mark j (omega arith))) ∙ counts j)
-        (λ j a k t. read at j b _ e (reads j (omega arith) t))
+        (λ j a k. read at j b _ e (reads j (omega arith)))
 
   level-list : (light : Bool) → levelIn light n (drop n s) ≡ levelOf light m palette flat n
-  level-list true = same-list 0 n (omega arith) (lightnessAt m flat) m5 m6 _ (λ j k t. inv .l j k) (λ j. light-counts palette (nominalLab flat j))
-  level-list false = same-list 0 n (omega arith) (lightnessAt m flat) m1 m2 _ (λ j k t. inv .l j k) (λ j. dark-counts palette (nominalLab flat j))
+  level-list true = same-list 0 n (omega arith) (lightnessAt m flat) m5 m6 _ (inv .l) (λ j. light-counts palette (nominalLab flat j))
+  level-list false = same-list 0 n (omega arith) (lightnessAt m flat) m1 m2 _ (inv .l) (λ j. dark-counts palette (nominalLab flat j))
 
-  error-list : (lo hi : Float) (q : ℕ → Bool) → ((j : ℕ) → q j ≡ true → colourful (nominalLab flat j) ≡ true)
-      → ((j : ℕ) → marked lo hi (markAt palette flat j) ≡ q j) → pickedIn n n lo hi (drop n s) ≡ picked n 0 q (errorAt m flat)
-  error-list lo hi q only counts = same-list n (2 * n) (omega arith) (errorAt m flat) lo hi q (λ j k t. inv .e j k (only j t)) counts
+  error-list : (lo hi : Float) (q : ℕ → Bool) → ((j : ℕ) → marked lo hi (markAt palette flat j) ≡ q j)
+      → pickedIn n n lo hi (drop n s) ≡ picked n 0 q (errorAt m flat)
+  error-list lo hi q counts = same-list n (2 * n) (omega arith) (errorAt m flat) lo hi q (inv .second) counts
 
   -- the two levels' lists fit in one column
   pub levels-fit : length (levelIn false n (drop n s)) + length (levelIn true n (drop n s)) ≤ n
@@ -275,9 +305,9 @@ module _ {m : IlluminationModel} {palette flat : List Float} {n : ℕ} {s : List
       rw (
         level-list false,
         level-list true,
-        error-list m2 m5 _ (λ j t. t) (λ j. colour-counts palette (nominalLab flat j)),
-        error-list m2 m3 _ (λ j. level-colourful palette (nominalLab flat j) false) (λ j. dark-colour-counts palette (nominalLab flat j)),
-        error-list m4 m5 _ (λ j. level-colourful palette (nominalLab flat j) true) (λ j. light-colour-counts palette (nominalLab flat j)),
+        error-list m2 m5 _ (λ j. colour-counts palette (nominalLab flat j)),
+        error-list m2 m3 _ (λ j. dark-colour-counts palette (nominalLab flat j)),
+        error-list m4 m5 _ (λ j. light-colour-counts palette (nominalLab flat j)),
       )
 
   pub enough : {r : ChannelStats} → 8 ≤ n → r ≡ recordIn palette n (drop n s) → r ≡ measured m palette flat n

@@ -4,19 +4,22 @@ use mathlib.Core.Path.{_≡_}
 use mathlib.Core.Bool.{Bool, true, false, cond, _&&_}
 use mathlib.Core.List.{List, _++_, map}
 use Prim.Native.Nat.{ℕ, _+_, _*_, _≤_, _<_}
+use lib.Dec.{ltb}
 use lib.ListN.{length, getD, set}
-use lib.Ieee.{Float, nan, binary32, ofBits, le}
+use lib.Ieee.{Float, nan, binary32, add, sub, mul, ofBits, le, isNan}
+use Rattle.float.specs.Root.{sqrtOf}
 use Rattle.color.specs.declared.Linear.{Linear}
 use Rattle.color.specs.declared.Lab.{Lab}
-use Rattle.color.specs.Color.{abDistance}
+use Rattle.color.specs.Color.{linearToLab}
 use Rattle.order.specs.Median.{medianOf}
 use Rattle.order.specs.Deviation.{deviation}
 use Rattle.illum.specs.declared.IlluminationModel.{IlluminationModel}
+use Rattle.measure.specs.declared.Known.{Known}
 use Rattle.measure.specs.declared.Level.{Level}
 use Rattle.measure.specs.declared.Form.{Form}
 use Rattle.measure.specs.declared.Form.the-variants.{Plain, Less, Apart, LessApart}
 use Rattle.stats.specs.declared.ChannelStats.{ChannelStats}
-use Rattle.measure.specs.Measure.{figuresOf, recordOf, less, isLight, atLevel, colourful, correctedAt, correctedLab, nominalLab, lightnessAt, errorAt, picked}
+use Rattle.measure.specs.Measure.{figuresOf, recordOf, less, isLight, atLevel, colourful, correctedAt, correctedLab, nominalLab, lightnessAt, picked}
 
 -- ---- marks: which lists a reference counts for. From 1 to 2 dark lightness, 5 to 6 light lightness, 2 to 5 chroma, 2 to 3 dark chroma, 4 to 5 light chroma.
 
@@ -62,25 +65,70 @@ markAt palette flat i = markFor palette (nominalLab flat i)
 unfoldable pub marked : Float → Float → Float → Bool
 marked lo hi mark = le lo mark && le mark hi
 
+-- ---- what is known of a nominal colour, and the slots of six numbers in which it is remembered
+
+unfoldable pub knownOf : List Float → Linear → Known
+knownOf palette c = let nominal = linearToLab c in record { a = nominal .a; b = nominal .b; mark = markFor palette nominal }
+
+-- one float, and no NaN
+pub record Same (a b : Float) : Type 0 where
+  pub one : a ≡ b
+  pub real : isNan a ≡ false
+
+-- the colour in slot j, and what is known of it
+unfoldable pub colourIn : ℕ → List Float → Linear
+colourIn j memo = record { r = getD memo (6 * j) nan; g = getD memo (6 * j + 1) nan; b = getD memo (6 * j + 2) nan }
+
+unfoldable pub knownIn : ℕ → List Float → Known
+knownIn j memo = record { a = getD memo (6 * j + 3) nan; b = getD memo (6 * j + 4) nan; mark = getD memo (6 * j + 5) nan }
+
+-- slot j is in use, by colour c
+pub record Held (j : ℕ) (c : Linear) (memo : List Float) : Type 0 where
+  pub used : isNan (getD memo (6 * j) nan) ≡ false
+  pub colour : colourIn j memo ≡ c
+
+-- every slot in use holds a colour with what is known of it
+pub record Remembered (palette memo : List Float) : Type 0 where
+  pub long : length memo ≡ 1536
+  pub slot : (j : ℕ) → j < 256 → isNan (getD memo (6 * j) nan) ≡ false → knownIn j memo ≡ knownOf palette (colourIn j memo)
+
+-- a colour, and what is known of it, written into slot j
+abbrev pub kept : ℕ → Linear → Known → List Float → List Float
+kept j c k memo =
+    let colour = set (set (set memo (6 * j) (c .r)) (6 * j + 1) (c .g)) (6 * j + 2) (c .b) in
+    set (set (set colour (6 * j + 3) (k .a)) (6 * j + 4) (k .b)) (6 * j + 5) (k .mark)
+
 -- ---- what is written of reference i of n
 
--- the chroma error of a colourful reference; 0 of any other, which is listed nowhere
-unfoldable pub chromaError : Lab → Lab → Float
-chromaError c nominal = cond (colourful nominal) (abDistance c nominal) m0
+-- the square of the chroma error: the distance in the plane of a and b is its root
+unfoldable pub squareOf : Lab → Lab → Float
+squareOf c d =
+    let da = sub binary32 (c .a) (d .a) in
+    let db = sub binary32 (c .b) (d .b) in
+    add binary32 (mul binary32 da da) (mul binary32 db db)
+
+unfoldable pub squareAt : IlluminationModel → List Float → ℕ → Float
+squareAt m flat i = squareOf (correctedLab m flat i) (nominalLab flat i)
 
 -- of a reference whose corrected Lab is c
 unfoldable pub noted : Lab → List Float → List Float → ℕ → ℕ → List Float → List Float
 noted c palette flat n i s =
-    set (set (set s (n + i) (c .l)) (2 * n + i) (chromaError c (nominalLab flat i))) (3 * n + i) (markAt palette flat i)
+    set (set (set s (n + i) (c .l)) (2 * n + i) (squareOf c (nominalLab flat i))) (3 * n + i) (markAt palette flat i)
 
 unfoldable pub notedAt : IlluminationModel → List Float → List Float → ℕ → ℕ → List Float → List Float
 notedAt m palette flat n i s = noted (correctedLab m flat i) palette flat n i s
 
--- the columns of k references are written, the chroma errors of the colourful ones
-pub record Noted (m : IlluminationModel) (palette flat : List Float) (n k : ℕ) (s : List Float) : Type 0 where
+-- the columns of k references are written; e of each is in the second
+pub record Noted (m : IlluminationModel) (palette flat : List Float) (n k : ℕ) (e : ℕ → Float) (s : List Float) : Type 0 where
   pub l : (j : ℕ) → j < k → getD s (n + j) nan ≡ lightnessAt m flat j
-  pub e : (j : ℕ) → j < k → colourful (nominalLab flat j) ≡ true → getD s (2 * n + j) nan ≡ errorAt m flat j
+  pub second : (j : ℕ) → j < k → getD s (2 * n + j) nan ≡ e j
   pub mark : (j : ℕ) → j < k → getD s (3 * n + j) nan ≡ markAt palette flat j
+
+-- t is s with the roots of the second column's first k
+pub record Rooted (n k : ℕ) (s t : List Float) : Type 0 where
+  pub root : (j : ℕ) → j < k → getD t (2 * n + j) nan ≡ sqrtOf (getD s (2 * n + j) nan)
+  pub before : (j : ℕ) → j < 2 * n → getD t j nan ≡ getD s j nan
+  pub after : (j : ℕ) → 2 * n + k ≤ j → getD t j nan ≡ getD s j nan
 
 -- ---- the corrected colours, which stand in the columns until these are written
 
@@ -98,7 +146,7 @@ pub record Corrected (m : IlluminationModel) (flat : List Float) (n a b : ℕ) (
 
 -- where t holds the corrected colours of all n, by whichever model, s has those of k references replaced by their numbers
 pub record Converted (palette flat : List Float) (n k : ℕ) (t s : List Float) : Type 0 where
-  pub done : (m : IlluminationModel) → Corrected m flat n 0 n t → Noted m palette flat n k s
+  pub done : (m : IlluminationModel) → Corrected m flat n 0 n t → Noted m palette flat n k (squareAt m flat) s
   pub left : (m : IlluminationModel) → Corrected m flat n 0 n t → Corrected m flat n k n s
 
 -- ---- the list of a column's elements whose mark is from lo to hi. t has the three columns after the first, and `column` is where one starts.
@@ -144,6 +192,9 @@ pub record Listed : Type 0 where
 abbrev pub listed : List Float → ℕ → Listed
 listed s k = record { s = s; k = k }
 
+-- it is written at place k, in the room of n, and counted where its mark is from lo to hi
 unfoldable pub listAt : ℕ → ℕ → Float → Float → Form → ℕ → ℕ → List Float → Listed
 listAt n column lo hi form i k s =
-    cond (marked lo hi (getD s (3 * n + i) nan)) (listed (set s k (formed form (getD s (n + column + i) nan))) (k + 1)) (listed s k)
+    cond (ltb k n)
+    (listed (set s k (formed form (getD s (n + column + i) nan))) (cond (marked lo hi (getD s (3 * n + i) nan)) (k + 1) k))
+    (listed s k)

@@ -48,14 +48,6 @@ fn seen_at(flat: &[f32], i: usize) -> Seen
     }
 }
 
-// The Lab of the nominal colour of reference i.
-fn nominal_lab(flat: &[f32], i: usize) -> Lab
-    requires { ⌜ 8 * i + 8 ≤ length (now flat) ⌝ }
-    ensures { λ r. ⌜ r ≡ spec.nominalLab (now (flat .entry)) i ⌝ }
-{
-    color::linear_to_lab(references::nominal_at(flat, i))
-}
-
 // The lightness between the palette's two levels.
 fn middle(palette: &[f32]) -> f32
     requires { ⌜ 2 ≤ length (now palette) ⌝ }
@@ -120,26 +112,112 @@ fn mark_of(near: bool, light: bool, colourful: bool) -> f32
 }
 
 // The mark of a reference with this nominal colour, mid being the lightness between the palette's two levels.
-fn mark_for(palette: &[f32], mid: f32, nominal: Lab, colourful: bool) -> f32
-    requires { ⌜ (2 ≤ length (now palette)) × (mid ≡ spec.middle (now palette)) × (colourful ≡ spec.colourful nominal) ⌝ }
+fn mark_for(palette: &[f32], mid: f32, nominal: Lab) -> f32
+    requires { ⌜ (2 ≤ length (now palette)) × (mid ≡ spec.middle (now palette)) ⌝ }
     ensures { λ r. ⌜ r ≡ column.markFor (now (palette .entry)) nominal ⌝ }
 {
     let light = nominal.l >= mid;
     let near = at_level(palette, nominal, light);
-    mark_of(near, light, colourful)
+    mark_of(near, light, colourful(nominal))
 }
 
-// The chroma error: how far a colourful reference is from its nominal colour in the plane of a and b. That of any other is listed
-// nowhere, so no root is taken and it is 0.
-fn chroma_error(corrected: Lab, nominal: Lab, colourful: bool) -> f32
-    requires { ⌜ colourful ≡ spec.colourful nominal ⌝ }
-    ensures { λ r. ⌜ r ≡ column.chromaError corrected nominal ⌝ }
-{
-    if colourful {
-        return corrected.ab_distance(nominal);
-    }
-    0.0
+// ---- the nominal colours that were seen. References have few of them, a palette's, black and white, and each costs three cube
+// roots: so what was found out is kept, in 256 slots of six numbers, a colour and what is known of it. An empty slot has a NaN
+// first.
+
+// What is known of a nominal colour: a and b of its Lab, and the mark of a reference that has it.
+struct Known {
+    a: f32,
+    b: f32,
+    mark: f32,
 }
+
+// Finds it out; mid as in `mark_for`.
+fn known_of(palette: &[f32], mid: f32, c: Linear) -> Known
+    requires { ⌜ (2 ≤ length (now palette)) × (mid ≡ spec.middle (now palette)) ⌝ }
+    ensures { λ r. ⌜ r ≡ column.knownOf (now (palette .entry)) c ⌝ }
+{
+    let nominal = color::linear_to_lab(c);
+    let mark = mark_for(palette, mid, nominal);
+    Known {
+        a: nominal.a,
+        b: nominal.b,
+        mark,
+    }
+}
+
+// The bit pattern of a float; 0 of a NaN.
+fn pattern(x: f32) -> u64
+    ensures { λ r. ⌜ r < 0x1_0000_0000 ⌝ }
+{
+    if x != x {
+        return 0;
+    }
+    f32::to_bits(x) as u64
+}
+
+// The slot of a colour. Any will do: one that two colours share is found out anew where they take turns.
+fn slot_of(c: Linear) -> usize
+    ensures { λ r. ⌜ r < 256 ⌝ }
+{
+    ((pattern(c.r) + 3 * pattern(c.g) + 5 * pattern(c.b)) / 4096 % 256) as usize
+}
+
+// Only where two floats are one, bit for bit, as +0 and -0 are not; a NaN is taken for no other.
+fn same(a: f32, b: f32) -> bool
+    ensures { λ r. ⌜ (r ≡ true → column.Same a b) ⌝ }
+{
+    if a == b {
+        return f32::to_bits(a) == f32::to_bits(b);
+    }
+    false
+}
+
+// Only where slot j holds this colour.
+fn holds(memo: &[f32; 1536], j: usize, c: Linear) -> bool
+    requires { ⌜ j < 256 ⌝ }
+    ensures { λ r. ⌜ (r ≡ true → column.Held j c (now (memo .entry))) ⌝ }
+{
+    if same(memo[6 * j], c.r) {
+        if same(memo[6 * j + 1], c.g) {
+            return same(memo[6 * j + 2], c.b);
+        }
+    }
+    false
+}
+
+// Writes a colour, and what is known of it, into slot j.
+fn keep(memo: &mut [f32; 1536], j: usize, c: Linear, known: Known)
+    requires { ⌜ j < 256 ⌝ }
+    ensures { λ _. ⌜ now (memo .exit) ≡ column.kept j c known (now (memo .entry)) ⌝ }
+{
+    memo[6 * j] = c.r;
+    memo[6 * j + 1] = c.g;
+    memo[6 * j + 2] = c.b;
+    memo[6 * j + 3] = known.a;
+    memo[6 * j + 4] = known.b;
+    memo[6 * j + 5] = known.mark;
+}
+
+// What is known of a nominal colour: from its slot, or found out and kept there; mid as in `mark_for`.
+fn recall(palette: &[f32], mid: f32, c: Linear, memo: &mut [f32; 1536]) -> Known
+    requires { ⌜ (2 ≤ length (now palette)) × (mid ≡ spec.middle (now palette)) × column.Remembered (now palette) (now memo) ⌝ }
+    ensures { λ r. ⌜ (r ≡ column.knownOf (now (palette .entry)) c) × column.Remembered (now (palette .entry)) (now (memo .exit)) ⌝ }
+{
+    let j = slot_of(c);
+    if holds(memo, j, c) {
+        return Known {
+            a: memo[6 * j + 3],
+            b: memo[6 * j + 4],
+            mark: memo[6 * j + 5],
+        };
+    }
+    let known = known_of(palette, mid, c);
+    keep(memo, j, c, known);
+    known
+}
+
+// ---- the columns are written
 
 // Writes three numbers of reference i of n, each into its column.
 fn place(n: usize, i: usize, a: f32, b: f32, c: f32, s: &mut [f32])
@@ -164,21 +242,28 @@ fn correct(model: IlluminationModel, flat: &[f32], n: usize, s: &mut [f32])
     }
 }
 
-// Writes the three numbers of reference i of n over its corrected colour; mid as in `mark_for`.
-fn note_at(palette: &[f32], mid: f32, flat: &[f32], n: usize, i: usize, s: &mut [f32])
-    requires { ⌜ (n ≤ 16384) × (i < n) × (8 * n ≤ length (now flat)) × (2 ≤ length (now palette)) × (mid ≡ spec.middle (now palette)) × (length (now s) ≡ 4 * n) ⌝ }
-    ensures { λ _. ⌜ now (s .exit) ≡ column.noted (linearToLab (column.colourAt n i (now (s .entry)))) (now (palette .entry)) (now (flat .entry)) n i (now (s .entry)) ⌝ }
+// Writes the three numbers of reference i of n over its corrected colour, the chroma error squared; mid as in `mark_for`.
+fn note_at(
+    palette: &[f32],
+    mid: f32,
+    flat: &[f32],
+    n: usize,
+    i: usize,
+    s: &mut [f32],
+    memo: &mut [f32; 1536],
+)
+    requires { ⌜ (n ≤ 16384) × (i < n) × (8 * n ≤ length (now flat)) × (2 ≤ length (now palette)) × (mid ≡ spec.middle (now palette)) × (length (now s) ≡ 4 * n) × column.Remembered (now palette) (now memo) ⌝ }
+    ensures { λ _. ⌜ (now (s .exit) ≡ column.noted (linearToLab (column.colourAt n i (now (s .entry)))) (now (palette .entry)) (now (flat .entry)) n i (now (s .entry))) × column.Remembered (now (palette .entry)) (now (memo .exit)) ⌝ }
 {
     let corrected = color::linear_to_lab(Linear {
         r: s[n + i],
         g: s[2 * n + i],
         b: s[3 * n + i],
     });
-    let nominal = nominal_lab(flat, i);
-    let is_colourful = colourful(nominal);
-    let error = chroma_error(corrected, nominal, is_colourful);
-    let mark = mark_for(palette, mid, nominal, is_colourful);
-    place(n, i, corrected.l, error, mark, s);
+    let nominal = recall(palette, mid, references::nominal_at(flat, i), memo);
+    let da = corrected.a - nominal.a;
+    let db = corrected.b - nominal.b;
+    place(n, i, corrected.l, da * da + db * db, nominal.mark, s);
 }
 
 // Writes them of all n over the corrected colours.
@@ -187,18 +272,32 @@ fn convert(palette: &[f32], flat: &[f32], n: usize, s: &mut [f32])
     ensures { λ _. ⌜ column.Converted (now (palette .entry)) (now (flat .entry)) n n (now (s .entry)) (now (s .exit)) ⌝ }
 {
     let mid = middle(palette);
+    let empty = 0.0f32 / 0.0f32;
+    let mut memo = [empty; 1536];
     for i in 0..n {
-        note_at(palette, mid, flat, n, i, s);
+        note_at(palette, mid, flat, n, i, s, &mut memo);
     }
 }
 
-// Writes them of all n: all are corrected first and then converted, which takes less time than one loop that does both.
+// Takes the roots of the squared chroma errors.
+fn roots(n: usize, s: &mut [f32])
+    requires { ⌜ (n ≤ 16384) × (length (now s) ≡ 4 * n) ⌝ }
+    ensures { λ _. ⌜ column.Rooted n n (now (s .entry)) (now (s .exit)) ⌝ }
+{
+    for i in 0..n {
+        s[2 * n + i] = float::sqrt(s[2 * n + i]);
+    }
+}
+
+// Writes them of all n: all are corrected, then converted, and then the roots are taken, which takes less time than one loop that
+// does it all.
 fn note(model: IlluminationModel, palette: &[f32], flat: &[f32], n: usize, s: &mut [f32])
     requires { ⌜ (n ≤ 16384) × (8 * n ≤ length (now flat)) × (2 ≤ length (now palette)) × (length (now s) ≡ 4 * n) ⌝ }
-    ensures { λ _. ⌜ column.Noted model (now (palette .entry)) (now (flat .entry)) n n (now (s .exit)) ⌝ }
+    ensures { λ _. ⌜ column.Noted model (now (palette .entry)) (now (flat .entry)) n n (spec.errorAt model (now (flat .entry))) (now (s .exit)) ⌝ }
 {
     correct(model, flat, n, s);
     convert(palette, flat, n, s);
+    roots(n, s);
 }
 
 // ---- the lists
@@ -233,6 +332,8 @@ fn marked(lo: f32, hi: f32, mark: f32) -> bool
 }
 
 // Lists the number of reference i in a column, where its mark is from lo to hi: k were listed before, and one more may be after.
+// It is written at place k whatever its mark, as long as that is in the list's room, and counted where the mark says so: what
+// stands at place k and after is of no use, and a branch on the mark would often be guessed wrong.
 fn list_at(
     s: &mut [f32],
     n: usize,
@@ -243,12 +344,15 @@ fn list_at(
     i: usize,
     k: usize,
 ) -> usize
-    requires { ⌜ (n ≤ 16384) × (i < n) × (at ≤ n) × (k ≤ n) × (length (now s) ≡ 4 * n) × (column.marked lo hi (getD (now s) (3 * n + i) nan) ≡ true → k < n) ⌝ }
+    requires { ⌜ (n ≤ 16384) × (i < n) × (at ≤ n) × (length (now s) ≡ 4 * n) ⌝ }
     ensures { λ r. ⌜ column.listed (now (s .exit)) r ≡ column.listAt n at lo hi form i k (now (s .entry)) ⌝ }
 {
-    if marked(lo, hi, s[3 * n + i]) {
+    let counts = marked(lo, hi, s[3 * n + i]);
+    if k < n {
         s[k] = formed(form, s[n + at + i]);
-        return k + 1;
+        if counts {
+            return k + 1;
+        }
     }
     k
 }

@@ -1,24 +1,31 @@
--- `measure::convert` meets its contract: before turn i the numbers of i references are written, and the colours of the others stand. Assumes nothing.
+-- `measure::convert` meets its contract: before turn i the numbers of i references are written, the colours of the others stand,
+-- and every slot in use holds a colour with what is known of it. Assumes nothing.
 use mathlib.Core.Path.{_≡_}
 use Prim.Native.Nat.{_*_, _-_}
 use lib.ListN.{length}
-use Rattle.measure.specs.Columns.{Converted}
+use lib.Ieee.{binary32}
+use Rattle.floatlaws.specs.Nan.{zero-by-zero}
+use Rattle.measure.specs.Columns.{Converted, Remembered}
 use Rattle.measure.proofs.Noting.{convert-begin, convert-turn, convert-done}
+use Rattle.measure.proofs.Remembering.{none-seen}
 use borrow.Author.Needs.{needs}
 use Rattle.measure.proofs.convert.Statement.{statement}
 use Rattle.measure.proofs.convert.Tie as tie
 
 abbrev Inv-loop : tie.InvT-loop
-Inv-loop palette flat n s₀ mid i₀ s i = (length s ≡ 4 * n) × Converted palette flat n i s₀ s
+Inv-loop palette flat n s₀ mid empty memo₀ i₀ s memo i = (length s ≡ 4 * n) × Converted palette flat n i s₀ s × Remembered palette memo
 
 abbrev μ-loop : tie.MeasureT-loop
-μ-loop palette flat n s₀ mid i₀ s i = n - i
+μ-loop palette flat n s₀ mid empty memo₀ i₀ s memo i = n - i
 
 loop-holds : tie.Need-loop-holds Inv-loop μ-loop
-loop-holds c = (search needs, convert-begin _)
+loop-holds c = (search needs, convert-begin _, none-seen _ _ (zero-by-zero binary32))
 
 loop-again : tie.Need-loop-again Inv-loop μ-loop
-loop-again c = (search needs, convert-turn (c .before .before .note-at .ensures) (c .before .before .before .before .before .loop .inv .1) (c .before .before .before .before .loop-test .taken) (c .before .before .before .before .before .loop .inv .0))
+loop-again c =
+    let inv = c .before .before .before .before .before .before .loop .inv in
+    let written = c .before .before .note-at .ensures in
+    (search needs, convert-turn (written .0) (inv .1) (c .before .before .before .before .before .loop-test .taken) (inv .0), written .1)
 
 returns : tie.Need-returns Inv-loop μ-loop
 returns c = search (convert-done, needs)

@@ -3,7 +3,7 @@ use mathlib.Core.List.{_++_, map}
 use Prim.Native.Nat.{_+_, _-_}
 use lib.ListN.{length, take, drop}
 use Rattle.measure.specs.Columns.{formed, pickedIn}
-use Rattle.measure.proofs.Listing.{Listing, list-begin, list-upto, list-room, list-turn, list-taken, list-count, list-kept}
+use Rattle.measure.proofs.Listing.{Listing, list-begin, list-upto, list-long, list-turn, list-taken, list-count, list-kept}
 use borrow.Author.Needs.{needs}
 use Rattle.measure.proofs.list.Statement.{statement}
 use Rattle.measure.proofs.list.Tie as tie
@@ -19,7 +19,7 @@ loop-holds : tie.Need-loop-holds Inv-loop μ-loop
 loop-holds c = search (list-begin, needs)
 
 list-at-requires : tie.Need-list-at-requires Inv-loop μ-loop
-list-at-requires c κs = search (list-upto, list-room, needs)
+list-at-requires c κs = search (list-long, needs)
 
 loop-again : tie.Need-loop-again Inv-loop μ-loop
 loop-again c = search (list-turn, needs)

@@ -28,4 +28,4 @@ returns c = search (mark)
 pub mark-for-spec : {M : Type 1} → statement M
 mark-for-spec =
     tie.close
-    (tie.spec at-level-requires (λ c κs. search needs) returns)
+    (tie.spec at-level-requires (λ c κs. search needs) (λ c κs. search needs) returns)

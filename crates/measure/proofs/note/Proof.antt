@@ -1,13 +1,13 @@
--- `measure::note` meets its contract: the model that corrected the colours is its own. Assumes nothing.
-use Rattle.measure.proofs.Noting.{converted-noted}
+-- `measure::note` meets its contract: the model that corrected the colours is its own, and the roots are taken of the squares. Assumes nothing.
+use Rattle.measure.proofs.Noting.{all-noted}
 use borrow.Author.Needs.{needs}
 use Rattle.measure.proofs.note.Statement.{statement}
 use Rattle.measure.proofs.note.Tie as tie
 
 returns : tie.Need-returns
-returns c = search (converted-noted)
+returns c = all-noted (c .before .before .roots .ensures) (c .before .before .before .before .before .before .convert .ensures) (c .before .before .before .before .before .before .before .before .before .before .correct .ensures)
 
 pub note-spec : {M : Type 1} → statement M
 note-spec =
     tie.close
-    (tie.spec (λ c κs. search needs) (λ c κs. search needs) (λ c. search needs) returns)
+    (tie.spec (λ c κs. search needs) (λ c κs. search needs) (λ c κs. search needs) (λ c. search needs) returns)
