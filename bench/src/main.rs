@@ -79,7 +79,7 @@ fn main() {
         [word, name, side] if word == "count" => return count(name, side),
         _ => {}
     }
-    println!("{:24} {:>14} {:>14} {:>8}", "", "Rust ns", "ours ns", "ratio");
+    println!("{:26} {:>14} {:>14} {:>8}", "", "Rust ns", "ours ns", "ratio");
     let mut ours = ours::cases();
     let asked = |c: &Case| words.is_empty() || words.iter().any(|w| c.name.starts_with(w.as_str()));
     for mut theirs in rust::cases().into_iter().filter(asked) {
@@ -97,9 +97,9 @@ fn main() {
         match other {
             Some(case) => {
                 let ours = unit(b, case);
-                println!("{:24} {rust:14.1} {ours:14.1} {:8.2}", theirs.name, ours / rust);
+                println!("{:26} {rust:14.1} {ours:14.1} {:8.2}", theirs.name, ours / rust);
             }
-            None => println!("{:24} {rust:14.1}", theirs.name),
+            None => println!("{:26} {rust:14.1}", theirs.name),
         }
     }
 }

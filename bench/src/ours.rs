@@ -208,6 +208,17 @@ mod linked {
         })
     }
 
+    fn measurements_in_turn() -> Case {
+        let mut lists = Lists::new(seen(32, 4, 256));
+        let (model, orders) = (lists.fit(1), lists.card.orders());
+        let mut turn = 0;
+        case("measure 256, in 64 orders", 1, move || {
+            turn += 1;
+            lists.card.flat_references.clone_from(&orders[turn % 64]);
+            black_box(black_box(&mut lists).measure(model));
+        })
+    }
+
     fn scores(name: &'static str, k: usize) -> Case {
         let mut lists = Lists::new(seen(32, k, 64));
         let model = lists.fit(1);
@@ -263,6 +274,7 @@ mod linked {
             fits("fit 256", 256),
             fits("fit 1024", 1024),
             measurements(),
+            measurements_in_turn(),
             scores("score a module, 1 hue", 1),
             scores("score a module, 2 hues", 2),
             scores("score a module, 4 hues", 4),

@@ -49,6 +49,17 @@ impl Seen {
         references(&self.flat_references, self.flat_references.len() / 8)
     }
 
+    /// The references in 64 random orders.
+    pub fn orders(&self) -> Vec<Vec<f32>> {
+        let rng = &mut Rng::new(64);
+        let mut one: Vec<&[f32]> = self.flat_references.chunks(8).collect();
+        let mut shuffled = || {
+            (1..one.len()).rev().for_each(|i| one.swap(i, rng.below(i + 1)));
+            one.concat()
+        };
+        (0..64).map(|_| shuffled()).collect()
+    }
+
     fn colours(&self) -> Vec<Linear> {
         self.raw.chunks(3).map(linear).collect()
     }
@@ -126,6 +137,19 @@ fn measurements() -> Case {
     })
 }
 
+/// The same references in 64 orders, one after the other: a processor learns the branches of a call that is made again and again.
+fn measurements_in_turn() -> Case {
+    let card = seen(32, 4, 256);
+    let (orders, palette) = (card.orders(), card.palette());
+    let orders: Vec<Vec<Reference>> = orders.iter().map(|flat| references(flat, 256)).collect();
+    let model = IlluminationModel::fit(&card.references(), 32, 1);
+    let mut turn = 0;
+    case("measure 256, in 64 orders", 1, move || {
+        turn += 1;
+        black_box(measure(black_box(&orders[turn % 64]), &model, &palette));
+    })
+}
+
 /// `demodulate` with or without its last call, over a card of 32 by 32 modules.
 fn scores(name: &'static str, k: usize, refining: bool) -> Case {
     let card = seen(32, k, 64);
@@ -185,6 +209,7 @@ pub fn cases() -> Vec<Case> {
         fits("fit 256", 256),
         fits("fit 1024", 1024),
         measurements(),
+        measurements_in_turn(),
         scores("score a module, 1 hue", 1, false),
         scores("score a module, 2 hues", 2, false),
         scores("score a module, 4 hues", 4, false),
