@@ -447,6 +447,15 @@ fn deviate(out: &mut [f32], values: &[f32], m: f32)
     }
 }
 
+// Core: replaces each value by its distance from m.
+pub fn deviate_in(values: &mut [f32], m: f32)
+    ensures { λ _. ⌜ now (values .exit) ≡ map (deviation m) (now (values .entry)) ⌝ }
+{
+    for i in 0..values.len() {
+        values[i] = float::abs(values[i] - m);
+    }
+}
+
 // Writes zeros to the first n elements.
 fn clear(out: &mut [f32], n: usize)
     requires { ⌜ n ≤ length (now out) ⌝ }
