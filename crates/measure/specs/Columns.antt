@@ -6,7 +6,7 @@ use mathlib.Core.List.{List, _++_, map}
 use Prim.Native.Nat.{ℕ, _+_, _*_, _≤_, _<_}
 use lib.Dec.{ltb}
 use lib.ListN.{length, getD, set}
-use lib.Ieee.{Float, nan, binary32, add, sub, mul, ofBits, le, isNan}
+use lib.Ieee.{Float, nan, binary32, add, sub, mul, ofBits, le, eq, isNan}
 use Rattle.float.specs.Root.{sqrtOf}
 use Rattle.color.specs.declared.Linear.{Linear}
 use Rattle.color.specs.declared.Lab.{Lab}
@@ -100,6 +100,10 @@ kept j c k memo =
 
 -- ---- what is written of reference i of n
 
+-- a number of a reference with this mark: 0 where the mark is 0, since it counts for no list
+unfoldable pub counted : Float → Float → Float
+counted mark v = cond (eq mark m0) m0 v
+
 -- the square of the chroma error: the distance in the plane of a and b is its root
 unfoldable pub squareOf : Lab → Lab → Float
 squareOf c d =
@@ -110,18 +114,23 @@ squareOf c d =
 unfoldable pub squareAt : IlluminationModel → List Float → ℕ → Float
 squareAt m flat i = squareOf (correctedLab m flat i) (nominalLab flat i)
 
--- of a reference whose corrected Lab is c
+-- three numbers, each written into its column
+abbrev pub placed : ℕ → ℕ → Float → Float → Float → List Float → List Float
+placed n i a b c s = set (set (set s (n + i) a) (2 * n + i) b) (3 * n + i) c
+
+-- those of a reference whose corrected Lab is c
 unfoldable pub noted : Lab → List Float → List Float → ℕ → ℕ → List Float → List Float
 noted c palette flat n i s =
-    set (set (set s (n + i) (c .l)) (2 * n + i) (squareOf c (nominalLab flat i))) (3 * n + i) (markAt palette flat i)
+    let mark = markAt palette flat i in
+    placed n i (counted mark (c .l)) (counted mark (squareOf c (nominalLab flat i))) mark s
 
 unfoldable pub notedAt : IlluminationModel → List Float → List Float → ℕ → ℕ → List Float → List Float
 notedAt m palette flat n i s = noted (correctedLab m flat i) palette flat n i s
 
 -- the columns of k references are written; e of each is in the second
 pub record Noted (m : IlluminationModel) (palette flat : List Float) (n k : ℕ) (e : ℕ → Float) (s : List Float) : Type 0 where
-  pub l : (j : ℕ) → j < k → getD s (n + j) nan ≡ lightnessAt m flat j
-  pub second : (j : ℕ) → j < k → getD s (2 * n + j) nan ≡ e j
+  pub l : (j : ℕ) → j < k → getD s (n + j) nan ≡ counted (markAt palette flat j) (lightnessAt m flat j)
+  pub second : (j : ℕ) → j < k → getD s (2 * n + j) nan ≡ counted (markAt palette flat j) (e j)
   pub mark : (j : ℕ) → j < k → getD s (3 * n + j) nan ≡ markAt palette flat j
 
 -- t is s with the roots of the second column's first k
@@ -132,11 +141,7 @@ pub record Rooted (n k : ℕ) (s t : List Float) : Type 0 where
 
 -- ---- the corrected colours, which stand in the columns until these are written
 
--- three numbers of a reference, each written into its column
-abbrev pub placed : ℕ → ℕ → Float → Float → Float → List Float → List Float
-placed n i a b c s = set (set (set s (n + i) a) (2 * n + i) b) (3 * n + i) c
-
--- the colour whose components stand there
+-- the colour whose components stand at reference i
 unfoldable pub colourAt : ℕ → ℕ → List Float → Linear
 colourAt n i s = record { r = getD s (n + i) nan; g = getD s (2 * n + i) nan; b = getD s (3 * n + i) nan }
 

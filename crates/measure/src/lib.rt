@@ -242,7 +242,9 @@ fn correct(model: IlluminationModel, flat: &[f32], n: usize, s: &mut [f32])
     }
 }
 
-// Writes the three numbers of reference i of n over its corrected colour, the chroma error squared; mid as in `mark_for`.
+// Writes the three numbers of reference i of n over its corrected colour, the chroma error squared; mid as in `mark_for`. A
+// reference whose mark is 0, as white and black cells of a card's border have it, counts for no list: its other numbers are 0,
+// since finding them out would take three cube roots.
 fn note_at(
     palette: &[f32],
     mid: f32,
@@ -255,12 +257,16 @@ fn note_at(
     requires { ⌜ (n ≤ 16384) × (i < n) × (8 * n ≤ length (now flat)) × (2 ≤ length (now palette)) × (mid ≡ spec.middle (now palette)) × (length (now s) ≡ 4 * n) × column.Remembered (now palette) (now memo) ⌝ }
     ensures { λ _. ⌜ (now (s .exit) ≡ column.noted (linearToLab (column.colourAt n i (now (s .entry)))) (now (palette .entry)) (now (flat .entry)) n i (now (s .entry))) × column.Remembered (now (palette .entry)) (now (memo .exit)) ⌝ }
 {
+    let nominal = recall(palette, mid, references::nominal_at(flat, i), memo);
+    if nominal.mark == 0.0 {
+        place(n, i, 0.0, 0.0, nominal.mark, s);
+        return;
+    }
     let corrected = color::linear_to_lab(Linear {
         r: s[n + i],
         g: s[2 * n + i],
         b: s[3 * n + i],
     });
-    let nominal = recall(palette, mid, references::nominal_at(flat, i), memo);
     let da = corrected.a - nominal.a;
     let db = corrected.b - nominal.b;
     place(n, i, corrected.l, da * da + db * db, nominal.mark, s);
