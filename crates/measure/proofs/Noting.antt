@@ -19,9 +19,12 @@ use Rattle.color.specs.declared.Linear.{Linear}
 use Rattle.color.specs.declared.Lab.{Lab}
 use Rattle.color.specs.Color.{linearToLab, abDistance, length2}
 use Rattle.illum.specs.declared.IlluminationModel.{IlluminationModel}
-use Rattle.measure.specs.Measure.{picked, sameLevel, atLevel, isLight, colourful, correctedAt, correctedLab, nominalLab, lightnessAt, errorAt, forLevel, forLevelChroma, levelOf, errorsOf, levelErrorsOf, recordOf, measuredOf, measured}
-use Rattle.measure.specs.Columns.{m0, m1, m2, m3, m4, m5, m6, markOf, markFor, markAt, marked, counted, squareOf, squareAt, noted, notedAt, Noted, Rooted, placed, colourAt, Corrected, Converted, pickedIn, levelIn, recordIn}
+use Rattle.measure.specs.Measure.{picked, sameLevel, atLevel, isLight, colourful, correctedAt, correctedLab, nominalLab, lightnessAt, errorAt, forLevel, forLevelChroma, levelOf, errorsOf, levelErrorsOf, recordOf, measuredOf, measured, badCorrected}
+use Rattle.measure.specs.Columns.{m0, m1, m2, m3, m4, m5, m6, markOf, markFor, markAt, marked, counted, squareOf, squareAt, noted, notedAt, Noted, Rooted, placed, colourAt, Corrected, Converted, pickedIn, levelIn, RealSpreads, recordIn}
+use Rattle.order.specs.Median.{medianOf}
+use Rattle.references.specs.References.{wildColours}
 use Rattle.measure.proofs.Lists.{picked-same, picked-two}
+use Rattle.measure.proofs.Passes.{F32, late, lights-real, errors-real}
 
 -- ---- three writes at x < y < z
 module _ (s : List Float) (x y z : ℕ) (a b c : Float) where
@@ -336,20 +339,34 @@ module _ {m : IlluminationModel} {palette flat : List Float} {n : ℕ} {s : List
       → pickedIn n n lo hi (drop n s) ≡ picked n 0 q (errorAt m flat)
   error-list lo hi q out counts = same-list n (2 * n) (omega arith) (errorAt m flat) lo hi q (inv .second) out counts
 
+  errors-list : pickedIn n n m2 m5 (drop n s) ≡ errorsOf m flat n
+  unfolding marked ofBits le lt eq
+  errors-list = error-list m2 m5 _ refl (λ j. colour-counts palette (nominalLab flat j))
+
+  level-errors-list : (light : Bool) → cond light (pickedIn n n m4 m5 (drop n s)) (pickedIn n n m2 m3 (drop n s)) ≡ levelErrorsOf light m palette flat n
+  unfolding marked ofBits le lt eq
+  level-errors-list true = error-list m4 m5 _ refl (λ j. light-colour-counts palette (nominalLab flat j))
+  level-errors-list false = error-list m2 m3 _ refl (λ j. dark-colour-counts palette (nominalLab flat j))
+
   -- the two levels' lists fit in one column
   pub levels-fit : length (levelIn false n (drop n s)) + length (levelIn true n (drop n s)) ≤ n
   levels-fit = rw (level-list false, level-list true) (picked-two n 0 _ _ _ _ (λ j. one-level palette (nominalLab flat j)))
 
   pub columns-record : recordIn palette n (drop n s) ≡ measuredOf m palette flat n
-  unfolding recordIn measuredOf marked ofBits le lt eq
-  columns-record =
-      rw (
-        level-list false,
-        level-list true,
-        error-list m2 m5 _ refl (λ j. colour-counts palette (nominalLab flat j)),
-        error-list m2 m3 _ refl (λ j. dark-colour-counts palette (nominalLab flat j)),
-        error-list m4 m5 _ refl (λ j. light-colour-counts palette (nominalLab flat j)),
-      )
+  unfolding recordIn measuredOf
+  columns-record = rw (level-list false, level-list true, errors-list, level-errors-list false, level-errors-list true)
+
+  -- no distance that is taken is a NaN, past the sentences
+  module _ (h : 8 ≤ n) (single : F32 flat) (colours : wildColours flat n ≡ false) (corrected : badCorrected m flat n ≡ false) where
+    pub spreads-real : RealSpreads n (medianOf (levelIn false n (drop n s))) (medianOf (levelIn true n (drop n s))) (drop n s)
+    spreads-real =
+        let right = late m flat n h corrected in
+        record {
+          luma = rw (level-list false, level-list true) (lights-real m flat n single colours right _ _);
+          chroma = rw errors-list (errors-real m flat n single colours right _);
+          dark = rw (level-errors-list false) (errors-real m flat n single colours right _);
+          light = rw (level-errors-list true) (errors-real m flat n single colours right _);
+        }
 
   pub enough : {r : ChannelStats} → 8 ≤ n → r ≡ recordIn palette n (drop n s) → r ≡ measured m palette flat n
   unfolding measured

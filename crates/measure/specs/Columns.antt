@@ -2,7 +2,7 @@
 -- reference. Definitions only; `Measure` says what is right.
 use mathlib.Core.Path.{_≡_}
 use mathlib.Core.Bool.{Bool, true, false, cond, _&&_}
-use mathlib.Core.List.{List, _++_, map}
+use mathlib.Core.List.{List, map}
 use Prim.Native.Nat.{ℕ, _+_, _*_, _≤_, _<_}
 use lib.Dec.{ltb}
 use lib.ListN.{length, getD, set}
@@ -13,13 +13,14 @@ use Rattle.color.specs.declared.Lab.{Lab}
 use Rattle.color.specs.Color.{linearToLab}
 use Rattle.order.specs.Median.{medianOf}
 use Rattle.order.specs.Deviation.{deviation}
+use Rattle.order.specs.Law.{Numbers}
 use Rattle.illum.specs.declared.IlluminationModel.{IlluminationModel}
 use Rattle.measure.specs.declared.Known.{Known}
 use Rattle.measure.specs.declared.Level.{Level}
 use Rattle.measure.specs.declared.Form.{Form}
-use Rattle.measure.specs.declared.Form.the-variants.{Plain, Less, Apart, LessApart}
+use Rattle.measure.specs.declared.Form.the-variants.{Plain, Less}
 use Rattle.stats.specs.declared.ChannelStats.{ChannelStats}
-use Rattle.measure.specs.Measure.{figuresOf, recordOf, less, isLight, atLevel, colourful, correctedAt, correctedLab, nominalLab, lightnessAt, picked}
+use Rattle.measure.specs.Measure.{figuresOf, recordOf, less, spreadAbout, isLight, atLevel, colourful, correctedAt, correctedLab, nominalLab, lightnessAt, picked}
 
 -- ---- marks: which lists a reference counts for. From 1 to 2 dark lightness, 5 to 6 light lightness, 2 to 5 chroma, 2 to 3 dark chroma, 4 to 5 light chroma.
 
@@ -172,6 +173,21 @@ unfoldable pub recordIn : List Float → ℕ → List Float → ChannelStats
 recordIn palette n t =
     recordOf palette n (levelIn false n t) (levelIn true n t) (pickedIn n n m2 m5 t) (pickedIn n n m2 m3 t) (pickedIn n n m4 m5 t)
 
+-- the lightnesses about their level's median, the dark ones first
+abbrev pub spreadIn : ℕ → Float → Float → List Float → List Float
+spreadIn n l0 l1 t = spreadAbout l0 l1 (levelIn false n t) (levelIn true n t)
+
+-- no distance from the median is a NaN: then the median of the distances does not depend on their order
+abbrev pub RealDistances : List Float → Type 0
+RealDistances xs = Numbers (map (deviation (medianOf xs)) xs)
+
+-- so of each list whose deviation is in the record
+pub record RealSpreads (n : ℕ) (l0 l1 : Float) (t : List Float) : Type 0 where
+  pub luma : RealDistances (spreadIn n l0 l1 t)
+  pub chroma : RealDistances (pickedIn n n m2 m5 t)
+  pub dark : RealDistances (pickedIn n n m2 m3 t)
+  pub light : RealDistances (pickedIn n n m4 m5 t)
+
 -- how many a level has, and their median
 abbrev pub levelled : List Float → Level
 levelled xs = record { count = length xs; l = medianOf xs }
@@ -181,12 +197,6 @@ levelled xs = record { count = length xs; l = medianOf xs }
 unfoldable pub formed : Form → Float → Float
 formed Plain v = v
 formed (Less l) v = less l v
-formed (Apart m) v = deviation m v
-formed (LessApart l m) v = deviation m (less l v)
-
--- the lightnesses of the dark level in one form, then those of the light level in another
-abbrev pub levelsIn : Form → Form → ℕ → List Float → List Float
-levelsIn dark light n t = map (formed dark) (levelIn false n t) ++ map (formed light) (levelIn true n t)
 
 -- ---- one element listed, k being listed before
 
