@@ -28,6 +28,7 @@ use Rattle.order.specs.Deviation.{scale, deviation, sigmaOf}
 use Rattle.order.specs.Law.{Numbers}
 use Rattle.order.proofs.Law.{median-odd, median-even}
 use Rattle.measure.specs.Measure.{less}
+use Rattle.measure.specs.Columns.{RealDistances}
 use Rattle.measure.proofs.Lists.{Each, none, one}
 use Rattle.measure.proofs.Sigmas.{sigma-any}
 
@@ -168,12 +169,18 @@ module _ {k : ℕ} (r : Ready k) (s : Ready (suc k)) (up : (y : Float) → Withi
   unfolding deviation
   deviation-in i j = size-in s (less-in r j i)
 
-  sigma-in : (xs : List Float) → Each (Within k) xs → Within 40 (sigmaOf xs)
-  sigma-in xs e =
-      let m : Within k (medianOf xs) = median-in r xs e in
-      let ds : List Float = map (deviation (medianOf xs)) xs in
-      let d : Each (Within (suc k)) ds = each-map (deviation (medianOf xs)) (λ x i. deviation-in m i) e in
-      rw (sigma-any xs) (scale-in (up (medianOf ds) (median-in s ds d)))
+  module _ (xs : List Float) (e : Each (Within k) xs) where
+    abbrev distances : List Float
+    distances = map (deviation (medianOf xs)) xs
+
+    distances-in : Each (Within (suc k)) distances
+    distances-in = let m : Within k (medianOf xs) = median-in r xs e in each-map (deviation (medianOf xs)) (λ x i. deviation-in m i) e
+
+    sigma-in : Within 40 (sigmaOf xs)
+    sigma-in = rw (sigma-any xs) (scale-in (up (medianOf distances) (median-in s distances distances-in)))
+
+    real-in : RealDistances xs
+    real-in = numbers s distances distances-in
 
 up38 : {y : Float} → Within 38 y → Within 39 y
 unfolding fraction round neg le
@@ -185,6 +192,13 @@ spread-sigma-in xs e = sigma-in ready37 ready38 (λ y i. up38 i) xs e
 
 pub error-sigma-in : (xs : List Float) → Each (Within 38) xs → Within 40 (sigmaOf xs)
 error-sigma-in xs e = sigma-in ready38 ready39 (λ y i. i) xs e
+
+-- no distance from their median is a NaN
+pub spread-real : (xs : List Float) → Each (Within 37) xs → RealDistances xs
+spread-real xs e = real-in ready37 ready38 (λ y i. up38 i) xs e
+
+pub error-real : (xs : List Float) → Each (Within 38) xs → RealDistances xs
+error-real xs e = real-in ready38 ready39 (λ y i. i) xs e
 
 pub level-median-in : (xs : List Float) → Each (Within 36) xs → Within 36 (medianOf xs)
 level-median-in xs e = median-in ready36 xs e

@@ -31,12 +31,16 @@ module _ (p : ℕ → Bool) (f : ℕ → Float) (n : ℕ) where
   picked-turn i h = ap (λ (k : ℕ). picked k i p f) (sub-turn n i h)
 
 pub picked-same : (k i : ℕ) (p q : ℕ → Bool) (f g : ℕ → Float) → ((j : ℕ) → i ≤ j → j < i + k → p j ≡ q j)
-    → ((j : ℕ) → i ≤ j → j < i + k → f j ≡ g j) → picked k i p f ≡ picked k i q g
+    → ((j : ℕ) → i ≤ j → j < i + k → q j ≡ true → f j ≡ g j) → picked k i p f ≡ picked k i q g
 unfolding picked
 picked-same zero i p q f g hp hf = refl
 picked-same (suc k) i p q f g hp hf =
     let t = picked-same k (suc i) p q f g (λ j a b. hp j (omega arith) (omega arith)) (λ j a b. hf j (omega arith) (omega arith)) in
-    rw (hp i (omega arith) (omega arith), t, hf i (omega arith) (omega arith))
+    rw (hp i (omega arith) (omega arith), t) (go (q i) (hf i (omega arith) (omega arith)) (picked k (suc i) q g))
+  where
+    go : (b : Bool) → (b ≡ true → f i ≡ g i) → (rest : List Float) → cond b (f i ∷ rest) rest ≡ cond b (g i ∷ rest) rest
+    go true h rest = ap (λ (x : Float). x ∷ rest) (h refl)
+    go false h rest = refl
 
 -- of tests that are never both true
 either : (b c : Bool) (x y : Float) (xs ys : List Float) (k : ℕ) → (b ≡ true → c ≡ false) → length xs + length ys ≤ k

@@ -2,7 +2,7 @@
 -- the references, a mark lying in a list's range exactly where the reference counts for it. Assumes nothing.
 use mathlib.Core.Path.{_≡_, refl, sym, ap, _∙_}
 use mathlib.Core.Logic.{_≢_}
-use mathlib.Core.Bool.{Bool, true, false, cond, _&&_}
+use mathlib.Core.Bool.{Bool, true, false, cond, not, _&&_, false≢true}
 use mathlib.Core.List.{List}
 use Prim.Native.Nat.{ℕ, _+_, _*_, _≤_, _<_}
 use native.Mathlib.Decide.{ℕ-discrete}
@@ -18,9 +18,12 @@ use Rattle.color.specs.declared.Linear.{Linear}
 use Rattle.color.specs.declared.Lab.{Lab}
 use Rattle.color.specs.Color.{linearToLab, abDistance, length2}
 use Rattle.illum.specs.declared.IlluminationModel.{IlluminationModel}
-use Rattle.measure.specs.Measure.{picked, sameLevel, atLevel, isLight, colourful, correctedAt, correctedLab, nominalLab, lightnessAt, errorAt, forLevel, forLevelChroma, levelOf, measuredOf, measured}
-use Rattle.measure.specs.Columns.{m1, m2, m3, m4, m5, m6, markOf, markFor, markAt, marked, squareOf, squareAt, noted, notedAt, Noted, Rooted, placed, colourAt, Corrected, Converted, pickedIn, levelIn, recordIn}
+use Rattle.measure.specs.Measure.{picked, sameLevel, atLevel, isLight, colourful, correctedAt, correctedLab, nominalLab, lightnessAt, errorAt, forLevel, forLevelChroma, levelOf, errorsOf, levelErrorsOf, recordOf, measuredOf, measured, badCorrected}
+use Rattle.measure.specs.Columns.{m0, m1, m2, m3, m4, m5, m6, markOf, markFor, markAt, marked, counted, squareOf, squareAt, noted, notedAt, Noted, Rooted, placed, colourAt, Corrected, Converted, pickedIn, levelIn, RealSpreads, recordIn}
+use Rattle.order.specs.Median.{medianOf}
+use Rattle.references.specs.References.{wildColours}
 use Rattle.measure.proofs.Lists.{picked-same, picked-two}
+use Rattle.measure.proofs.Passes.{F32, late, lights-real, errors-real}
 
 -- ---- three writes at x < y < z
 module _ (s : List Float) (x y z : ℕ) (a b c : Float) where
@@ -53,11 +56,13 @@ module _ {m : IlluminationModel} {palette flat : List Float} {n : ℕ} where
       kept : (j : ℕ) → j ≢ n + i → j ≢ 2 * n + i → j ≢ 3 * n + i → (v : Float) → getD s j nan ≡ v → getD after j nan ≡ v
       kept j p q r v e = at-other s (n + i) (2 * n + i) (3 * n + i) a b c j p q r ∙ e
 
-      l-at : a ≡ lightnessAt m flat i → (j : ℕ) → Dec (j ≡ i) → j < i + 1 → getD after (n + j) nan ≡ lightnessAt m flat j
+      l-at : a ≡ counted (markAt palette flat i) (lightnessAt m flat i) → (j : ℕ) → Dec (j ≡ i) → j < i + 1
+          → getD after (n + j) nan ≡ counted (markAt palette flat j) (lightnessAt m flat j)
       l-at ea j (yes q) k = rw q (at-x s (n + i) (2 * n + i) (3 * n + i) a b c (omega arith) (omega arith) (omega arith) ∙ ea)
       l-at ea j (no q) k = kept (n + j) (λ e. q (omega arith)) (λ e. omega arith) (λ e. omega arith) _ (inv .l j (omega arith))
 
-      second-at : b ≡ squareAt m flat i → (j : ℕ) → Dec (j ≡ i) → j < i + 1 → getD after (2 * n + j) nan ≡ squareAt m flat j
+      second-at : b ≡ counted (markAt palette flat i) (squareAt m flat i) → (j : ℕ) → Dec (j ≡ i) → j < i + 1
+          → getD after (2 * n + j) nan ≡ counted (markAt palette flat j) (squareAt m flat j)
       second-at eb j (yes q) k = rw q (at-y s (n + i) (2 * n + i) (3 * n + i) a b c (omega arith) (omega arith) (omega arith) ∙ eb)
       second-at eb j (no q) k = kept (2 * n + j) (λ e. omega arith) (λ e. q (omega arith)) (λ e. omega arith) _ (inv .second j (omega arith))
 
@@ -68,9 +73,9 @@ module _ {m : IlluminationModel} {palette flat : List Float} {n : ℕ} where
     written : Noted m palette flat n (i + 1) (squareAt m flat) (notedAt m palette flat n i s)
     unfolding noted notedAt lightnessAt squareAt
     written =
-        let a = lightnessAt m flat i in
-        let b = squareAt m flat i in
         let c = markAt palette flat i in
+        let a = counted c (lightnessAt m flat i) in
+        let b = counted c (squareAt m flat i) in
         record {
           l = λ j k. l-at a b c refl j (ℕ-discrete j i) k;
           second = λ j k. second-at a b c refl j (ℕ-discrete j i) k;
@@ -179,13 +184,25 @@ root-error : (m : IlluminationModel) (flat : List Float) (j : ℕ) → sqrtOf (s
 unfolding errorAt abDistance length2 squareAt squareOf
 root-error m flat j = refl
 
+zero-root : sqrtOf m0 ≡ m0
+unfolding sqrtOf ofBits
+zero-root = refl
+
+root-counted : (mark v : Float) → sqrtOf (counted mark v) ≡ counted mark (sqrtOf v)
+unfolding counted
+root-counted mark v = go (eq mark m0)
+  where
+    go : (b : Bool) → sqrtOf (cond b m0 v) ≡ cond b m0 (sqrtOf v)
+    go true = zero-root
+    go false = refl
+
 module _ {m : IlluminationModel} {palette flat : List Float} {n : ℕ} where
   pub all-noted : {r s t : List Float} → Rooted n n s t → Converted palette flat n n r s → Corrected m flat n 0 n r → Noted m palette flat n n (errorAt m flat) t
   all-noted roots inv q =
       let had = inv .done m q in
       record {
         l = λ j k. roots .before (n + j) (omega arith) ∙ had .l j k;
-        second = λ j k. roots .root j k ∙ ap sqrtOf (had .second j k) ∙ root-error m flat j;
+        second = λ j k. roots .root j k ∙ ap sqrtOf (had .second j k) ∙ root-counted (markAt palette flat j) (squareAt m flat j) ∙ ap (counted (markAt palette flat j)) (root-error m flat j);
         mark = λ j k. roots .after (3 * n + j) (omega arith) ∙ had .mark j k;
       }
 
@@ -240,6 +257,18 @@ level-colour-mark false false true false = refl
 level-colour-mark false false false true = refl
 level-colour-mark false false false false = refl
 
+-- a mark that is 0 as a number is the 0
+zero-mark : (a b c : Bool) → eq (markOf a b c) m0 ≡ true → markOf a b c ≡ m0
+unfolding markOf ofBits eq
+zero-mark true true true e = absurd (false≢true e)
+zero-mark true true false e = absurd (false≢true e)
+zero-mark true false true e = absurd (false≢true e)
+zero-mark true false false e = absurd (false≢true e)
+zero-mark false true true e = absurd (false≢true e)
+zero-mark false true false e = refl
+zero-mark false false true e = absurd (false≢true e)
+zero-mark false false false e = refl
+
 -- ---- the lists of the columns
 
 module _ (palette : List Float) (nominal : Lab) where
@@ -263,6 +292,18 @@ module _ (palette : List Float) (nominal : Lab) where
   unfolding markFor forLevelChroma
   light-colour-counts = level-colour-mark true (atLevel palette nominal) (isLight palette nominal) (colourful nominal)
 
+  -- where the mark is in a list's range, which 0 is not, the numbers are the reference's own
+  counts-in : (lo hi v : Float) → marked lo hi m0 ≡ false → marked lo hi (markFor palette nominal) ≡ true → counted (markFor palette nominal) v ≡ v
+  unfolding counted markFor
+  counts-in lo hi v out h = go (eq mark m0) refl
+    where
+      mark : Float
+      mark = markOf (atLevel palette nominal) (isLight palette nominal) (colourful nominal)
+
+      go : (b : Bool) → eq mark m0 ≡ b → cond b m0 v ≡ v
+      go true e = absurd (false≢true (sym out ∙ ap (marked lo hi) (sym (zero-mark (atLevel palette nominal) (isLight palette nominal) (colourful nominal) e)) ∙ h))
+      go false e = refl
+
   -- a reference of the dark level is none of the light one
   one-level : forLevel false palette nominal ≡ true → forLevel true palette nominal ≡ false
   unfolding forLevel
@@ -281,19 +322,30 @@ module _ {m : IlluminationModel} {palette flat : List Float} {n : ℕ} {s : List
   read a j b v e h = getD-drop n s (a + j) nan ∙ ap (λ (k : ℕ). getD s k nan) (spot a j ∙ ap (λ (k : ℕ). k + j) e) ∙ h
 
   module _ (at b : ℕ) (e : n + at ≡ b) (f : ℕ → Float) (lo hi : Float) (q : ℕ → Bool)
-      (reads : (j : ℕ) → j < n → getD s (b + j) nan ≡ f j) (counts : (j : ℕ) → marked lo hi (markAt palette flat j) ≡ q j) where
+      (reads : (j : ℕ) → j < n → getD s (b + j) nan ≡ counted (markAt palette flat j) (f j)) (out : marked lo hi m0 ≡ false)
+      (counts : (j : ℕ) → marked lo hi (markAt palette flat j) ≡ q j) where
     same-list : pickedIn n at lo hi (drop n s) ≡ picked n 0 q f
     same-list =
         picked-same n 0 _ q _ f (λ j a k. ap (marked lo hi) (read (2 * n) j (3 * n) _ (omega arith) (inv .mark j (omega arith))) ∙ counts j)
-        (λ j a k. read at j b _ e (reads j (omega arith)))
+        (λ j a k t. read at j b _ e (reads j (omega arith)) ∙ counts-in palette (nominalLab flat j) lo hi (f j) out (counts j ∙ t))
 
   level-list : (light : Bool) → levelIn light n (drop n s) ≡ levelOf light m palette flat n
-  level-list true = same-list 0 n (omega arith) (lightnessAt m flat) m5 m6 _ (inv .l) (λ j. light-counts palette (nominalLab flat j))
-  level-list false = same-list 0 n (omega arith) (lightnessAt m flat) m1 m2 _ (inv .l) (λ j. dark-counts palette (nominalLab flat j))
+  unfolding marked ofBits le lt eq
+  level-list true = same-list 0 n (omega arith) (lightnessAt m flat) m5 m6 _ (inv .l) refl (λ j. light-counts palette (nominalLab flat j))
+  level-list false = same-list 0 n (omega arith) (lightnessAt m flat) m1 m2 _ (inv .l) refl (λ j. dark-counts palette (nominalLab flat j))
 
-  error-list : (lo hi : Float) (q : ℕ → Bool) → ((j : ℕ) → marked lo hi (markAt palette flat j) ≡ q j)
+  error-list : (lo hi : Float) (q : ℕ → Bool) → marked lo hi m0 ≡ false → ((j : ℕ) → marked lo hi (markAt palette flat j) ≡ q j)
       → pickedIn n n lo hi (drop n s) ≡ picked n 0 q (errorAt m flat)
-  error-list lo hi q counts = same-list n (2 * n) (omega arith) (errorAt m flat) lo hi q (inv .second) counts
+  error-list lo hi q out counts = same-list n (2 * n) (omega arith) (errorAt m flat) lo hi q (inv .second) out counts
+
+  errors-list : pickedIn n n m2 m5 (drop n s) ≡ errorsOf m flat n
+  unfolding marked ofBits le lt eq
+  errors-list = error-list m2 m5 _ refl (λ j. colour-counts palette (nominalLab flat j))
+
+  level-errors-list : (light : Bool) → cond light (pickedIn n n m4 m5 (drop n s)) (pickedIn n n m2 m3 (drop n s)) ≡ levelErrorsOf light m palette flat n
+  unfolding marked ofBits le lt eq
+  level-errors-list true = error-list m4 m5 _ refl (λ j. light-colour-counts palette (nominalLab flat j))
+  level-errors-list false = error-list m2 m3 _ refl (λ j. dark-colour-counts palette (nominalLab flat j))
 
   -- the two levels' lists fit in one column
   pub levels-fit : length (levelIn false n (drop n s)) + length (levelIn true n (drop n s)) ≤ n
@@ -301,14 +353,19 @@ module _ {m : IlluminationModel} {palette flat : List Float} {n : ℕ} {s : List
 
   pub columns-record : recordIn palette n (drop n s) ≡ measuredOf m palette flat n
   unfolding recordIn measuredOf
-  columns-record =
-      rw (
-        level-list false,
-        level-list true,
-        error-list m2 m5 _ (λ j. colour-counts palette (nominalLab flat j)),
-        error-list m2 m3 _ (λ j. dark-colour-counts palette (nominalLab flat j)),
-        error-list m4 m5 _ (λ j. light-colour-counts palette (nominalLab flat j)),
-      )
+  columns-record = rw (level-list false, level-list true, errors-list, level-errors-list false, level-errors-list true)
+
+  -- no distance that is taken is a NaN, past the sentences
+  module _ (h : 8 ≤ n) (single : F32 flat) (colours : wildColours flat n ≡ false) (corrected : badCorrected m flat n ≡ false) where
+    pub spreads-real : RealSpreads n (medianOf (levelIn false n (drop n s))) (medianOf (levelIn true n (drop n s))) (drop n s)
+    spreads-real =
+        let right = late m flat n h corrected in
+        record {
+          luma = rw (level-list false, level-list true) (lights-real m flat n single colours right _ _);
+          chroma = rw errors-list (errors-real m flat n single colours right _);
+          dark = rw (level-errors-list false) (errors-real m flat n single colours right _);
+          light = rw (level-errors-list true) (errors-real m flat n single colours right _);
+        }
 
   pub enough : {r : ChannelStats} → 8 ≤ n → r ≡ recordIn palette n (drop n s) → r ≡ measured m palette flat n
   unfolding measured

@@ -1,5 +1,5 @@
 -- A record that `measure` gives passes sentences 8 and 9 and holds f32 values: its levels are medians of lightnesses within 2 ^ 36 or the palette's, its sigmas are
--- within 2 ^ 40 and at least 0.75, or 0 for a level. Assumes nothing.
+-- within 2 ^ 40 and at least 0.75, or 0 for a level. And no distance that its sigmas are made of is a NaN. Assumes nothing.
 use mathlib.Core.Path.{_≡_, refl, sym, ap, _∙_}
 use mathlib.Core.Bool.{Bool, true, false, not, cond, _&&_, _||_}
 use mathlib.Core.List.{List, [], _∷_}
@@ -39,9 +39,10 @@ use Rattle.stats.specs.Calls.{wildFigure, badNoiseNumbers, badLevelSigma, badSi
 use Rattle.measure.specs.Measure.{correctedAt, correctedLab, nominalLab, lightnessAt, errorAt, picked, levelOf, leastSigma, spreadAbout, lumaSigma, chromaSigma, figuresOf, recordOf, measuredOf, measured, wildCorrectedAt, wildCorrected, badCorrected, Request, sentencesOf, Final, final, turnedAway, done, measureOf}
 use Rattle.stats.specs.declared.Noise.the-variants.{Record, Refused}
 use Rattle.sentences.specs.Sentences.{refusal, decided}
+use Rattle.measure.specs.Columns.{RealDistances}
 use Rattle.measure.proofs.Lists.{Each, picked-each}
 use Rattle.measure.proofs.Accepted.{Accepted, accepted}
-use Rattle.measure.proofs.Bounds.{each-append, spread-sigma-in, error-sigma-in, level-median-in, spread-in, up36, up20, number-in, error-in}
+use Rattle.measure.proofs.Bounds.{each-append, spread-sigma-in, error-sigma-in, spread-real, error-real, level-median-in, spread-in, up36, up20, number-in, error-in}
 
 pub record Passing (r : ChannelStats) : Type 0 where
   pub eight : badNoiseNumbers r ≡ false
@@ -157,16 +158,19 @@ of-level xs e = go (ltb (length xs) 8)
     go true = level-none
     go false = level-raised (max (sigmaOf xs) leastSigma) (raised (sigmaOf xs) (error-sigma-in xs e))
 
+-- lightnesses about their medians
+about-in : {dark light : List Float} → Each (Within 36) dark → Each (Within 36) light → Each (Within 37) (spreadAbout (medianOf dark) (medianOf light) dark light)
+about-in {dark} {light} d l =
+    each-append (spread-in (medianOf dark) dark (level-median-in dark d) d) (spread-in (medianOf light) light (level-median-in light l) l)
+
 module _ (n : ℕ) (dark light errors darkErrors lightErrors : List Float) (d : Each (Within 36) dark) (l : Each (Within 36) light) (e : Each (Within 38) errors)
     (f : Each (Within 38) darkErrors) (g : Each (Within 38) lightErrors) where
   figures-pass : Passing (figuresOf n (medianOf dark) (medianOf light) dark light errors darkErrors lightErrors)
   unfolding figuresOf lumaSigma
   figures-pass =
-      let m = level-median-in dark d in
-      let o = level-median-in light l in
       let xs = spreadAbout (medianOf dark) (medianOf light) dark light in
-      passing (figuresOf n (medianOf dark) (medianOf light) dark light errors darkErrors lightErrors) (up36 m) (up36 o)
-      (raised (sigmaOf xs) (spread-sigma-in xs (each-append (spread-in (medianOf dark) dark m d) (spread-in (medianOf light) light o l)))) (pooled errors e)
+      passing (figuresOf n (medianOf dark) (medianOf light) dark light errors darkErrors lightErrors) (up36 (level-median-in dark d)) (up36 (level-median-in light l))
+      (raised (sigmaOf xs) (spread-sigma-in xs (about-in d l))) (pooled errors e)
       (of-level darkErrors f) (of-level lightErrors g)
 
   module _ (palette : List Float) (p : Passing (nominal palette)) where
@@ -201,14 +205,7 @@ any-false p n i e j h l = some-false p (n - i) i e j h (omega arith)
 abbrev pub F32 : List Float → Type 0
 F32 xs = (i : ℕ) → T (fits binary32 (getD xs i nan))
 
-module _ (m : IlluminationModel) (palette flat : List Float) (n hues : ℕ) (ff : F32 flat) (fp : F32 palette) (cols : wildColours flat n ≡ false)
-    (nums : wildPalette palette hues ≡ false) where
-  nominal-pass : Passing (nominal palette)
-  unfolding levelL
-  nominal-pass =
-      passing (nominal palette) (up20 (not-wild (levelL palette 0) (fp 0) (level-tame palette hues nums 0 (omega arith))))
-      (up20 (not-wild (levelL palette 1) (fp 1) (level-tame palette hues nums 1 (omega arith)))) six six level-none level-none
-
+module _ (m : IlluminationModel) (flat : List Float) (n : ℕ) (ff : F32 flat) (cols : wildColours flat n ≡ false) where
   component : (i : ℕ) → i < n → (j : ℕ) → 8 * i + 2 ≤ j → j < 8 * i + 8 → wild (getD flat j nan) ≡ false
   unfolding wildColourAt
   component i h j a b = any-false (wildAt flat) (8 * i + 8) (8 * i + 2) (anyUp-false (wildColourAt flat) n cols i h) j a b
@@ -239,24 +236,42 @@ module _ (m : IlluminationModel) (palette flat : List Float) (n hues : ℕ) (ff 
     unfolding errorAt
     e-in i h = error-in (correctedLab m flat i) (nominalLab flat i) (corrected-in i h) (nominal-in i h)
 
-    measured-pass : Passing (measuredOf m palette flat n)
-    unfolding measuredOf
-    measured-pass =
-        record-passes n _ _ _ _ _ (lights _) (lights _) (errors _) (errors _) (errors _) palette nominal-pass
-      where
-        lights : (p : ℕ → Bool) → Each (Within 36) (picked n 0 p (lightnessAt m flat))
-        lights p = picked-each (Within 36) n 0 p (lightnessAt m flat) (λ j h. l-in j (omega arith))
+    lights : (p : ℕ → Bool) → Each (Within 36) (picked n 0 p (lightnessAt m flat))
+    lights p = picked-each (Within 36) n 0 p (lightnessAt m flat) (λ j h. l-in j (omega arith))
 
-        errors : (p : ℕ → Bool) → Each (Within 38) (picked n 0 p (errorAt m flat))
-        errors p = picked-each (Within 38) n 0 p (errorAt m flat) (λ j h. e-in j (omega arith))
+    errors : (p : ℕ → Bool) → Each (Within 38) (picked n 0 p (errorAt m flat))
+    errors p = picked-each (Within 38) n 0 p (errorAt m flat) (λ j h. e-in j (omega arith))
 
-  late : 8 ≤ n → badCorrected m flat n ≡ false → wildCorrected m flat n ≡ false
-  unfolding badCorrected
-  late h e = go (leb 8 n) (le-leb 8 n h) e
-    where
-      go : (b : Bool) → b ≡ true → (b && wildCorrected m flat n) ≡ false → wildCorrected m flat n ≡ false
-      go true q e = e
-      go false q e = let z : _≡_ {A = ℕ} 0 1 = cc in absurd (omega arith)
+    -- no distance of lightnesses or of errors from their median is a NaN
+    pub lights-real : (p q : ℕ → Bool) → let dark = picked n 0 p (lightnessAt m flat) in let light = picked n 0 q (lightnessAt m flat) in
+        RealDistances (spreadAbout (medianOf dark) (medianOf light) dark light)
+    lights-real p q = spread-real _ (about-in (lights p) (lights q))
+
+    pub errors-real : (p : ℕ → Bool) → RealDistances (picked n 0 p (errorAt m flat))
+    errors-real p = error-real _ (errors p)
+
+pub late : (m : IlluminationModel) (flat : List Float) (n : ℕ) → 8 ≤ n → badCorrected m flat n ≡ false → wildCorrected m flat n ≡ false
+unfolding badCorrected
+late m flat n h e = go (leb 8 n) (le-leb 8 n h) e
+  where
+    go : (b : Bool) → b ≡ true → (b && wildCorrected m flat n) ≡ false → wildCorrected m flat n ≡ false
+    go true q e = e
+    go false q e = let z : _≡_ {A = ℕ} 0 1 = cc in absurd (omega arith)
+
+module _ (m : IlluminationModel) (palette flat : List Float) (n hues : ℕ) (ff : F32 flat) (fp : F32 palette) (cols : wildColours flat n ≡ false)
+    (nums : wildPalette palette hues ≡ false) where
+  nominal-pass : Passing (nominal palette)
+  unfolding levelL
+  nominal-pass =
+      passing (nominal palette) (up20 (not-wild (levelL palette 0) (fp 0) (level-tame palette hues nums 0 (omega arith))))
+      (up20 (not-wild (levelL palette 1) (fp 1) (level-tame palette hues nums 1 (omega arith)))) six six level-none level-none
+
+  measured-pass : wildCorrected m flat n ≡ false → Passing (measuredOf m palette flat n)
+  unfolding measuredOf
+  measured-pass right =
+      let l = lights m flat n ff cols right in
+      let e = errors m flat n ff cols right in
+      record-passes n _ _ _ _ _ (l _) (l _) (e _) (e _) (e _) palette nominal-pass
 
   passes : badCorrected m flat n ≡ false → Passing (measured m palette flat n)
   unfolding measured
@@ -264,7 +279,7 @@ module _ (m : IlluminationModel) (palette flat : List Float) (n hues : ℕ) (ff 
     where
       go : (b : Bool) → ltb n 8 ≡ b → Passing (cond b (nominal palette) (measuredOf m palette flat n))
       go true q = nominal-pass
-      go false q = measured-pass (late (ltb-false n 8 q) e)
+      go false q = measured-pass (late m flat n (ltb-false n 8 q) e)
 
 -- what an accepted call answers passes sentences 8 and 9
 pub answer-passes : (m : IlluminationModel) (palette flat : List Float) (n side hues lent : ℕ) → F32 flat → F32 palette → Accepted flat n side m palette hues lent

@@ -1,24 +1,27 @@
--- The scaled median absolute deviation of a list that is listed twice: once to find its median, once as distances from it. Assumes nothing.
-use mathlib.Core.Path.{_≡_, refl, sym, ap, _∙_}
+-- The scaled median absolute deviation of a list whose distances are taken in place, in the order that finding its median leaves: the median of the distances is
+-- the same in any order. And so the figures of the record. Assumes nothing.
+use mathlib.Core.Path.{_≡_, refl, sym, ap, subst, _∙_}
 use mathlib.Core.Bool.{Bool, true, false, cond}
 use native.Mathlib.Omega.{arith}
 use borrow.Author.Tests.{ne-eqb, lt-ltb, le-ltb}
-use mathlib.Core.List.{List, [], _∷_, _++_, map}
+use mathlib.Core.List.{List, [], _∷_, _++_, map, List·Permᴰ}
 use Prim.Native.Nat.{ℕ, _+_, _*_, _-_, _≤_, _<_}
 use lib.Seq.{length-take-le, drop-append-add, drop-drop}
 use lib.ListN.{length, getD, take, drop}
-use lib.Dec.{ltb, eqb}
+use lib.Dec.{ltb}
 use lib.Ieee.{Float, nan, binary32, ofBits, mul, round}
 use Rattle.float.specs.Select.{max}
 use Rattle.order.specs.Median.{Ordered, ordered, orderedOf, medianOf, zero32}
 use Rattle.order.specs.Deviation.{scale, deviation, sigmaOf}
-use Rattle.measure.specs.declared.Form.{Form}
-use Rattle.measure.specs.declared.Form.the-variants.{Plain, Less, Apart, LessApart}
-use Rattle.measure.specs.Measure.{less, leastSigma, spreadAbout, lumaSigma, chromaSigma, figuresOf, recordOf}
+use Rattle.order.specs.Law.{Numbers}
+use Rattle.order.proofs.Law.{median-permutes}
+use Rattle.order.proofs.Distances.{deviation-any-order}
+use Rattle.measure.specs.declared.Form.the-variants.{Plain, Less}
+use Rattle.measure.specs.Measure.{spreadAbout, raisedSigma, lumaSigma, chromaSigma, figuresOf, recordOf}
 use Rattle.stats.specs.declared.ChannelStats.{ChannelStats}
 use Rattle.stats.specs.Noise.{nominal}
 use Rattle.measure.specs.declared.Level.{Level}
-use Rattle.measure.specs.Columns.{m0, m1, m2, m3, m4, m5, m6, marked, formed, pickedIn, levelIn, levelsIn, levelled, figuresIn, recordIn}
+use Rattle.measure.specs.Columns.{m2, m3, m4, m5, marked, formed, pickedIn, levelIn, spreadIn, RealDistances, RealSpreads, levelled, figuresIn, recordIn}
 use Rattle.measure.proofs.Lists.{picked-few}
 use Rattle.color.proofs.Numbers.{three-quarters, n0}
 use Rattle.measure.proofs.Literals.{scaled}
@@ -35,37 +38,14 @@ pub sigma-any : (xs : List Float) → sigmaOf xs ≡ mul binary32 scale (medianO
 sigma-any [] = none
 sigma-any (x ∷ xs) = some (x ∷ xs) (λ q. omega arith)
 
-module _ (f g h : Float → Float) (same : (v : Float) → f v ≡ g (h v)) where
-  map-two : (xs : List Float) → map f xs ≡ map g (map h xs)
-  map-two [] = refl
-  map-two (x ∷ xs) = rw (same x, map-two xs)
-
-map-append : (g : Float → Float) (xs ys : List Float) → map g (xs ++ ys) ≡ map g xs ++ map g ys
-map-append g [] ys = refl
-map-append g (x ∷ xs) ys = ap (λ (l : List Float). g x ∷ l) (map-append g xs ys)
-
-pub plain : (xs : List Float) → map (formed Plain) xs ≡ xs
+plain : (xs : List Float) → map (formed Plain) xs ≡ xs
 unfolding formed
 plain [] = refl
 plain (x ∷ xs) = ap (λ (l : List Float). x ∷ l) (plain xs)
 
-pub apart : (m : Float) (xs : List Float) → map (formed (Apart m)) xs ≡ map (deviation m) xs
+spread : (l0 l1 : Float) (dark light : List Float) → map (formed (Less l0)) dark ++ map (formed (Less l1)) light ≡ spreadAbout l0 l1 dark light
 unfolding formed
-apart m xs = refl
-
-module _ (l0 l1 : Float) (dark light : List Float) where
-  pub spread : map (formed (Less l0)) dark ++ map (formed (Less l1)) light ≡ spreadAbout l0 l1 dark light
-  unfolding formed
-  spread = refl
-
-  pub spread-apart : (m : Float) → map (formed (LessApart l0 m)) dark ++ map (formed (LessApart l1 m)) light ≡ map (deviation m) (spreadAbout l0 l1 dark light)
-  unfolding formed
-  spread-apart m =
-      cc (
-        map-append (deviation m) (map (less l0) dark) (map (less l1) light),
-        map-two (formed (LessApart l0 m)) (deviation m) (less l0) (λ v. refl) dark,
-        map-two (formed (LessApart l1 m)) (deviation m) (less l1) (λ v. refl) light,
-      )
+spread l0 l1 dark light = refl
 
 -- ---- the functions' returns, over plain variables
 
@@ -73,37 +53,48 @@ module _ (l0 l1 : Float) (dark light : List Float) where
 abbrev raised : Float → Float
 raised v = max (mul binary32 (ofBits binary32 1069401558) v) (ofBits binary32 0x3f40_0000)
 
-sigma-from : (xs : List Float) (m v : Float) → m ≡ medianOf xs → v ≡ medianOf (map (deviation m) xs) → raised v ≡ max (sigmaOf xs) leastSigma
+sigma-from : (xs : List Float) (m v : Float) → m ≡ medianOf xs → v ≡ medianOf (map (deviation m) xs) → raised v ≡ raisedSigma xs
 sigma-from xs m v em ev = cc (scaled, three-quarters, sigma-any xs)
 
--- the luma noise: y and z are the lists in the room, one after the other
-module _ (n : ℕ) (l0 l1 : Float) (t t1′ t1 y z : List Float) (m v r : Float) where
-  pub luma : r ≡ raised v → v ≡ medianOf z → z ≡ levelsIn (LessApart l0 m) (LessApart l1 m) n t1 → m ≡ medianOf y → y ≡ levelsIn (Less l0) (Less l1) n t → t1 ≡ t1′ → t1′ ≡ t
-      → r ≡ lumaSigma l0 l1 (levelIn false n t) (levelIn true n t)
-  unfolding lumaSigma
-  luma er ev ez em ey et et′ =
-      let D = levelIn false n t in
-      let L = levelIn true n t in
-      let xs = spreadAbout l0 l1 D L in
-      let a : m ≡ medianOf xs = em ∙ ap medianOf (ey ∙ spread l0 l1 D L) in
-      let b : v ≡ medianOf (map (deviation m) xs) =
-      ev ∙ ap medianOf (ez ∙ ap (λ (u : List Float). levelsIn (LessApart l0 m) (LessApart l1 m) n u) (et ∙ et′) ∙ spread-apart l0 l1 D L m) in
-      er ∙ sigma-from xs m v a b
+-- what `median` gives of xs: the median, and ys, which is xs in another order
+module _ (xs ys : List Float) (m : Float) (e : ordered m ys ≡ orderedOf xs) where
+  pub found : m ≡ medianOf xs
+  found = ap (λ (o : Ordered). o .median) e
 
--- the chroma noise of xs, which is t's
+  reordered : List·Permᴰ ys xs
+  reordered = subst (λ (zs : List Float). List·Permᴰ zs xs) (sym (ap (λ (o : Ordered). o .values) e)) (median-permutes xs)
+
+  -- ds is the distances of ys from m, and v their median
+  pub in-place : (ds us : List Float) (v : Float) → RealDistances xs → ds ≡ map (deviation m) ys → ordered v us ≡ orderedOf ds → raised v ≡ raisedSigma xs
+  in-place ds us v real ed ev =
+      let numbers : Numbers (map (deviation m) xs) = subst (λ (a : Float). Numbers (map (deviation a) xs)) (sym found) real in
+      let median : v ≡ medianOf (map (deviation m) ys) = ap (λ (o : Ordered). o .median) ev ∙ ap medianOf ed in
+      sigma-from xs m v found (median ∙ deviation-any-order m xs ys reordered numbers)
+
+-- the luma noise: y is the list in the room
+module _ (n : ℕ) (l0 l1 : Float) (t y : List Float) (e : y ≡ spreadIn n l0 l1 t) where
+  pub luma-real : RealDistances (spreadIn n l0 l1 t) → RealDistances y
+  luma-real h = subst RealDistances (sym e) h
+
+  pub luma : (r : Float) → r ≡ raisedSigma y → r ≡ lumaSigma l0 l1 (levelIn false n t) (levelIn true n t)
+  unfolding lumaSigma
+  luma r er = er ∙ ap raisedSigma e
+
+-- the chroma noise
 pub chroma-few : (n : ℕ) (lo hi : Float) (t : List Float) (k least : ℕ) (other : Float) → k ≡ 0 + length (pickedIn n n lo hi t) → k < least → other ≡ chromaSigma least other (pickedIn n n lo hi t)
 unfolding chromaSigma
 chroma-few n lo hi t k least other ek h = rw (lt-ltb (length (pickedIn n n lo hi t)) least (omega arith))
 
-module _ (n : ℕ) (lo hi : Float) (t t1′ t1 y z : List Float) (k least : ℕ) (other m v r : Float) where
-  pub chroma : r ≡ raised v → v ≡ medianOf z → z ≡ map (formed (Apart m)) (pickedIn n n lo hi t1) → m ≡ medianOf y → y ≡ map (formed Plain) (pickedIn n n lo hi t)
-      → t1 ≡ t1′ → t1′ ≡ t → k ≡ 0 + length (pickedIn n n lo hi t) → least ≤ k → r ≡ chromaSigma least other (pickedIn n n lo hi t)
+module _ (n : ℕ) (lo hi : Float) (t y : List Float) (e : y ≡ map (formed Plain) (pickedIn n n lo hi t)) where
+  listed : y ≡ pickedIn n n lo hi t
+  listed = e ∙ plain (pickedIn n n lo hi t)
+
+  pub chroma-real : RealDistances (pickedIn n n lo hi t) → RealDistances y
+  chroma-real h = subst RealDistances (sym listed) h
+
+  pub chroma : (k least : ℕ) (other r : Float) → k ≡ 0 + length (pickedIn n n lo hi t) → least ≤ k → r ≡ raisedSigma y → r ≡ chromaSigma least other (pickedIn n n lo hi t)
   unfolding chromaSigma
-  chroma er ev ez em ey et et′ ek h =
-      let xs = pickedIn n n lo hi t in
-      let a : m ≡ medianOf xs = em ∙ ap medianOf (ey ∙ plain xs) in
-      let b : v ≡ medianOf (map (deviation m) xs) = ev ∙ ap medianOf (ez ∙ ap (λ (u : List Float). map (formed (Apart m)) (pickedIn n n lo hi u)) (et ∙ et′) ∙ apart m xs) in
-      rw (le-ltb (length xs) least (omega arith)) (er ∙ sigma-from xs m v a b)
+  chroma k least other r ek h er = rw (le-ltb (length (pickedIn n n lo hi t)) least (omega arith)) (er ∙ ap raisedSigma listed)
 
 pub few-in : (n at : ℕ) (lo hi : Float) (t : List Float) → 0 + length (pickedIn n at lo hi t) ≤ n
 few-in n at lo hi t = omega (arith, picked-few n 0 (λ i. marked lo hi (getD t (2 * n + i) nan)) (λ i. getD t (at + i) nan))
@@ -141,6 +132,9 @@ module _ (palette : List Float) (n : ℕ) (t : List Float) (dark : Level) (ed : 
     unfolding recordIn recordOf
     light-few r k e = rw (nd, lt-ltb (length (levelIn true n t)) 3 (rw (ap (λ (x : Level). x .count) lt) at k)) e
 
+    pub spreads-still : (t2 : List Float) → t2 ≡ t1 → RealSpreads n (medianOf (levelIn false n t)) (medianOf (levelIn true n t)) t → RealSpreads n (dark .l) (light .l) t2
+    spreads-still t2 e2 real = rw (e2 ∙ e1, ap (λ (x : Level). x .l) ed, ap (λ (x : Level). x .l) lt) real
+
     pub both-levels : (t2 : List Float) (r : ChannelStats) → 3 ≤ light .count → r ≡ figuresIn n (dark .l) (light .l) t2 → t2 ≡ t1 → r ≡ recordIn palette n t
     unfolding recordIn recordOf figuresIn
     both-levels t2 r k e e2 =
@@ -153,24 +147,22 @@ module _ (n k : ℕ) (t t1 : List Float) (e : t1 ≡ t) where
   pub second-fits : k ≡ 0 + length (levelIn false n t) → length (levelIn false n t) + length (levelIn true n t) ≤ n → k + length (levelIn true n t1) ≤ n
   second-fits ek h = rw e (omega arith)
 
-  pub both-lists : (dark light : Form) (y z : List Float) → y ≡ map (formed dark) (levelIn false n t) → z ≡ y ++ map (formed light) (levelIn true n t1) → z ≡ levelsIn dark light n t
-  both-lists dark light y z ey ez = ez ∙ rw (ey, e)
+  pub both-lists : (l0 l1 : Float) (y z : List Float) → y ≡ map (formed (Less l0)) (levelIn false n t) → z ≡ y ++ map (formed (Less l1)) (levelIn true n t1) → z ≡ spreadIn n l0 l1 t
+  both-lists l0 l1 y z ey ez = ez ∙ (rw (ey, e) (spread l0 l1 (levelIn false n t) (levelIn true n t)))
 
 -- the levels fit still
 pub still-fit : (n : ℕ) (t t1 t2 : List Float) → t2 ≡ t1 → t1 ≡ t → length (levelIn false n t) + length (levelIn true n t) ≤ n → length (levelIn false n t2) + length (levelIn true n t2) ≤ n
 still-fit n t t1 t2 e d h = rw (e, d) h
 
--- what several calls keep
+-- no distance is a NaN still
+pub still-real : (n : ℕ) (lo hi : Float) (t t1 : List Float) → t1 ≡ t → RealDistances (pickedIn n n lo hi t) → RealDistances (pickedIn n n lo hi t1)
+still-real n lo hi t t1 e h = rw e h
+
+-- what two calls keep
 pub kept-2 : (a b c : List Float) → c ≡ b → b ≡ a → c ≡ a
 kept-2 a b c p q = p ∙ q
 
-pub kept-4 : (a b c d e : List Float) → e ≡ d → d ≡ c → c ≡ b → b ≡ a → e ≡ a
-kept-4 a b c d e p q r s = p ∙ q ∙ r ∙ s
-
--- a median found at the start of a longer list: p is that start as `median` leaves it
-pub found : (r : Float) (p xs : List Float) → ordered r p ≡ orderedOf xs → r ≡ medianOf xs
-found r p xs e = ap (λ (o : Ordered). o .median) e
-
+-- p is the start of s as a call leaves it: what is behind it stays
 pub behind : (k n : ℕ) (s p : List Float) → length p ≡ length (take k s) → k ≤ n → n ≤ length s → drop n (p ++ drop k s) ≡ drop n s
 behind k n s p e h l =
     let lp : length p ≡ k = e ∙ length-take-le k s (omega arith) in

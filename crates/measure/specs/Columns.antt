@@ -2,24 +2,25 @@
 -- reference. Definitions only; `Measure` says what is right.
 use mathlib.Core.Path.{_≡_}
 use mathlib.Core.Bool.{Bool, true, false, cond, _&&_}
-use mathlib.Core.List.{List, _++_, map}
+use mathlib.Core.List.{List, map}
 use Prim.Native.Nat.{ℕ, _+_, _*_, _≤_, _<_}
 use lib.Dec.{ltb}
 use lib.ListN.{length, getD, set}
-use lib.Ieee.{Float, nan, binary32, add, sub, mul, ofBits, le, isNan}
+use lib.Ieee.{Float, nan, binary32, add, sub, mul, ofBits, le, eq, isNan}
 use Rattle.float.specs.Root.{sqrtOf}
 use Rattle.color.specs.declared.Linear.{Linear}
 use Rattle.color.specs.declared.Lab.{Lab}
 use Rattle.color.specs.Color.{linearToLab}
 use Rattle.order.specs.Median.{medianOf}
 use Rattle.order.specs.Deviation.{deviation}
+use Rattle.order.specs.Law.{Numbers}
 use Rattle.illum.specs.declared.IlluminationModel.{IlluminationModel}
 use Rattle.measure.specs.declared.Known.{Known}
 use Rattle.measure.specs.declared.Level.{Level}
 use Rattle.measure.specs.declared.Form.{Form}
-use Rattle.measure.specs.declared.Form.the-variants.{Plain, Less, Apart, LessApart}
+use Rattle.measure.specs.declared.Form.the-variants.{Plain, Less}
 use Rattle.stats.specs.declared.ChannelStats.{ChannelStats}
-use Rattle.measure.specs.Measure.{figuresOf, recordOf, less, isLight, atLevel, colourful, correctedAt, correctedLab, nominalLab, lightnessAt, picked}
+use Rattle.measure.specs.Measure.{figuresOf, recordOf, less, spreadAbout, isLight, atLevel, colourful, correctedAt, correctedLab, nominalLab, lightnessAt, picked}
 
 -- ---- marks: which lists a reference counts for. From 1 to 2 dark lightness, 5 to 6 light lightness, 2 to 5 chroma, 2 to 3 dark chroma, 4 to 5 light chroma.
 
@@ -100,6 +101,10 @@ kept j c k memo =
 
 -- ---- what is written of reference i of n
 
+-- a number of a reference with this mark: 0 where the mark is 0, since it counts for no list
+unfoldable pub counted : Float → Float → Float
+counted mark v = cond (eq mark m0) m0 v
+
 -- the square of the chroma error: the distance in the plane of a and b is its root
 unfoldable pub squareOf : Lab → Lab → Float
 squareOf c d =
@@ -110,18 +115,23 @@ squareOf c d =
 unfoldable pub squareAt : IlluminationModel → List Float → ℕ → Float
 squareAt m flat i = squareOf (correctedLab m flat i) (nominalLab flat i)
 
--- of a reference whose corrected Lab is c
+-- three numbers, each written into its column
+abbrev pub placed : ℕ → ℕ → Float → Float → Float → List Float → List Float
+placed n i a b c s = set (set (set s (n + i) a) (2 * n + i) b) (3 * n + i) c
+
+-- those of a reference whose corrected Lab is c
 unfoldable pub noted : Lab → List Float → List Float → ℕ → ℕ → List Float → List Float
 noted c palette flat n i s =
-    set (set (set s (n + i) (c .l)) (2 * n + i) (squareOf c (nominalLab flat i))) (3 * n + i) (markAt palette flat i)
+    let mark = markAt palette flat i in
+    placed n i (counted mark (c .l)) (counted mark (squareOf c (nominalLab flat i))) mark s
 
 unfoldable pub notedAt : IlluminationModel → List Float → List Float → ℕ → ℕ → List Float → List Float
 notedAt m palette flat n i s = noted (correctedLab m flat i) palette flat n i s
 
 -- the columns of k references are written; e of each is in the second
 pub record Noted (m : IlluminationModel) (palette flat : List Float) (n k : ℕ) (e : ℕ → Float) (s : List Float) : Type 0 where
-  pub l : (j : ℕ) → j < k → getD s (n + j) nan ≡ lightnessAt m flat j
-  pub second : (j : ℕ) → j < k → getD s (2 * n + j) nan ≡ e j
+  pub l : (j : ℕ) → j < k → getD s (n + j) nan ≡ counted (markAt palette flat j) (lightnessAt m flat j)
+  pub second : (j : ℕ) → j < k → getD s (2 * n + j) nan ≡ counted (markAt palette flat j) (e j)
   pub mark : (j : ℕ) → j < k → getD s (3 * n + j) nan ≡ markAt palette flat j
 
 -- t is s with the roots of the second column's first k
@@ -132,11 +142,7 @@ pub record Rooted (n k : ℕ) (s t : List Float) : Type 0 where
 
 -- ---- the corrected colours, which stand in the columns until these are written
 
--- three numbers of a reference, each written into its column
-abbrev pub placed : ℕ → ℕ → Float → Float → Float → List Float → List Float
-placed n i a b c s = set (set (set s (n + i) a) (2 * n + i) b) (3 * n + i) c
-
--- the colour whose components stand there
+-- the colour whose components stand at reference i
 unfoldable pub colourAt : ℕ → ℕ → List Float → Linear
 colourAt n i s = record { r = getD s (n + i) nan; g = getD s (2 * n + i) nan; b = getD s (3 * n + i) nan }
 
@@ -167,6 +173,21 @@ unfoldable pub recordIn : List Float → ℕ → List Float → ChannelStats
 recordIn palette n t =
     recordOf palette n (levelIn false n t) (levelIn true n t) (pickedIn n n m2 m5 t) (pickedIn n n m2 m3 t) (pickedIn n n m4 m5 t)
 
+-- the lightnesses about their level's median, the dark ones first
+abbrev pub spreadIn : ℕ → Float → Float → List Float → List Float
+spreadIn n l0 l1 t = spreadAbout l0 l1 (levelIn false n t) (levelIn true n t)
+
+-- no distance from the median is a NaN: then the median of the distances does not depend on their order
+abbrev pub RealDistances : List Float → Type 0
+RealDistances xs = Numbers (map (deviation (medianOf xs)) xs)
+
+-- so of each list whose deviation is in the record
+pub record RealSpreads (n : ℕ) (l0 l1 : Float) (t : List Float) : Type 0 where
+  pub luma : RealDistances (spreadIn n l0 l1 t)
+  pub chroma : RealDistances (pickedIn n n m2 m5 t)
+  pub dark : RealDistances (pickedIn n n m2 m3 t)
+  pub light : RealDistances (pickedIn n n m4 m5 t)
+
 -- how many a level has, and their median
 abbrev pub levelled : List Float → Level
 levelled xs = record { count = length xs; l = medianOf xs }
@@ -176,12 +197,6 @@ levelled xs = record { count = length xs; l = medianOf xs }
 unfoldable pub formed : Form → Float → Float
 formed Plain v = v
 formed (Less l) v = less l v
-formed (Apart m) v = deviation m v
-formed (LessApart l m) v = deviation m (less l v)
-
--- the lightnesses of the dark level in one form, then those of the light level in another
-abbrev pub levelsIn : Form → Form → ℕ → List Float → List Float
-levelsIn dark light n t = map (formed dark) (levelIn false n t) ++ map (formed light) (levelIn true n t)
 
 -- ---- one element listed, k being listed before
 

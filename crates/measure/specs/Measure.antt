@@ -118,13 +118,17 @@ less l v = sub binary32 v l
 abbrev pub spreadAbout : Float → Float → List Float → List Float → List Float
 spreadAbout l0 l1 dark light = map (less l0) dark ++ map (less l1) light
 
--- the luma noise: their scaled median absolute deviation, at least 0.75
-unfoldable pub lumaSigma : Float → Float → List Float → List Float → Float
-lumaSigma l0 l1 dark light = max (sigmaOf (spreadAbout l0 l1 dark light)) leastSigma
+-- the scaled median absolute deviation, at least 0.75
+abbrev pub raisedSigma : List Float → Float
+raisedSigma xs = max (sigmaOf xs) leastSigma
 
--- the chroma noise of errors, at least 0.75; `other` where there are fewer than `least` of them
+-- the luma noise
+unfoldable pub lumaSigma : Float → Float → List Float → List Float → Float
+lumaSigma l0 l1 dark light = raisedSigma (spreadAbout l0 l1 dark light)
+
+-- the chroma noise of errors; `other` where there are fewer than `least` of them
 unfoldable pub chromaSigma : ℕ → Float → List Float → Float
-chromaSigma least other errors = cond (ltb (length errors) least) other (max (sigmaOf errors) leastSigma)
+chromaSigma least other errors = cond (ltb (length errors) least) other (raisedSigma errors)
 
 -- the record of the levels' medians and the five lists
 unfoldable pub figuresOf : ℕ → Float → Float → List Float → List Float → List Float → List Float → List Float → ChannelStats

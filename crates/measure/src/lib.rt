@@ -15,7 +15,7 @@ ghost use Rattle.sentences.specs.Sentences.{refusal};
 ghost use Rattle.color.specs.Color.{whole, linearToLab};
 ghost use Rattle.color.specs.Palette.{paletteLen};
 ghost use Rattle.order.specs.Median.{medianOf};
-ghost use Rattle.order.specs.Deviation.{sigmaOf};
+ghost use Rattle.references.specs.References.{wildColours};
 ghost use Rattle.measure.specs.Measure as spec;
 ghost use Rattle.measure.specs.Measure.{final, request, flatRequest};
 ghost use Rattle.measure.specs.Columns as column;
@@ -242,7 +242,9 @@ fn correct(model: IlluminationModel, flat: &[f32], n: usize, s: &mut [f32])
     }
 }
 
-// Writes the three numbers of reference i of n over its corrected colour, the chroma error squared; mid as in `mark_for`.
+// Writes the three numbers of reference i of n over its corrected colour, the chroma error squared; mid as in `mark_for`. A
+// reference whose mark is 0, as white and black cells of a card's border have it, counts for no list: its other numbers are 0,
+// since finding them out would take three cube roots.
 fn note_at(
     palette: &[f32],
     mid: f32,
@@ -255,12 +257,16 @@ fn note_at(
     requires { ⌜ (n ≤ 16384) × (i < n) × (8 * n ≤ length (now flat)) × (2 ≤ length (now palette)) × (mid ≡ spec.middle (now palette)) × (length (now s) ≡ 4 * n) × column.Remembered (now palette) (now memo) ⌝ }
     ensures { λ _. ⌜ (now (s .exit) ≡ column.noted (linearToLab (column.colourAt n i (now (s .entry)))) (now (palette .entry)) (now (flat .entry)) n i (now (s .entry))) × column.Remembered (now (palette .entry)) (now (memo .exit)) ⌝ }
 {
+    let nominal = recall(palette, mid, references::nominal_at(flat, i), memo);
+    if nominal.mark == 0.0 {
+        place(n, i, 0.0, 0.0, nominal.mark, s);
+        return;
+    }
     let corrected = color::linear_to_lab(Linear {
         r: s[n + i],
         g: s[2 * n + i],
         b: s[3 * n + i],
     });
-    let nominal = recall(palette, mid, references::nominal_at(flat, i), memo);
     let da = corrected.a - nominal.a;
     let db = corrected.b - nominal.b;
     place(n, i, corrected.l, da * da + db * db, nominal.mark, s);
@@ -302,12 +308,10 @@ fn note(model: IlluminationModel, palette: &[f32], flat: &[f32], n: usize, s: &m
 
 // ---- the lists
 
-// The form in which a number is listed: as it is, less l, as its distance from m, as that of what is less l.
+// The form in which a number is listed: as it is, or less l.
 enum Form {
     Plain,
     Less(f32),
-    Apart(f32),
-    LessApart(f32, f32),
 }
 
 fn formed(form: Form, v: f32) -> f32
@@ -316,8 +320,6 @@ fn formed(form: Form, v: f32) -> f32
     match form {
         Form::Plain => v,
         Form::Less(l) => v - l,
-        Form::Apart(m) => float::abs(v - m),
-        Form::LessApart(l, m) => float::abs(v - l - m),
     }
 }
 
@@ -377,38 +379,53 @@ fn median_of(s: &mut [f32], n: usize, k: usize) -> f32
     order::median(&mut s[..k])
 }
 
-// Lists the lightnesses of the dark level in one form, then those of the light level in another, and says how many they are.
-fn list_levels(s: &mut [f32], n: usize, dark: Form, light: Form) -> usize
+// Lists the lightnesses of the dark level less l0, then those of the light level less l1, and says how many they are.
+fn list_levels(s: &mut [f32], n: usize, l0: f32, l1: f32) -> usize
     requires { ⌜ (n ≤ 16384) × (length (now s) ≡ 4 * n) × (length (column.levelIn false n (drop n (now s))) + length (column.levelIn true n (drop n (now s))) ≤ n) ⌝ }
-    ensures { λ r. ⌜ (take r (now (s .exit)) ≡ column.levelsIn dark light n (drop n (now (s .entry)))) × (r ≤ n) × (drop n (now (s .exit)) ≡ drop n (now (s .entry))) ⌝ }
+    ensures { λ r. ⌜ (take r (now (s .exit)) ≡ column.spreadIn n l0 l1 (drop n (now (s .entry)))) × (r ≤ n) × (drop n (now (s .exit)) ≡ drop n (now (s .entry))) ⌝ }
 {
-    let k = list(s, n, 0, 1.0, 2.0, dark, 0);
-    list(s, n, 0, 5.0, 6.0, light, k)
+    let k = list(s, n, 0, 1.0, 2.0, Form::Less(l0), 0);
+    list(s, n, 0, 5.0, 6.0, Form::Less(l1), k)
 }
 
-// The luma noise about the levels' medians l0 and l1: the scaled median absolute deviation, at least 0.75.
+// The scaled median absolute deviation of a list, at least 0.75. The distances are taken in the order in which the median leaves
+// the values: their own median does not depend on it where none is a NaN.
+fn sigma_in(values: &mut [f32]) -> f32
+    requires { ⌜ column.RealDistances (now values) ⌝ }
+    ensures { λ r. ⌜ r ≡ spec.raisedSigma (now (values .entry)) ⌝ }
+{
+    let m = order::median(values);
+    order::deviate_in(values, m);
+    float::max(1.4826 * order::median(values), 0.75)
+}
+
+// That of the first k of s, the list.
+fn sigma_of(s: &mut [f32], n: usize, k: usize) -> f32
+    requires { ⌜ (k ≤ n) × (length (now s) ≡ 4 * n) × column.RealDistances (take k (now s)) ⌝ }
+    ensures { λ r. ⌜ (r ≡ spec.raisedSigma (take k (now (s .entry)))) × (drop n (now (s .exit)) ≡ drop n (now (s .entry))) ⌝ }
+{
+    sigma_in(&mut s[..k])
+}
+
+// The luma noise about the levels' medians l0 and l1.
 fn luma_sigma(s: &mut [f32], n: usize, l0: f32, l1: f32) -> f32
-    requires { ⌜ (n ≤ 16384) × (length (now s) ≡ 4 * n) × (length (column.levelIn false n (drop n (now s))) + length (column.levelIn true n (drop n (now s))) ≤ n) ⌝ }
+    requires { ⌜ (n ≤ 16384) × (length (now s) ≡ 4 * n) × (length (column.levelIn false n (drop n (now s))) + length (column.levelIn true n (drop n (now s))) ≤ n) × column.RealDistances (column.spreadIn n l0 l1 (drop n (now s))) ⌝ }
     ensures { λ r. ⌜ (r ≡ spec.lumaSigma l0 l1 (column.levelIn false n (drop n (now (s .entry)))) (column.levelIn true n (drop n (now (s .entry))))) × (drop n (now (s .exit)) ≡ drop n (now (s .entry))) ⌝ }
 {
-    let k = list_levels(s, n, Form::Less(l0), Form::Less(l1));
-    let m = median_of(s, n, k);
-    let j = list_levels(s, n, Form::LessApart(l0, m), Form::LessApart(l1, m));
-    float::max(1.4826 * median_of(s, n, j), 0.75)
+    let k = list_levels(s, n, l0, l1);
+    sigma_of(s, n, k)
 }
 
-// The chroma noise of the references whose mark is from lo to hi, at least 0.75; `other` where there are fewer than `least`.
+// The chroma noise of the references whose mark is from lo to hi; `other` where there are fewer than `least`.
 fn chroma_sigma(s: &mut [f32], n: usize, lo: f32, hi: f32, least: usize, other: f32) -> f32
-    requires { ⌜ (n ≤ 16384) × (length (now s) ≡ 4 * n) ⌝ }
+    requires { ⌜ (n ≤ 16384) × (length (now s) ≡ 4 * n) × column.RealDistances (column.pickedIn n n lo hi (drop n (now s))) ⌝ }
     ensures { λ r. ⌜ (r ≡ spec.chromaSigma least other (column.pickedIn n n lo hi (drop n (now (s .entry))))) × (drop n (now (s .exit)) ≡ drop n (now (s .entry))) ⌝ }
 {
     let k = list(s, n, n, lo, hi, Form::Plain, 0);
     if k < least {
         return other;
     }
-    let m = median_of(s, n, k);
-    let j = list(s, n, n, lo, hi, Form::Apart(m), 0);
-    float::max(1.4826 * median_of(s, n, j), 0.75)
+    sigma_of(s, n, k)
 }
 
 // ---- the record
@@ -431,7 +448,7 @@ fn level_of(s: &mut [f32], n: usize, lo: f32, hi: f32) -> Level
 
 // The record of the levels' medians and the columns.
 fn figures_of(s: &mut [f32], n: usize, l0: f32, l1: f32) -> ChannelStats
-    requires { ⌜ (n ≤ 16384) × (length (now s) ≡ 4 * n) × (length (column.levelIn false n (drop n (now s))) + length (column.levelIn true n (drop n (now s))) ≤ n) ⌝ }
+    requires { ⌜ (n ≤ 16384) × (length (now s) ≡ 4 * n) × (length (column.levelIn false n (drop n (now s))) + length (column.levelIn true n (drop n (now s))) ≤ n) × column.RealSpreads n l0 l1 (drop n (now s)) ⌝ }
     ensures { λ r. ⌜ r ≡ column.figuresIn n l0 l1 (drop n (now (s .entry))) ⌝ }
 {
     let sigma_l = luma_sigma(s, n, l0, l1);
@@ -451,7 +468,7 @@ fn figures_of(s: &mut [f32], n: usize, l0: f32, l1: f32) -> ChannelStats
 
 // The record of the columns; `nominal` with fewer than 3 of a level.
 fn record_of(palette: &[f32], n: usize, s: &mut [f32]) -> ChannelStats
-    requires { ⌜ (n ≤ 16384) × (2 ≤ length (now palette)) × (length (now s) ≡ 4 * n) × (length (column.levelIn false n (drop n (now s))) + length (column.levelIn true n (drop n (now s))) ≤ n) ⌝ }
+    requires { ⌜ (n ≤ 16384) × (2 ≤ length (now palette)) × (length (now s) ≡ 4 * n) × (length (column.levelIn false n (drop n (now s))) + length (column.levelIn true n (drop n (now s))) ≤ n) × column.RealSpreads n (medianOf (column.levelIn false n (drop n (now s)))) (medianOf (column.levelIn true n (drop n (now s)))) (drop n (now s)) ⌝ }
     ensures { λ r. ⌜ r ≡ column.recordIn (now (palette .entry)) n (drop n (now (s .entry))) ⌝ }
 {
     let dark = level_of(s, n, 1.0, 2.0);
@@ -473,7 +490,7 @@ pub fn measured(
     n: usize,
     s: &mut [f32],
 ) -> ChannelStats
-    requires { ⌜ (n ≤ 16384) × (8 * n ≤ length (now flat)) × (2 ≤ length (now palette)) × (length (now s) ≡ 4 * n) ⌝ }
+    requires { ⌜ (n ≤ 16384) × (8 * n ≤ length (now flat)) × (2 ≤ length (now palette)) × (length (now s) ≡ 4 * n) × (wildColours (now flat) n ≡ false) × (spec.badCorrected model (now flat) n ≡ false) ⌝ }
     ensures { λ r. ⌜ r ≡ spec.measured model (now (palette .entry)) (now (flat .entry)) n ⌝ }
 {
     if n < 8 {

@@ -1,9 +1,32 @@
 -- `measure::figures_of` meets its contract: figure by figure; the columns stay. Assumes nothing.
+use mathlib.Core.Path.{_∙_}
 use lib.ListN.{drop}
-use Rattle.measure.proofs.Sigmas.{figured}
+use Rattle.measure.specs.Columns.{m2, m3, m4, m5}
+use Rattle.measure.proofs.Sigmas.{figured, still-real}
 use borrow.Author.Needs.{needs}
 use Rattle.measure.proofs.figures_of.Statement.{statement}
 use Rattle.measure.proofs.figures_of.Tie as tie
+
+luma-sigma-requires : tie.Need-luma-sigma-requires
+luma-sigma-requires c κs = (search needs, search needs, search needs, c .before .before .pre .3 .luma)
+
+chroma-sigma-requires : tie.Need-chroma-sigma-requires
+chroma-sigma-requires c κs =
+    let start = c .before .before .before .before .before .before in
+    let n = start .args .n in
+    (search needs, search needs, still-real n m2 m5 (drop n (start .args .s .now)) _ (c .before .before .before .luma-sigma .ensures .1) (start .pre .3 .chroma))
+
+chroma-sigma-requires-2 : tie.Need-chroma-sigma-requires-2
+chroma-sigma-requires-2 c κs =
+    let start = c .before .before .before .before .before .before .before .before .before .before in
+    let n = start .args .n in
+    (search needs, search needs, still-real n m2 m3 (drop n (start .args .s .now)) _ (c .before .before .before .chroma-sigma .ensures .1 ∙ c .before .before .before .before .before .before .before .luma-sigma .ensures .1) (start .pre .3 .dark))
+
+chroma-sigma-requires-3 : tie.Need-chroma-sigma-requires-3
+chroma-sigma-requires-3 c κs =
+    let start = c .before .before .before .before .before .before .before .before .before .before .before .before .before .before in
+    let n = start .args .n in
+    (search needs, search needs, still-real n m4 m5 (drop n (start .args .s .now)) _ (c .before .before .before .chroma-sigma2 .ensures .1 ∙ c .before .before .before .before .before .before .before .chroma-sigma .ensures .1 ∙ c .before .before .before .before .before .before .before .before .before .before .before .luma-sigma .ensures .1) (start .pre .3 .light))
 
 returns : tie.Need-returns
 returns c =
@@ -19,5 +42,4 @@ returns c =
 pub figures-of-spec : {M : Type 1} → statement M
 figures-of-spec =
     tie.close
-    (tie.spec (λ c κs. search needs) (λ c κs. search needs) (λ c κs. search needs) (λ c κs. search needs) (λ c. search needs)
-    (λ c. search needs) returns)
+    (tie.spec luma-sigma-requires chroma-sigma-requires chroma-sigma-requires-2 chroma-sigma-requires-3 (λ c. search needs) (λ c. search needs) returns)

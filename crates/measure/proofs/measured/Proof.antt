@@ -1,5 +1,5 @@
 -- `measure::measured` meets its contract: `nominal` below 8, and else the record of the columns. Assumes nothing.
-use Rattle.measure.proofs.Noting.{levels-fit, enough, too-few}
+use Rattle.measure.proofs.Noting.{levels-fit, spreads-real, enough, too-few}
 use borrow.Author.Needs.{needs}
 use Rattle.measure.proofs.measured.Statement.{statement}
 use Rattle.measure.proofs.measured.Tie as tie
@@ -8,7 +8,10 @@ returns : tie.Need-returns
 returns c = search (too-few)
 
 record-of-requires : tie.Need-record-of-requires
-record-of-requires c κs = (search needs, search needs, search needs, search (levels-fit))
+record-of-requires c κs =
+    let start = c .before .before .before .before .before .before .before .before .before in
+    let noted = c .before .before .before .note .ensures in
+    (search needs, search needs, search needs, levels-fit noted, spreads-real noted (c .before .before .before .before .before .if1 .left) (c .before .before .before .before .before .before .before .shared-slice-known2 .given) (start .pre .4) (start .pre .5))
 
 returns-2 : tie.Need-returns-2
 returns-2 c = search (enough)

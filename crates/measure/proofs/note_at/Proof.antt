@@ -1,38 +1,49 @@
--- `measure::note_at` meets its contract: the colour is read, its nominal colour is known, and the three numbers are placed. Assumes nothing.
+-- `measure::note_at` meets its contract: the nominal colour is known, and the three numbers are placed; by its mark they are 0, or those of the colour that is read. Assumes nothing.
 use mathlib.Core.Path.{_≡_}
+use mathlib.Core.Bool.{true, false}
 use mathlib.Core.List.{List}
 use Prim.Native.Nat.{ℕ}
-use lib.Ieee.{Float, binary32, add, sub, mul}
+use lib.Ieee.{Float, binary32, add, sub, mul, eq}
 use Rattle.color.specs.declared.Linear.{Linear}
 use Rattle.color.specs.declared.Lab.{Lab}
 use Rattle.color.specs.Color.{linearToLab}
 use Rattle.references.specs.References.{nominalAt}
 use Rattle.measure.specs.declared.Known.{Known}
 use Rattle.measure.specs.Measure.{nominalLab}
-use Rattle.measure.specs.Columns.{squareOf, knownOf, noted, placed, colourAt}
+use Rattle.measure.specs.Columns.{m0, counted, squareOf, knownOf, noted, placed, colourAt}
 use borrow.Author.Needs.{needs}
 use Rattle.measure.proofs.note_at.Statement.{statement}
 use Rattle.measure.proofs.note_at.Tie as tie
 
-module _ (palette flat : List Float) (n i : ℕ) (s s′ : List Float) where
-  numbers : (corrected : Lab) (nominal : Known) (c : Linear)
+module _ (palette flat : List Float) (n i : ℕ) (s s′ : List Float) (nominal : Known) (c : Linear) (en : nominal ≡ knownOf palette c) (ec : c ≡ nominalAt flat i) where
+  no-list : (lab : Lab) → s′ ≡ placed n i m0 m0 (nominal .mark) s → eq (nominal .mark) m0 ≡ true → s′ ≡ noted lab palette flat n i s
+  unfolding noted counted knownOf nominalLab
+  no-list lab e z = rw (e, ← ec, rw en at z, en)
+
+  numbers : (corrected : Lab)
       → s′ ≡ placed n i (corrected .l)
       (add binary32 (mul binary32 (sub binary32 (corrected .a) (nominal .a)) (sub binary32 (corrected .a) (nominal .a))) (mul binary32 (sub binary32 (corrected .b) (nominal .b)) (sub binary32 (corrected .b) (nominal .b))))
       (nominal .mark) s
-      → nominal ≡ knownOf palette c → c ≡ nominalAt flat i → corrected ≡ linearToLab (colourAt n i s) → s′ ≡ noted (linearToLab (colourAt n i s)) palette flat n i s
-  unfolding noted squareOf knownOf nominalLab
-  numbers corrected nominal c e en ec el = rw (e, en, ec, el)
+      → eq (nominal .mark) m0 ≡ false → corrected ≡ linearToLab (colourAt n i s) → s′ ≡ noted (linearToLab (colourAt n i s)) palette flat n i s
+  unfolding noted counted squareOf knownOf nominalLab
+  numbers corrected e z el = rw (e, ← ec, rw en at z, en, el)
 
 returns : tie.Need-returns
-unfolding colourAt
 returns c =
-    let start = c .before .before .before .before .before .before .before .before .before .before .before .before .before .before .before .before .before .before in
-    let known = c .before .before .before .before .before .before .before .before .recall .ensures in
-    (numbers _ _ (start .args .n) _ (start .args .s .now) _ _ _ _ (c .before .before .place .ensures) (known .0) (c .before .before .before .before .before .before .before .before .before .before .nominal-at .ensures) (c .before .before .before .before .before .before .before .before .before .before .before .linear-to-lab .ensures), known .1)
+    let start = c .before .before .before .before .before .before .before .before .before .before .before .before in
+    let known = c .before .before .before .before .before .before .recall .ensures in
+    (no-list _ _ (start .args .n) _ (start .args .s .now) _ _ _ (known .0) (c .before .before .before .before .before .before .before .before .nominal-at .ensures) _ (c .before .before .place .ensures) (c .before .before .before .before .if1 .taken), known .1)
+
+returns-2 : tie.Need-returns-2
+unfolding colourAt
+returns-2 c =
+    let start = c .before .before .before .before .before .before .before .before .before .before .before .before .before .before .before .before .before .before .before .before in
+    let known = c .before .before .before .before .before .before .before .before .before .before .before .before .before .before .recall .ensures in
+    (numbers _ _ (start .args .n) _ (start .args .s .now) _ _ _ (known .0) (c .before .before .before .before .before .before .before .before .before .before .before .before .before .before .before .before .nominal-at .ensures) _ (c .before .before .place2 .ensures) (c .before .before .before .before .before .before .before .before .before .before .before .before .if1 .left) (c .before .before .before .before .before .before .before .before .linear-to-lab .ensures), known .1)
 
 pub note-at-spec : {M : Type 1} → statement M
 note-at-spec =
     tie.close
-    (tie.spec (λ c. search needs) (λ c. search needs) (λ c. search needs) (λ c. search needs) (λ c. search needs) (λ c. search needs)
-    (λ c. search needs) (λ c. search needs) (λ c. search needs) (λ c. search needs) (λ c. search needs) (λ c κs. search needs) (λ c κs. search needs)
-    (λ c κs. search needs) (λ c κs. search needs) (λ c. search needs) returns)
+    (tie.spec (λ c κs. search needs) (λ c κs. search needs) (λ c κs. search needs) (λ c. search needs) returns (λ c. search needs) (λ c. search needs)
+    (λ c. search needs) (λ c. search needs) (λ c. search needs) (λ c. search needs) (λ c. search needs) (λ c. search needs) (λ c. search needs)
+    (λ c. search needs) (λ c. search needs) (λ c κs. search needs) (λ c κs. search needs) (λ c. search needs) returns-2)

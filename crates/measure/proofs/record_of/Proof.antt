@@ -1,6 +1,6 @@
 -- `measure::record_of` meets its contract: by the levels' counts. Assumes nothing.
 use lib.ListN.{drop}
-use Rattle.measure.proofs.Sigmas.{dark-few, light-few, both-levels, still-fit}
+use Rattle.measure.proofs.Sigmas.{dark-few, light-few, both-levels, still-fit, spreads-still}
 use borrow.Author.Needs.{needs}
 use Rattle.measure.proofs.record_of.Statement.{statement}
 use Rattle.measure.proofs.record_of.Tie as tie
@@ -22,7 +22,13 @@ figures-of-requires : tie.Need-figures-of-requires
 figures-of-requires c κs =
     let start = c .before .before .before .before .before .before .before .before .before .before .before .before .before .before .before in
     let n = start .args .n in
-    (search needs, search needs, still-fit n (drop n (start .args .s .now)) _ _ (c .before .before .before .before .before .before .before .level-of2 .ensures .1) (c .before .before .before .before .before .before .before .before .before .before .before .level-of .ensures .1) (start .pre .3))
+    let dark = c .before .before .before .before .before .before .before .before .before .before .before .level-of in
+    let light = c .before .before .before .before .before .before .before .level-of2 in (
+      search needs,
+      search needs,
+      still-fit n (drop n (start .args .s .now)) _ _ (light .ensures .1) (dark .ensures .1) (start .pre .3),
+      spreads-still (start .args .palette .now) n (drop n (start .args .s .now)) _ (dark .ensures .0) _ _ (light .ensures .0) (dark .ensures .1) (c .before .before .before .if1 .left) _ (light .ensures .1) (start .pre .4),
+    )
 
 returns-3 : tie.Need-returns-3
 returns-3 c =
