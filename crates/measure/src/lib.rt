@@ -482,8 +482,8 @@ fn record_of(palette: &[f32], n: usize, s: &mut [f32]) -> ChannelStats
     figures_of(s, n, dark.l, light.l)
 }
 
-// Core: the record of n references that the sentences let pass; `nominal` of fewer than 8. The numbers in s are of no use after.
-pub fn measured(
+// The record of n references that the sentences let pass; `nominal` of fewer than 8. The numbers in s are of no use after.
+fn measured(
     model: IlluminationModel,
     palette: &[f32],
     flat: &[f32],
