@@ -1,5 +1,5 @@
-// Samples: the Lab of a corrected colour and the weight by which its scores count, of at most 16 colours at a time. Labs, distances and weights are a
-// loop each, whose turns are short and do not wait for each other: one colour's whole arithmetic is a chain longer than a processor looks ahead.
+// Samples: the Lab of a corrected colour and the weight by which its scores count, of at most 16 colours at a time. Labs, distances
+// and weights are a loop each, whose turns are short and do not wait for each other, which takes less time than one loop for all.
 ghost use mathlib.Core.Path.{_≡_};
 ghost use Prim.Native.Nat.{_+_, _*_, _<_, _≤_};
 ghost use lib.ListN.{length};
