@@ -12,7 +12,7 @@ use color::linear_to_lab;
 use color::palette::linear_at;
 use stats::ChannelStats;
 
-// How many colours the block that starts at `from` has, of n colours: 16, or those that are left.
+// Core: how many colours the block that starts at `from` has, of n colours: 16, or those that are left.
 pub fn block_size(from: usize, n: usize) -> usize
     requires { ⌜ from < n ⌝ }
     ensures { λ r. ⌜ (0 < r) × (r ≤ 16) × (from + r ≤ n) ⌝ }
@@ -23,7 +23,7 @@ pub fn block_size(from: usize, n: usize) -> usize
     16
 }
 
-// Three numbers at the places of entry i.
+// Core: writes three numbers at the places of entry i.
 pub fn put_three(l: &mut [f32], i: usize, x: f32, y: f32, z: f32)
     requires { ⌜ 3 * i + 2 < length (now l) ⌝ }
     ensures { λ _. ⌜ now (l .exit) ≡ spec.putThree (now (l .entry)) i x y z ⌝ }
@@ -33,7 +33,7 @@ pub fn put_three(l: &mut [f32], i: usize, x: f32, y: f32, z: f32)
     l[3 * i + 2] = z;
 }
 
-// Lab j of a list that has three numbers for each.
+// Core: Lab j of a list that has three numbers for each.
 pub fn lab_at(labs: &[f32], j: usize) -> Lab
     requires { ⌜ 3 * j + 2 < length (now labs) ⌝ }
     ensures { λ r. ⌜ r ≡ spec.labAt (now (labs .entry)) j ⌝ }
@@ -84,7 +84,7 @@ fn write_weights(distances: &[f32], n: usize, weights: &mut [f32])
     }
 }
 
-// Writes the samples of n colours of a list, from colour `from` on.
+// Core: writes the samples of n colours of a list, from colour `from` on.
 pub fn write_samples(
     noise: ChannelStats,
     palette: &[f32],
