@@ -17,6 +17,7 @@
 --             that is twice another rounds above it (`apart`, `div-apart`)
 --   Nearest   no value of the format is nearer to the exact result than the rounded one
 --   Exact     results that lose nothing: doubling, halving, whole numbers; a difference of different values is not 0 (gradual underflow)
+--   NegativeZero  adding -0 changes nothing
 --   Sum       sums that a loop makes
 --   Nan       what `x != x` says
 --   Bits      bit patterns: a value by its pattern, the pattern of a value, a value is its sign and its size
@@ -35,6 +36,7 @@ pub mod Magnitude
 pub mod Error
 pub mod Nearest
 pub mod Exact
+pub mod NegativeZero
 pub mod Sum
 pub mod Nan
 pub mod Bits

@@ -3,16 +3,17 @@
 use mathlib.Core.Path.{_≡_, refl, sym, _∙_}
 use mathlib.Core.Bool.{true, false}
 use mathlib.Core.List.{List}
-use Prim.Native.Nat.{ℕ}
+use Prim.Native.Nat.{ℕ, _<_}
 use lib.IntN.{ℤ}
 use lib.ListN.{length}
+use Rattle.loops.proofs.Laws.{anyUp-false}
 use Rattle.sentences.specs.Sentences.{refusal, at, fresh, sound}
 use Rattle.sentences.proofs.Laws.{ahead, behind, none-holds, neither}
-use Rattle.places.specs.Places.{badPlaces}
+use Rattle.places.specs.Places.{misplacedAt, badPlaces}
 use Rattle.limits.specs.Limits.{badModules, badCells, badCounts}
 use Rattle.limits.proofs.Laws.{side-in, cell-size-in, modules-in, counts-in}
 use Rattle.layout.specs.declared.Layout.{Layout}
-use Rattle.layout.specs.Groups.{shape, Shaped, modulePlacement, ModulesPlaced, placement, badPositions, Placed}
+use Rattle.layout.specs.Groups.{shape, Shaped, modulePlacement, ModulesPlaced, Positions, PositionAt, placement, badPositions, Placed}
 
 -- ---- the layout by itself
 
@@ -44,6 +45,10 @@ module _ (side grid : ℕ) (xs ys : List ℤ) where
     where
       no : (m : ℕ) → at m (modulePlacement side grid xs ys) ≡ false
       no m = none-holds (modulePlacement side grid xs ys) modules-sound m (sym z ∙ e)
+
+  pub position-at : (i : ℕ) → Positions side grid xs ys → i < length xs → PositionAt side grid xs ys i
+  position-at i p h =
+      record { side-most = p .side-most; pairs = p .pairs; in-list = h; place-good = anyUp-false (misplacedAt side grid xs ys) (length xs) (p .places-good) i h }
 
 -- ---- modules and cells
 

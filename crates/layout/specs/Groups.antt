@@ -2,11 +2,11 @@
 use mathlib.Core.Path.{_≡_}
 use mathlib.Core.Bool.{Bool, false, _||_}
 use mathlib.Core.List.{List, [], _∷_}
-use Prim.Native.Nat.{ℕ, _≤_}
+use Prim.Native.Nat.{ℕ, _≤_, _<_}
 use lib.IntN.{ℤ}
 use lib.ListN.{length}
 use Rattle.sentences.specs.Sentences.{Sentence, _when_, refusal}
-use Rattle.places.specs.Places.{badPlaces}
+use Rattle.places.specs.Places.{misplacedAt, badPlaces}
 use Rattle.limits.specs.Limits.{badSide, badHues, badCellSize, badModules, badCounts, badCells}
 use Rattle.layout.specs.declared.Layout.{Layout}
 
@@ -33,6 +33,19 @@ pub record ModulesPlaced (side grid : ℕ) (xs ys : List ℤ) : Type 0 where
   pub modules-most : length xs ≤ 1048576
   pub grid-most : grid ≤ length xs
   pub places-good : badPlaces side grid xs ys ≡ false
+
+-- what the functions behind the calls ask of positions: they run in pairs, and each is where a grid or a ring module may be
+pub record Positions (side grid : ℕ) (xs ys : List ℤ) : Type 0 where
+  pub side-most : side ≤ 1024
+  pub pairs : length xs ≡ length ys
+  pub places-good : badPlaces side grid xs ys ≡ false
+
+-- and of one of them
+pub record PositionAt (side grid : ℕ) (xs ys : List ℤ) (i : ℕ) : Type 0 where
+  pub side-most : side ≤ 1024
+  pub pairs : length xs ≡ length ys
+  pub in-list : i < length xs
+  pub place-good : misplacedAt side grid xs ys i ≡ false
 
 -- ---- modules and cells, each sentence of both
 
