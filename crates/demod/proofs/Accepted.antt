@@ -1,7 +1,7 @@
 -- What `score` knows past its sentences: none of them holds, so the slices are long enough, the positions are f32 values, and colours, palette and record are in their ranges. Assumes nothing.
 use mathlib.Core.Path.{_≡_, refl, sym, _∙_}
 use mathlib.Core.Bool.{true, false, not, cond}
-use mathlib.Core.List.{List}
+use mathlib.Core.List.{List, [], _∷_}
 use Prim.Native.Nat.{ℕ, zero, suc, _*_, _≤_, _<_}
 use borrow.Author.Tests.{ltb-false, not-false, eqb-true}
 use lib.Dec.{ltb, eqb}
@@ -10,63 +10,56 @@ use lib.ListN.{length}
 use lib.Ieee.{Float}
 use Rattle.loops.proofs.Laws.{anyUp-false}
 use Rattle.sentences.specs.Sentences.{refusal, decided, at, before, fresh, sound}
-use Rattle.sentences.proofs.Laws.{none-holds, that-holds, earlier-fail, neither, refuses, accepts}
-use Rattle.places.specs.Places.{badPlaces}
-use Rattle.limits.specs.Limits.{badHues, badCells}
+use Rattle.sentences.proofs.Laws.{none-holds, that-holds, earlier-fail, split, neither, refuses, accepts}
 use Rattle.limits.specs.Chroma.{chromaOn, ringModules, chromaLength}
-use Rattle.limits.proofs.Laws.{side-in, cell-size-in, counts-in}
+use Rattle.layout.specs.declared.Layout.{Layout}
+use Rattle.layout.specs.Groups.{shape, placement, Shaped, Paired, Placed}
+use Rattle.layout.proofs.Laws.{shape-sound, placement-sound, shaped, placed}
 use Rattle.color.specs.declared.Linear.{Linear}
 use Rattle.color.specs.Palette.{paletteLen, wildIn, wildPalette, wildLinear}
 use Rattle.illum.specs.Refusals.{badModel}
 use Rattle.stats.specs.declared.ChannelStats.{ChannelStats}
 use Rattle.stats.specs.Calls.{shortPalette, badNoiseNumbers, badNumbers, badSigmas}
 use Rattle.stats.proofs.Passed.{palette-long}
-use Rattle.demod.specs.Score.{Exact}
+use Rattle.demod.specs.Ready.{Sampled}
 use Rattle.answers.specs.Answers.{outcomeNumber}
-use Rattle.demod.specs.Call.{badModuleLengths, badCellLengths, shortChroma, badLengths, badPositions, badInputs, wildColourAt, wildColours, badCorrected, Request, moduleColours, cellColours, sentencesOf, turnedAway, done, scoredOf}
+use Rattle.demod.specs.Call.{badModuleLengths, badCellLengths, shortChroma, badLengths, badInputs, wildColourAt, wildColours, badCorrected, Request, moduleColours, cellColours, sentencesOf, turnedAway, done, scoredOf}
 use Rattle.demod.proofs.Places.{exact-xs, exact-ys}
 
 equal : (a b : ℕ) → not (eqb a b) ≡ false → a ≡ b
 equal a b h = eqb-true a b (not-false (eqb a b) h)
 
 -- 5, slice by slice
-pub record Lengths (hues size : ℕ) (xs ys : List ℤ) (grid : ℕ) (raw : List Float) (cxs cys : List ℕ) (craw palette luma colours chroma : List Float) : Type 0 where
-  pub modules : length xs ≡ length ys
+pub record Lengths (l : Layout) (xs ys : List ℤ) (raw : List Float) (cxs cys : List ℕ) (craw palette luma colours chroma : List Float) : Type 0 where
+  pub pairs : Paired xs ys cxs cys
   pub raw-three : 3 * length xs ≤ length raw
   pub scores : length xs ≤ length luma
   pub places : 3 * length xs ≤ length colours
-  pub cells : length cxs ≡ length cys
   pub craw-three : 3 * length cxs ≤ length craw
-  pub palette-long : paletteLen hues ≤ length palette
-  pub chroma-long : chromaLength hues (length cxs) (ringModules (length xs) grid) size ≤ length chroma
+  pub palette-long : paletteLen (l .hues) ≤ length palette
+  pub chroma-long : chromaLength (l .hues) (length cxs) (ringModules (length xs) (l .grid)) (l .size) ≤ length chroma
 
-pub lengths-in : (hues size : ℕ) (xs ys : List ℤ) (grid : ℕ) (raw : List Float) (cxs cys : List ℕ) (craw palette luma colours chroma : List Float) →
-    badLengths hues size xs ys grid raw cxs cys craw palette luma colours chroma ≡ false → Lengths hues size xs ys grid raw cxs cys craw palette luma colours chroma
+pub lengths-in : (l : Layout) (xs ys : List ℤ) (raw : List Float) (cxs cys : List ℕ) (craw palette luma colours chroma : List Float) →
+    badLengths l xs ys raw cxs cys craw palette luma colours chroma ≡ false → Lengths l xs ys raw cxs cys craw palette luma colours chroma
 unfolding badLengths badModuleLengths badCellLengths shortChroma
-lengths-in hues size xs ys grid raw cxs cys craw palette luma colours chroma h =
+lengths-in l xs ys raw cxs cys craw palette luma colours chroma h =
     let m = length xs in
     let a = neither (badModuleLengths m (length ys) (length raw) (length luma) (length colours)) _ h in
     let b = neither (badCellLengths (length cxs) (length cys) (length craw)) _ (a .1) in
-    let c = neither (shortPalette palette hues) (shortChroma (length chroma) hues size m grid (length cxs)) (b .1) in
+    let c = neither (shortPalette palette (l .hues)) (shortChroma l (length chroma) m (length cxs)) (b .1) in
     let p = neither (not (eqb m (length ys))) _ (a .0) in
     let q = neither (ltb (length raw) (3 * m)) _ (p .1) in
     let r = neither (ltb (length luma) m) (ltb (length colours) (3 * m)) (q .1) in
     let s = neither (not (eqb (length cxs) (length cys))) (ltb (length craw) (3 * length cxs)) (b .0) in
     record {
-      modules = equal m (length ys) (p .0);
+      pairs = record { modules = equal m (length ys) (p .0); cells = equal (length cxs) (length cys) (s .0) };
       raw-three = ltb-false (length raw) (3 * m) (q .0);
       scores = ltb-false (length luma) m (r .0);
       places = ltb-false (length colours) (3 * m) (r .1);
-      cells = equal (length cxs) (length cys) (s .0);
       craw-three = ltb-false (length craw) (3 * length cxs) (s .1);
-      palette-long = palette-long palette hues (c .0);
-      chroma-long = ltb-false (length chroma) (chromaLength hues (length cxs) (ringModules m grid) size) (c .1);
+      palette-long = palette-long palette (l .hues) (c .0);
+      chroma-long = ltb-false (length chroma) (chromaLength (l .hues) (length cxs) (ringModules m (l .grid)) (l .size)) (c .1);
     }
-
--- 7, of the modules' positions
-pub placed-in : (side grid : ℕ) (xs ys : List ℤ) (cxs cys : List ℕ) → badPositions side grid xs ys cxs cys ≡ false → (badPlaces side grid xs ys ≡ false) × (badCells cxs cys ≡ false)
-unfolding badPositions
-placed-in side grid xs ys cxs cys h = neither (badPlaces side grid xs ys) (badCells cxs cys) h
 
 -- 8
 pub record Inputs (raw : List Float) (m : ℕ) (craw : List Float) (c : ℕ) (n : ChannelStats) (palette : List Float) (hues : ℕ) : Type 0 where
@@ -97,24 +90,19 @@ module _ (hues : ℕ) (modules : ℕ → Linear) (m : ℕ) (cells : ℕ → Line
 
 -- at Done no sentence holds
 pub record Accepted (q : Request) : Type 0 where
-  pub side-most : q .side ≤ 1024
-  pub hues-good : badHues (q .hues) ≡ false
-  pub size-most : q .size ≤ 16
-  pub lengths : Lengths (q .hues) (q .size) (q .xs) (q .ys) (q .grid) (q .raw) (q .cxs) (q .cys) (q .craw) (q .palette) (q .luma) (q .colours) (q .chroma)
-  pub counts : (length (q .xs) ≤ 1048576) × (q .grid ≤ length (q .xs)) × (length (q .cxs) ≤ 1048576)
-  pub placed : badPlaces (q .side) (q .grid) (q .xs) (q .ys) ≡ false
-  pub xs-exact : Exact (q .xs) (length (q .xs))
-  pub ys-exact : Exact (q .ys) (length (q .xs))
-  pub cells-in : badCells (q .cxs) (q .cys) ≡ false
-  pub inputs : Inputs (q .raw) (length (q .xs)) (q .craw) (length (q .cxs)) (q .noise) (q .palette) (q .hues)
+  pub shaped : Shaped (q .layout)
+  pub lengths : Lengths (q .layout) (q .xs) (q .ys) (q .raw) (q .cxs) (q .cys) (q .craw) (q .palette) (q .luma) (q .colours) (q .chroma)
+  pub placed : Placed (q .layout) (q .xs) (q .ys) (q .cxs) (q .cys)
+  pub sampled : Sampled (q .xs) (q .ys) (q .raw)
+  pub inputs : Inputs (q .raw) (length (q .xs)) (q .craw) (length (q .cxs)) (q .noise) (q .palette) (q .layout .hues)
   pub sigmas : badSigmas (q .noise) ≡ false
   pub model : badModel (q .model) ≡ false
   pub modules-tame : (i : ℕ) → i < length (q .xs) → wildLinear (moduleColours q i) ≡ false
-  pub cells-tame : chromaOn (q .hues) ≡ true → (i : ℕ) → i < length (q .cxs) → wildLinear (cellColours q i) ≡ false
+  pub cells-tame : chromaOn (q .layout .hues) ≡ true → (i : ℕ) → i < length (q .cxs) → wildLinear (cellColours q i) ≡ false
 
 module _ (q : Request) where
   numbered : sound (sentencesOf q) ≡ true
-  unfolding sentencesOf sound fresh
+  unfolding sentencesOf shape placement sound fresh
   numbered = refl
 
   module _ (n : ℕ) (e : n ≡ refusal (sentencesOf q)) where
@@ -137,25 +125,42 @@ module _ (q : Request) where
       none : (m : ℕ) → at m (sentencesOf q) ≡ false
       none m = none-holds (sentencesOf q) numbered m (sym z ∙ e)
 
+      -- the two groups are passed
+      is-shaped : Shaped (q .layout)
+      unfolding sentencesOf
+      is-shaped = shaped (q .layout) 0 (split (shape (q .layout)) _ (shape-sound (q .layout)) (sym z ∙ e) .0) refl
+
+      is-placed : Placed (q .layout) (q .xs) (q .ys) (q .cxs) (q .cys)
+      unfolding sentencesOf sound fresh
+      is-placed =
+          let past-shape = split (shape (q .layout)) _ (shape-sound (q .layout)) (sym z ∙ e) .1 in
+          let past-lengths = split (_ ∷ []) _ refl past-shape .1 in
+          let at-placement = split (placement (q .layout) (q .xs) (q .ys) (q .cxs) (q .cys)) _ (placement-sound (q .layout) (q .xs) (q .ys) (q .cxs) (q .cys)) past-lengths .0 in
+          placed (q .layout) (q .xs) (q .ys) (q .cxs) (q .cys) 0 at-placement refl
+
+      long : Lengths (q .layout) (q .xs) (q .ys) (q .raw) (q .cxs) (q .cys) (q .craw) (q .palette) (q .luma) (q .colours) (q .chroma)
+      unfolding sentencesOf shape at
+      long = lengths-in (q .layout) (q .xs) (q .ys) (q .raw) (q .cxs) (q .cys) (q .craw) (q .palette) (q .luma) (q .colours) (q .chroma) (none 5)
+
       pub accepted : Accepted q
-      unfolding sentencesOf at
+      unfolding sentencesOf shape placement at
       accepted =
-          let p = placed-in (q .side) (q .grid) (q .xs) (q .ys) (q .cxs) (q .cys) (none 7) in
           record {
-            side-most = side-in (q .side) (none 2) .1;
-            hues-good = none 3;
-            size-most = cell-size-in (q .size) (none 4) .1;
-            lengths = lengths-in (q .hues) (q .size) (q .xs) (q .ys) (q .grid) (q .raw) (q .cxs) (q .cys) (q .craw) (q .palette) (q .luma) (q .colours) (q .chroma) (none 5);
-            counts = counts-in (length (q .xs)) (q .grid) (length (q .cxs)) (none 6);
-            placed = p .0;
-            xs-exact = exact-xs (q .side) (q .grid) (q .xs) (q .ys) (side-in (q .side) (none 2) .1) (p .0);
-            ys-exact = exact-ys (q .side) (q .grid) (q .xs) (q .ys) (side-in (q .side) (none 2) .1) (p .0);
-            cells-in = p .1;
-            inputs = inputs-in (q .raw) (length (q .xs)) (q .craw) (length (q .cxs)) (q .noise) (q .palette) (q .hues) (none 8);
+            shaped = is-shaped;
+            lengths = long;
+            placed = is-placed;
+            sampled =
+                record {
+                  pairs = long .pairs .modules;
+                  xs-exact = exact-xs (q .layout .side) (q .layout .grid) (q .xs) (q .ys) (is-shaped .side-most) (is-placed .places-good);
+                  ys-exact = exact-ys (q .layout .side) (q .layout .grid) (q .xs) (q .ys) (is-shaped .side-most) (is-placed .places-good);
+                  raw-three = long .raw-three;
+                };
+            inputs = inputs-in (q .raw) (length (q .xs)) (q .craw) (length (q .cxs)) (q .noise) (q .palette) (q .layout .hues) (none 8);
             sigmas = none 9;
             model = none 10;
-            modules-tame = modules-tame (q .hues) (moduleColours q) (length (q .xs)) (cellColours q) (length (q .cxs)) (none 12);
-            cells-tame = cells-tame (q .hues) (moduleColours q) (length (q .xs)) (cellColours q) (length (q .cxs)) (none 12);
+            modules-tame = modules-tame (q .layout .hues) (moduleColours q) (length (q .xs)) (cellColours q) (length (q .cxs)) (none 12);
+            cells-tame = cells-tame (q .layout .hues) (moduleColours q) (length (q .xs)) (cellColours q) (length (q .cxs)) (none 12);
           }
 
 -- the answer's number is that of the first sentence that holds

@@ -7,6 +7,7 @@ use lib.ListN.{length, set}
 use lib.Ieee.{Float}
 use Rattle.loops.specs.Loops.{turns, forUp}
 use Rattle.loops.proofs.Laws.{forUp-same}
+use Rattle.layout.specs.declared.Layout.{Layout}
 use Rattle.color.specs.declared.Linear.{Linear}
 use Rattle.color.specs.Palette.{linearAt}
 use Rattle.modulate.specs.declared.Cell.the-variants.{Unmasked}
@@ -43,11 +44,11 @@ module _ (n : ChannelStats) (palette : List Float) (hues : ℕ) (colour : ℕ �
           rw (q, e) (sym apart)
 
 -- the chroma list takes nothing of the modules' colours but each by itself, so it is the same by any list that holds them
-module _ (n : ChannelStats) (palette : List Float) (hues size grid : ℕ) (f g : ℕ → Linear) (m : ℕ) (cxs cys : List ℕ) (cells : ℕ → Linear) (chroma : List Float) (h : (j : ℕ) → j < m → f j ≡ g j) where
-  rings-same : (count : ℕ) (s : List Float) → writeRings n palette hues count grid f m s ≡ writeRings n palette hues count grid g m s
+module _ (l : Layout) (n : ChannelStats) (palette : List Float) (f g : ℕ → Linear) (m : ℕ) (cxs cys : List ℕ) (cells : ℕ → Linear) (chroma : List Float) (h : (j : ℕ) → j < m → f j ≡ g j) where
+  rings-same : (count : ℕ) (s : List Float) → writeRings n palette (l .hues) count (l .grid) f m s ≡ writeRings n palette (l .hues) count (l .grid) g m s
   unfolding writeRing
-  rings-same count s = forUp-same _ _ m grid s (λ j k l t. ap (λ (c : Linear). writeEntry n palette hues Unmasked c (count + (j - grid)) t) (h j l))
+  rings-same count s = forUp-same _ _ m (l .grid) s (λ j k i t. ap (λ (c : Linear). writeEntry n palette (l .hues) Unmasked c (count + (j - l .grid)) t) (h j i))
 
-  pub chroma-same : chromaWritten n palette hues size grid f m cxs cys cells chroma ≡ chromaWritten n palette hues size grid g m cxs cys cells chroma
+  pub chroma-same : chromaWritten l n palette f m cxs cys cells chroma ≡ chromaWritten l n palette g m cxs cys cells chroma
   unfolding chromaWritten ringChroma
-  chroma-same = rw (rings-same (length cxs) (writeCells n palette hues cxs cys cells (length cxs) chroma))
+  chroma-same = rw (rings-same (length cxs) (writeCells n palette (l .hues) cxs cys cells (length cxs) chroma))

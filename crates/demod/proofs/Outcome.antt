@@ -23,11 +23,11 @@ use Rattle.demod.proofs.Written.{Modules, modules-are, Entries, entrySc
 -- the chroma list of an accepted call, with chroma on
 pub record Listed (q : Request) : Type 0 where
   pub long : length (writtenChroma q) ≡ length (q .chroma)
-  pub cell : (i b : ℕ) → i < length (q .cxs) → b < symbolBits (q .hues) →
-      getD (writtenChroma q) (place (q .hues) i b) nan ≡ entryScore (q .noise) (q .palette) (q .hues) (At (getD (q .cxs) i 0) (getD (q .cys) i 0)) (cellColours q i) b
-  pub ring : q .size ≡ 1 → (i b : ℕ) → q .grid ≤ i → i < length (q .xs) → b < symbolBits (q .hues) →
-      getD (writtenChroma q) (place (q .hues) (length (q .cxs) + (i - q .grid)) b) nan ≡ entryScore (q .noise) (q .palette) (q .hues) Unmasked (moduleColours q i) b
-  pub kept : (j : ℕ) → chromaLength (q .hues) (length (q .cxs)) (ringModules (length (q .xs)) (q .grid)) (q .size) ≤ j → getD (writtenChroma q) j nan ≡ getD (q .chroma) j nan
+  pub cell : (i b : ℕ) → i < length (q .cxs) → b < symbolBits (q .layout .hues) →
+      getD (writtenChroma q) (place (q .layout .hues) i b) nan ≡ entryScore (q .noise) (q .palette) (q .layout .hues) (At (getD (q .cxs) i 0) (getD (q .cys) i 0)) (cellColours q i) b
+  pub ring : q .layout .size ≡ 1 → (i b : ℕ) → q .layout .grid ≤ i → i < length (q .xs) → b < symbolBits (q .layout .hues) →
+      getD (writtenChroma q) (place (q .layout .hues) (length (q .cxs) + (i - q .layout .grid)) b) nan ≡ entryScore (q .noise) (q .palette) (q .layout .hues) Unmasked (moduleColours q i) b
+  pub kept : (j : ℕ) → chromaLength (q .layout .hues) (length (q .cxs)) (ringModules (length (q .xs)) (q .layout .grid)) (q .layout .size) ≤ j → getD (writtenChroma q) j nan ≡ getD (q .chroma) j nan
 
 -- the length by the cell size
 module _ (hues cells ring size : ℕ) where
@@ -35,9 +35,9 @@ module _ (hues cells ring size : ℕ) where
   unfolding chromaLength chromaEntries
   length-is b e = ap (λ (t : Bool). symbolBits hues * (cells + cond t ring 0)) e ∙ mul-comm (symbolBits hues) (cells + cond b ring 0)
 
-module _ (q : Request) (a : Accepted q) (o : chromaOn (q .hues) ≡ true) where
+module _ (q : Request) (a : Accepted q) (o : chromaOn (q .layout .hues) ≡ true) where
   abbrev k : ℕ
-  k = symbolBits (q .hues)
+  k = symbolBits (q .layout .hues)
 
   abbrev c : ℕ
   c = length (q .cxs)
@@ -46,70 +46,70 @@ module _ (q : Request) (a : Accepted q) (o : chromaOn (q .hues) ≡ true) where
   m = length (q .xs)
 
   abbrev mid : List Float
-  mid = writeCells (q .noise) (q .palette) (q .hues) (q .cxs) (q .cys) (cellColours q) c (q .chroma)
+  mid = writeCells (q .noise) (q .palette) (q .layout .hues) (q .cxs) (q .cys) (cellColours q) c (q .chroma)
 
-  whole : (b : Bool) → eqb (q .size) 1 ≡ b → (c + cond b (m - q .grid) 0) * k ≤ length (q .chroma)
-  whole b e = le-trans (le-of-eq (sym (length-is (q .hues) c (m - q .grid) (q .size) b e))) (a .lengths .chroma-long)
+  whole : (b : Bool) → eqb (q .layout .size) 1 ≡ b → (c + cond b (m - q .layout .grid) 0) * k ≤ length (q .chroma)
+  whole b e = le-trans (le-of-eq (sym (length-is (q .layout .hues) c (m - q .layout .grid) (q .layout .size) b e))) (a .lengths .chroma-long)
 
   more : (x y : ℕ) → x ≤ x + y
   more x y = omega arith
 
-  past : (b : Bool) → eqb (q .size) 1 ≡ b → (j : ℕ) → chromaLength (q .hues) c (ringModules m (q .grid)) (q .size) ≤ j → (c + cond b (m - q .grid) 0) * k ≤ j
-  past b e j h = le-trans (le-of-eq (sym (length-is (q .hues) c (m - q .grid) (q .size) b e))) h
+  past : (b : Bool) → eqb (q .layout .size) 1 ≡ b → (j : ℕ) → chromaLength (q .layout .hues) c (ringModules m (q .layout .grid)) (q .layout .size) ≤ j → (c + cond b (m - q .layout .grid) 0) * k ≤ j
+  past b e j h = le-trans (le-of-eq (sym (length-is (q .layout .hues) c (m - q .layout .grid) (q .layout .size) b e))) h
 
-  first-places : (i b : ℕ) → i < c → b < k → place (q .hues) i b < c * k
+  first-places : (i b : ℕ) → i < c → b < k → place (q .layout .hues) i b < c * k
   first-places i b h f = omega (arith, suc-mul i k, mul-le-mul-right k h)
 
-  cells-long : (b : Bool) → eqb (q .size) 1 ≡ b → c * k ≤ length (q .chroma)
-  cells-long b e = le-trans (mul-le-mul-right k (more c (cond b (m - q .grid) 0))) (whole b e)
+  cells-long : (b : Bool) → eqb (q .layout .size) 1 ≡ b → c * k ≤ length (q .chroma)
+  cells-long b e = le-trans (mul-le-mul-right k (more c (cond b (m - q .layout .grid) 0))) (whole b e)
 
-  module _ (b : Bool) (e : eqb (q .size) 1 ≡ b) where
-    celled : Entries (q .noise) (q .palette) (q .hues) (cellOf (q .noise) (q .palette) (q .hues) (q .cxs) (q .cys) (cellColours q) (q .chroma)) (cellColours q) 0 (q .chroma) c mid
-    celled = cells-are (q .noise) (q .palette) (q .hues) (q .cxs) (q .cys) (cellColours q) (q .chroma) c (cells-long b e)
+  module _ (b : Bool) (e : eqb (q .layout .size) 1 ≡ b) where
+    celled : Entries (q .noise) (q .palette) (q .layout .hues) (cellOf (q .noise) (q .palette) (q .layout .hues) (q .cxs) (q .cys) (cellColours q) (q .chroma)) (cellColours q) 0 (q .chroma) c mid
+    celled = cells-are (q .noise) (q .palette) (q .layout .hues) (q .cxs) (q .cys) (cellColours q) (q .chroma) c (cells-long b e)
 
-    written : writtenChroma q ≡ cond b (writeRings (q .noise) (q .palette) (q .hues) c (q .grid) (moduleColours q) m mid) mid
+    written : writtenChroma q ≡ cond b (writeRings (q .noise) (q .palette) (q .layout .hues) c (q .layout .grid) (moduleColours q) m mid) mid
     unfolding chromaWritten ringChroma
     written = rw (o, e)
 
   -- at cell size 1 the ring modules follow
-  with-ring : eqb (q .size) 1 ≡ true → Listed q
+  with-ring : eqb (q .layout .size) 1 ≡ true → Listed q
   with-ring e =
       let p = celled true e in
       let w = written true e in
-      let l : (c + (m - q .grid)) * k ≤ length mid = le-trans (whole true e) (le-of-eq (sym (p .long))) in
-      let r = rings-are (q .noise) (q .palette) (q .hues) c (q .grid) (moduleColours q) mid m (a .counts .1) l in
-      let out = writeRings (q .noise) (q .palette) (q .hues) c (q .grid) (moduleColours q) m mid in
+      let l : (c + (m - q .layout .grid)) * k ≤ length mid = le-trans (whole true e) (le-of-eq (sym (p .long))) in
+      let r = rings-are (q .noise) (q .palette) (q .layout .hues) c (q .layout .grid) (moduleColours q) mid m (a .placed .grid-most) l in
+      let out = writeRings (q .noise) (q .palette) (q .layout .hues) c (q .layout .grid) (moduleColours q) m mid in
       record {
-        long = ap length w ∙ ring-long (q .noise) (q .palette) (q .hues) c (q .grid) (moduleColours q) mid m out r ∙ p .long;
-        cell = λ i b h f. ap (λ (s : List Float). getD s (place (q .hues) i b) nan) w ∙
-            ring-below (q .noise) (q .palette) (q .hues) c (q .grid) (moduleColours q) mid m out r (place (q .hues) i b) (first-places i b h f) ∙ p .has i b zero-le h f;
-        ring = λ z i b g h f. ap (λ (s : List Float). getD s (place (q .hues) (c + (i - q .grid)) b) nan) w ∙
-            ring-has (q .noise) (q .palette) (q .hues) c (q .grid) (moduleColours q) mid m out r i b g h f;
+        long = ap length w ∙ ring-long (q .noise) (q .palette) (q .layout .hues) c (q .layout .grid) (moduleColours q) mid m out r ∙ p .long;
+        cell = λ i b h f. ap (λ (s : List Float). getD s (place (q .layout .hues) i b) nan) w ∙
+            ring-below (q .noise) (q .palette) (q .layout .hues) c (q .layout .grid) (moduleColours q) mid m out r (place (q .layout .hues) i b) (first-places i b h f) ∙ p .has i b zero-le h f;
+        ring = λ z i b g h f. ap (λ (s : List Float). getD s (place (q .layout .hues) (c + (i - q .layout .grid)) b) nan) w ∙
+            ring-has (q .noise) (q .palette) (q .layout .hues) c (q .layout .grid) (moduleColours q) mid m out r i b g h f;
         kept = λ j h. ap (λ (s : List Float). getD s j nan) w ∙
-            ring-past (q .noise) (q .palette) (q .hues) c (q .grid) (moduleColours q) mid m out r j (past true e j h) ∙ p .past j (le-trans (mul-le-mul-right k (more c (m - q .grid))) (past true e j h));
+            ring-past (q .noise) (q .palette) (q .layout .hues) c (q .layout .grid) (moduleColours q) mid m out r j (past true e j h) ∙ p .past j (le-trans (mul-le-mul-right k (more c (m - q .layout .grid))) (past true e j h));
       }
 
-  without-ring : eqb (q .size) 1 ≡ false → Listed q
+  without-ring : eqb (q .layout .size) 1 ≡ false → Listed q
   without-ring e =
       let p = celled false e in
       let w = written false e in
       record {
         long = ap length w ∙ p .long;
-        cell = λ i b h f. ap (λ (s : List Float). getD s (place (q .hues) i b) nan) w ∙ p .has i b zero-le h f;
-        ring = λ z i b g h f. let d = eq-eqb (q .size) 1 z in let y : _≡_ {A = ℕ} 0 1 = cc in absurd (omega arith);
+        cell = λ i b h f. ap (λ (s : List Float). getD s (place (q .layout .hues) i b) nan) w ∙ p .has i b zero-le h f;
+        ring = λ z i b g h f. let d = eq-eqb (q .layout .size) 1 z in let y : _≡_ {A = ℕ} 0 1 = cc in absurd (omega arith);
         kept = λ j h. ap (λ (s : List Float). getD s j nan) w ∙ p .past j (le-trans (mul-le-mul-right k (more c 0)) (past false e j h));
       }
 
   pub listed : Listed q
-  listed = by-size (eqb (q .size) 1) refl
+  listed = by-size (eqb (q .layout .size) 1) refl
     where
-      by-size : (b : Bool) → eqb (q .size) 1 ≡ b → Listed q
+      by-size : (b : Bool) → eqb (q .layout .size) 1 ≡ b → Listed q
       by-size true e = with-ring e
       by-size false e = without-ring e
 
 -- ---- the two answers
 
-pub chroma-off : (q : Request) → chromaOn (q .hues) ≡ false → writtenChroma q ≡ q .chroma
+pub chroma-off : (q : Request) → chromaOn (q .layout .hues) ≡ false → writtenChroma q ≡ q .chroma
 unfolding chromaWritten
 chroma-off q o = rw o
 
@@ -117,9 +117,9 @@ module _ (q : Request) where
   pub record IsDone : Type 0 where
     pub fit : Accepted q
     pub left : scoredOf q ≡ done q
-    pub wrote : Modules (q .noise) (q .palette) (q .hues) (moduleColours q) (q .luma) (q .colours) (length (q .xs)) (writtenModules q)
-    pub chroma : chromaOn (q .hues) ≡ true → Listed q
-    pub no-chroma : chromaOn (q .hues) ≡ false → writtenChroma q ≡ q .chroma
+    pub wrote : Modules (q .noise) (q .palette) (q .layout .hues) (moduleColours q) (q .luma) (q .colours) (length (q .xs)) (writtenModules q)
+    pub chroma : chromaOn (q .layout .hues) ≡ true → Listed q
+    pub no-chroma : chromaOn (q .layout .hues) ≡ false → writtenChroma q ≡ q .chroma
 
   pub at-done : scoredOf q .answer ≡ Done → IsDone
   at-done h =
@@ -128,7 +128,7 @@ module _ (q : Request) where
       record {
         fit = a;
         left = sym (taken q 0 e refl);
-        wrote = modules-are (q .noise) (q .palette) (q .hues) (moduleColours q) (q .luma) (q .colours) (length (q .xs)) (a .lengths .scores) (a .lengths .places);
+        wrote = modules-are (q .noise) (q .palette) (q .layout .hues) (moduleColours q) (q .luma) (q .colours) (length (q .xs)) (a .lengths .scores) (a .lengths .places);
         chroma = listed q a;
         no-chroma = chroma-off q;
       }

@@ -60,7 +60,7 @@ pub luma-in : (q : Request) → Held (q .noise) → scoredOf q .answer ≡ Done 
 luma-in q f e i l =
     let d = at-done q e in
     let a = d .fit in
-    let s = luma-score-in (q .noise) (good (q .noise) f (a .inputs .noise-tame) (a .sigmas)) (q .palette) (q .hues) (moduleColours q i) (module-components (q .model) (q .xs) (q .ys) (q .raw) i) (a .modules-tame i l) in
+    let s = luma-score-in (q .noise) (good (q .noise) f (a .inputs .noise-tame) (a .sigmas)) (q .palette) (q .layout .hues) (moduleColours q i) (module-components (q .model) (q .xs) (q .ys) (q .raw) i) (a .modules-tame i l) in
     rw (ap (λ (t : Final). getD (t .luma) i nan) (d .left) ∙ d .wrote .scored i l) s
 
 -- and the corrected colours, which pass sentence 8 in turn

@@ -1,6 +1,6 @@
 -- `score`: which sentences of document 01 it can meet, in checking order, and what it leaves. Definitions only.
 use mathlib.Core.Bool.{Bool, false, not, cond, _||_}
-use mathlib.Core.List.{List, [], _∷_}
+use mathlib.Core.List.{List, [], _∷_, _++_}
 use Prim.Native.Nat.{ℕ, _*_}
 use lib.Dec.{ltb, eqb}
 use lib.IntN.{ℤ}
@@ -8,8 +8,8 @@ use lib.ListN.{length}
 use lib.Ieee.{Float}
 use Rattle.loops.specs.Loops.{anyUp}
 use Rattle.sentences.specs.Sentences.{Sentence, _when_, refusal, decided}
-use Rattle.places.specs.Places.{badPlaces}
-use Rattle.limits.specs.Limits.{badSide, badHues, badCellSize, badCounts, badCells}
+use Rattle.layout.specs.declared.Layout.{Layout}
+use Rattle.layout.specs.Groups.{shape, placement}
 use Rattle.limits.specs.Chroma.{chromaOn, ringModules, chromaLength}
 use Rattle.color.specs.declared.Linear.{Linear}
 use Rattle.color.specs.Palette.{wildLinear, wildIn}
@@ -32,19 +32,15 @@ unfoldable pub badCellLengths : ℕ → ℕ → ℕ → Bool
 badCellLengths cxs cys raw = not (eqb cxs cys) || ltb raw (3 * cxs)
 
 -- 5, of the chroma scores
-unfoldable pub shortChroma : ℕ → ℕ → ℕ → ℕ → ℕ → ℕ → Bool
-shortChroma chroma hues size modules grid cells = ltb chroma (chromaLength hues cells (ringModules modules grid) size)
+unfoldable pub shortChroma : Layout → ℕ → ℕ → ℕ → Bool
+shortChroma l chroma modules cells = ltb chroma (chromaLength (l .hues) cells (ringModules modules (l .grid)) (l .size))
 
 -- 5
-unfoldable pub badLengths : ℕ → ℕ → List ℤ → List ℤ → ℕ → List Float → List ℕ → List ℕ → List Float → List Float → List Float → List Float → List Float → Bool
-badLengths hues size xs ys grid raw cxs cys craw palette luma colours chroma =
+unfoldable pub badLengths : Layout → List ℤ → List ℤ → List Float → List ℕ → List ℕ → List Float → List Float → List Float → List Float → List Float → Bool
+badLengths l xs ys raw cxs cys craw palette luma colours chroma =
     badModuleLengths (length xs) (length ys) (length raw) (length luma) (length colours)
     || (badCellLengths (length cxs) (length cys) (length craw)
-    || (shortPalette palette hues || shortChroma (length chroma) hues size (length xs) grid (length cxs)))
-
--- 7, of modules and cells
-unfoldable pub badPositions : ℕ → ℕ → List ℤ → List ℤ → List ℕ → List ℕ → Bool
-badPositions side grid xs ys cxs cys = badPlaces side grid xs ys || badCells cxs cys
+    || (shortPalette palette (l .hues) || shortChroma l (length chroma) (length xs) (length cxs)))
 
 -- 8, of the colours of m modules and c cells, of the palette and of the noise record
 unfoldable pub badInputs : List Float → ℕ → List Float → ℕ → ChannelStats → List Float → ℕ → Bool
@@ -65,12 +61,9 @@ badCorrected hues modules m cells c = wildColours modules m || cond (chromaOn hu
 
 -- what it is handed
 pub record Request : Type 0 where
-  pub side : ℕ
-  pub hues : ℕ
-  pub size : ℕ
+  pub layout : Layout
   pub xs : List ℤ
   pub ys : List ℤ
-  pub grid : ℕ
   pub raw : List Float
   pub cxs : List ℕ
   pub cys : List ℕ
@@ -82,39 +75,35 @@ pub record Request : Type 0 where
   pub colours : List Float
   pub chroma : List Float
 
-abbrev pub request : ℕ → ℕ → ℕ → List ℤ → List ℤ → ℕ → List Float → List ℕ → List ℕ → List Float → List Float → IlluminationModel → ChannelStats → List Float → List Float → List Float → Request
-request side hues size xs ys grid raw cxs cys craw palette model noise luma colours chroma =
-    record { side = side; hues = hues; size = size; xs = xs; ys = ys; grid = grid; raw = raw; cxs = cxs; cys = cys; craw = craw; palette = palette; model = model; noise = noise; luma = luma; colours = colours; chroma = chroma }
+abbrev pub request : Layout → List ℤ → List ℤ → List Float → List ℕ → List ℕ → List Float → List Float → IlluminationModel → ChannelStats → List Float → List Float → List Float → Request
+request layout xs ys raw cxs cys craw palette model noise luma colours chroma =
+    record { layout = layout; xs = xs; ys = ys; raw = raw; cxs = cxs; cys = cys; craw = craw; palette = palette; model = model; noise = noise; luma = luma; colours = colours; chroma = chroma }
 
 -- the corrected colours of its modules, and of its cells
 abbrev pub moduleColours : Request → ℕ → Linear
 moduleColours q = moduleColour (q .model) (q .xs) (q .ys) (q .raw)
 
 abbrev pub cellColours : Request → ℕ → Linear
-cellColours q = cellColour (q .model) (q .size) (q .cxs) (q .cys) (q .craw)
+cellColours q = cellColour (q .model) (q .layout .size) (q .cxs) (q .cys) (q .craw)
 
 -- in checking order
 unfoldable pub sentencesOf : Request → List Sentence
 sentencesOf q =
-    (2 when badSide (q .side)) ∷
-    (3 when badHues (q .hues)) ∷
-    (4 when badCellSize (q .size)) ∷
-    (5 when badLengths (q .hues) (q .size) (q .xs) (q .ys) (q .grid) (q .raw) (q .cxs) (q .cys) (q .craw) (q .palette) (q .luma) (q .colours) (q .chroma)) ∷
-    (6 when badCounts (length (q .xs)) (q .grid) (length (q .cxs))) ∷
-    (7 when badPositions (q .side) (q .grid) (q .xs) (q .ys) (q .cxs) (q .cys)) ∷
-    (8 when badInputs (q .raw) (length (q .xs)) (q .craw) (length (q .cxs)) (q .noise) (q .palette) (q .hues)) ∷
+    shape (q .layout) ++
+    ((5 when badLengths (q .layout) (q .xs) (q .ys) (q .raw) (q .cxs) (q .cys) (q .craw) (q .palette) (q .luma) (q .colours) (q .chroma)) ∷
+    (placement (q .layout) (q .xs) (q .ys) (q .cxs) (q .cys) ++
+    ((8 when badInputs (q .raw) (length (q .xs)) (q .craw) (length (q .cxs)) (q .noise) (q .palette) (q .layout .hues)) ∷
     (9 when badSigmas (q .noise)) ∷
     (10 when badModel (q .model)) ∷
-    (12 when badCorrected (q .hues) (moduleColours q) (length (q .xs)) (cellColours q) (length (q .cxs))) ∷
-    []
+    (12 when badCorrected (q .layout .hues) (moduleColours q) (length (q .xs)) (cellColours q) (length (q .cxs))) ∷
+    [])))
 
 -- what an accepted call writes: for the modules, and for chroma
 abbrev pub writtenModules : Request → Sheet
-writtenModules q = writeModules (q .noise) (q .palette) (q .hues) (moduleColours q) (length (q .xs)) (sheet (q .luma) (q .colours))
+writtenModules q = writeModules (q .noise) (q .palette) (q .layout .hues) (moduleColours q) (length (q .xs)) (sheet (q .luma) (q .colours))
 
 abbrev pub writtenChroma : Request → List Float
-writtenChroma q =
-    chromaWritten (q .noise) (q .palette) (q .hues) (q .size) (q .grid) (moduleColours q) (length (q .xs)) (q .cxs) (q .cys) (cellColours q) (q .chroma)
+writtenChroma q = chromaWritten (q .layout) (q .noise) (q .palette) (moduleColours q) (length (q .xs)) (q .cxs) (q .cys) (cellColours q) (q .chroma)
 
 -- what it gives back: its answer, and the three lent slices
 pub record Final : Type 0 where

@@ -8,6 +8,7 @@ use lib.ListN.{length, getD, set, replicate}
 use lib.Ieee.{Float, nan, binary32, neg, ofInt, inFloat}
 use Rattle.loops.specs.Loops.{forUp}
 use Rattle.limits.specs.Chroma.{chromaOn, weighted, symbolBits}
+use Rattle.layout.specs.declared.Layout.{Layout}
 use Rattle.float.specs.Select.{clamp}
 use Rattle.color.specs.declared.Linear.{Linear}
 use Rattle.color.specs.declared.Lab.{Lab}
@@ -183,12 +184,12 @@ abbrev pub ringBlock : ChannelStats → List Float → ℕ → ℕ → ℕ → (
 ringBlock n palette hues cells grid colour from k chroma = forUp from (from + k) (writeRing n palette hues cells grid colour) chroma
 
 -- "ring modules carry chroma only at cell size 1"
-unfoldable pub ringChroma : ChannelStats → List Float → ℕ → ℕ → ℕ → ℕ → (ℕ → Linear) → ℕ → List Float → List Float
-ringChroma n palette hues size cells grid colour m chroma = cond (eqb size 1) (writeRings n palette hues cells grid colour m chroma) chroma
+unfoldable pub ringChroma : Layout → ChannelStats → List Float → ℕ → (ℕ → Linear) → ℕ → List Float → List Float
+ringChroma l n palette cells colour m chroma = cond (eqb (l .size) 1) (writeRings n palette (l .hues) cells (l .grid) colour m chroma) chroma
 
 -- "chroma is on when hues exceed 1": the cells, then the ring modules
-unfoldable pub chromaWritten : ChannelStats → List Float → ℕ → ℕ → ℕ → (ℕ → Linear) → ℕ → List ℕ → List ℕ → (ℕ → Linear) → List Float → List Float
-chromaWritten n palette hues size grid modules m cxs cys cells chroma =
-    cond (chromaOn hues)
-    (ringChroma n palette hues size (length cxs) grid modules m (writeCells n palette hues cxs cys cells (length cxs) chroma))
+unfoldable pub chromaWritten : Layout → ChannelStats → List Float → (ℕ → Linear) → ℕ → List ℕ → List ℕ → (ℕ → Linear) → List Float → List Float
+chromaWritten l n palette modules m cxs cys cells chroma =
+    cond (chromaOn (l .hues))
+    (ringChroma l n palette (length cxs) modules m (writeCells n palette (l .hues) cxs cys cells (length cxs) chroma))
     chroma

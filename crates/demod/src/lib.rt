@@ -11,16 +11,17 @@ ghost use lib.IntN.{pos};
 ghost use lib.Ieee.{binary32, inFloat};
 ghost use lib.ListN.{length, getD};
 ghost use Rattle.sentences.specs.Sentences.{refusal};
-ghost use Rattle.limits.specs.Limits.{badHues};
 ghost use Rattle.limits.specs.Chroma.{weighted, symbolBits, chromaLength, ringModules};
+ghost use Rattle.layout.specs.Groups.{Shaped};
 ghost use Rattle.color.specs.Color.{linearToLab};
 ghost use Rattle.color.specs.Palette.{paletteLen, linearAt};
 ghost use Rattle.illum.specs.Correct.{rounded};
-ghost use Rattle.stats.specs.Noise.{Sigmas};
 ghost use Rattle.demod.specs.Score as spec;
+ghost use Rattle.demod.specs.Ready.{Palette, Tables, Cells, Sampled, Modules};
 ghost use Rattle.demod.specs.Samples.{Block, labAt, numberAt, onwards};
-ghost use Rattle.demod.specs.Score.{Exact, sheet};
+ghost use Rattle.demod.specs.Score.{sheet};
 ghost use Rattle.demod.specs.Call as call;
+ghost use Rattle.demod.specs.Call.{final, request, scoredOf, sentencesOf};
 use answers::Outcome;
 use color::Linear;
 use color::Xyz;
@@ -30,6 +31,7 @@ use color::palette::wild_in;
 use color::xyz_to_lab;
 use illum::IlluminationModel;
 use illum::Unrounded;
+use layout::Layout;
 use modulate::Cell;
 use samples::block_size;
 use samples::lab_at;
@@ -113,7 +115,7 @@ fn put_rows(l: &mut [f32], i: usize, v: Unrounded)
 
 // Writes the corrected colour of every module. (All colours first and the scores after take less time than both in one loop.)
 fn write_colours(model: IlluminationModel, xs: &[i32], ys: &[i32], raw: &[f32], colours: &mut [f32])
-    requires { ⌜ (length (now xs) ≡ length (now ys)) × Exact (now xs) (length (now xs)) × Exact (now ys) (length (now xs)) × (3 * length (now xs) ≤ length (now raw)) × (3 * length (now xs) ≤ length (now colours)) ⌝ }
+    requires { ⌜ Sampled (now xs) (now ys) (now raw) × (3 * length (now xs) ≤ length (now colours)) ⌝ }
     ensures { λ _. ⌜ now (colours .exit) ≡ spec.writeColours (spec.moduleColour model (now (xs .entry)) (now (ys .entry)) (now (raw .entry))) (length (now (xs .entry))) (now (colours .entry)) ⌝ }
 {
     for i in 0..xs.len() {
@@ -221,7 +223,7 @@ fn luma_block(
     n: usize,
     luma: &mut [f32],
 )
-    requires { ⌜ (weighted hues ≡ true) × (paletteLen hues ≤ length (now palette)) × Sigmas noise (now palette) hues (now sigmas) × (n ≤ 16) × (3 * (from + n) ≤ length (now colours)) × (from + n ≤ length (now luma)) ⌝ }
+    requires { ⌜ (weighted hues ≡ true) × Tables noise (now palette) hues (now sigmas) × (n ≤ 16) × (3 * (from + n) ≤ length (now colours)) × (from + n ≤ length (now luma)) ⌝ }
     ensures { λ _. ⌜ now (luma .exit) ≡ spec.lumaBlock noise (now (palette .entry)) hues (linearAt (now (colours .entry))) from n (now (luma .entry)) ⌝ }
 {
     let mut labs = [0.0f32; 48];
@@ -250,7 +252,7 @@ fn weighted_lumas(
     n: usize,
     luma: &mut [f32],
 )
-    requires { ⌜ (weighted hues ≡ true) × (paletteLen hues ≤ length (now palette)) × Sigmas noise (now palette) hues (now sigmas) × (3 * n ≤ length (now colours)) × (n ≤ length (now luma)) ⌝ }
+    requires { ⌜ (weighted hues ≡ true) × Tables noise (now palette) hues (now sigmas) × (3 * n ≤ length (now colours)) × (n ≤ length (now luma)) ⌝ }
     ensures { λ _. ⌜ now (luma .exit) ≡ spec.writeLumas noise (now (palette .entry)) hues (linearAt (now (colours .entry))) n (now (luma .entry)) ⌝ }
 {
     let mut from = 0;
@@ -271,7 +273,7 @@ fn write_lumas(
     n: usize,
     luma: &mut [f32],
 )
-    requires { ⌜ (paletteLen hues ≤ length (now palette)) × Sigmas noise (now palette) hues (now sigmas) × (3 * n ≤ length (now colours)) × (n ≤ length (now luma)) ⌝ }
+    requires { ⌜ Tables noise (now palette) hues (now sigmas) × (3 * n ≤ length (now colours)) × (n ≤ length (now luma)) ⌝ }
     ensures { λ _. ⌜ now (luma .exit) ≡ spec.writeLumas noise (now (palette .entry)) hues (linearAt (now (colours .entry))) n (now (luma .entry)) ⌝ }
 {
     if limits::weighted(hues) {
@@ -294,7 +296,7 @@ fn write_modules(
     luma: &mut [f32],
     colours: &mut [f32],
 )
-    requires { ⌜ (paletteLen hues ≤ length (now palette)) × Sigmas noise (now palette) hues (now sigmas) × (length (now xs) ≡ length (now ys)) × Exact (now xs) (length (now xs)) × Exact (now ys) (length (now xs)) × (3 * length (now xs) ≤ length (now raw)) × (length (now xs) ≤ length (now luma)) × (3 * length (now xs) ≤ length (now colours)) ⌝ }
+    requires { ⌜ Tables noise (now palette) hues (now sigmas) × Sampled (now xs) (now ys) (now raw) × (length (now xs) ≤ length (now luma)) × (3 * length (now xs) ≤ length (now colours)) ⌝ }
     ensures { λ _. ⌜ sheet (now (luma .exit)) (now (colours .exit)) ≡ spec.writeModules noise (now (palette .entry)) hues (spec.moduleColour model (now (xs .entry)) (now (ys .entry)) (now (raw .entry))) (length (now (xs .entry))) (sheet (now (luma .entry)) (now (colours .entry))) ⌝ }
 {
     write_colours(model, xs, ys, raw, colours);
@@ -338,7 +340,7 @@ fn write_entry(
     e: usize,
     chroma: &mut [f32],
 )
-    requires { ⌜ (badHues hues ≡ false) × (paletteLen hues ≤ length (now palette)) × (3 * j + 2 < length (now labs)) × (j < length (now weights)) × (e * symbolBits hues + symbolBits hues ≤ length (now chroma)) ⌝ }
+    requires { ⌜ Palette hues (now palette) × (3 * j + 2 < length (now labs)) × (j < length (now weights)) × (e * symbolBits hues + symbolBits hues ≤ length (now chroma)) ⌝ }
     ensures { λ _. ⌜ now (chroma .exit) ≡ spec.writeSample noise (now (palette .entry)) hues cell (labAt (now (labs .entry)) j) (numberAt (now (weights .entry)) j) e (now (chroma .entry)) ⌝ }
 {
     let lab = lab_at(labs, j);
@@ -374,7 +376,7 @@ fn put_entry(
     j: usize,
     chroma: &mut [f32],
 )
-    requires { ⌜ (badHues hues ≡ false) × (paletteLen hues ≤ length (now palette)) × (length (now cxs) ≡ length (now cys)) × (3 * j + 2 < length (now labs)) × (j < length (now weights)) × (first + j ≤ 2097152) × ((first + j) * symbolBits hues + symbolBits hues ≤ length (now chroma)) ⌝ }
+    requires { ⌜ Palette hues (now palette) × (length (now cxs) ≡ length (now cys)) × (3 * j + 2 < length (now labs)) × (j < length (now weights)) × (first + j ≤ 2097152) × ((first + j) * symbolBits hues + symbolBits hues ≤ length (now chroma)) ⌝ }
     ensures { λ _. ⌜ now (chroma .exit) ≡ spec.putEntry noise (now (palette .entry)) hues (now (cxs .entry)) (now (cys .entry)) (now (labs .entry)) (now (weights .entry)) first j (now (chroma .entry)) ⌝ }
 {
     let e = first + j;
@@ -395,7 +397,7 @@ fn put_entries(
     n: usize,
     chroma: &mut [f32],
 )
-    requires { ⌜ (badHues hues ≡ false) × (paletteLen hues ≤ length (now palette)) × (length (now cxs) ≡ length (now cys)) × (3 * n ≤ length (now labs)) × (n ≤ length (now weights)) × (first + n ≤ 2097152) × ((first + n) * symbolBits hues ≤ length (now chroma)) ⌝ }
+    requires { ⌜ Palette hues (now palette) × (length (now cxs) ≡ length (now cys)) × (3 * n ≤ length (now labs)) × (n ≤ length (now weights)) × (first + n ≤ 2097152) × ((first + n) * symbolBits hues ≤ length (now chroma)) ⌝ }
     ensures { λ _. ⌜ now (chroma .exit) ≡ spec.putEntries noise (now (palette .entry)) hues (now (cxs .entry)) (now (cys .entry)) (now (labs .entry)) (now (weights .entry)) first n (now (chroma .entry)) ⌝ }
 {
     for j in 0..n {
@@ -416,12 +418,11 @@ fn put_entries(
 
 // The chroma scores of a block of cells.
 fn cell_block(
+    layout: Layout,
     noise: ChannelStats,
     palette: &[f32],
-    hues: usize,
     sigmas: &[f32],
     model: IlluminationModel,
-    size: usize,
     cxs: &[u16],
     cys: &[u16],
     raw: &[f32],
@@ -429,17 +430,17 @@ fn cell_block(
     n: usize,
     chroma: &mut [f32],
 )
-    requires { ⌜ (badHues hues ≡ false) × (paletteLen hues ≤ length (now palette)) × Sigmas noise (now palette) hues (now sigmas) × (size ≤ 16) × (length (now cxs) ≡ length (now cys)) × (length (now cxs) ≤ 1048576) × (n ≤ 16) × (from + n ≤ length (now cxs)) × (3 * (from + n) ≤ length (now raw)) × ((from + n) * symbolBits hues ≤ length (now chroma)) ⌝ }
-    ensures { λ _. ⌜ now (chroma .exit) ≡ spec.cellBlock noise (now (palette .entry)) hues (now (cxs .entry)) (now (cys .entry)) (spec.cellColour model size (now (cxs .entry)) (now (cys .entry)) (now (raw .entry))) from n (now (chroma .entry)) ⌝ }
+    requires { ⌜ Shaped layout × Tables noise (now palette) (layout .hues) (now sigmas) × Cells (now cxs) (now cys) × (n ≤ 16) × (from + n ≤ length (now cxs)) × (3 * (from + n) ≤ length (now raw)) × ((from + n) * symbolBits (layout .hues) ≤ length (now chroma)) ⌝ }
+    ensures { λ _. ⌜ now (chroma .exit) ≡ spec.cellBlock noise (now (palette .entry)) (layout .hues) (now (cxs .entry)) (now (cys .entry)) (spec.cellColour model (layout .size) (now (cxs .entry)) (now (cys .entry)) (now (raw .entry))) from n (now (chroma .entry)) ⌝ }
 {
     let mut room = [0.0f32; 48];
-    correct_cells(model, size, cxs, cys, raw, from, n, &mut room);
+    correct_cells(model, layout.size, cxs, cys, raw, from, n, &mut room);
     let mut labs = [0.0f32; 48];
     let mut weights = [0.0f32; 16];
     write_samples(
         noise,
         palette,
-        hues,
+        layout.hues,
         sigmas,
         &room,
         0,
@@ -450,7 +451,7 @@ fn cell_block(
     put_entries(
         noise,
         palette,
-        hues,
+        layout.hues,
         cxs,
         cys,
         &labs,
@@ -463,30 +464,28 @@ fn cell_block(
 
 // The chroma scores of all cells.
 fn write_cells(
+    layout: Layout,
     noise: ChannelStats,
     palette: &[f32],
-    hues: usize,
     sigmas: &[f32],
     model: IlluminationModel,
-    size: usize,
     cxs: &[u16],
     cys: &[u16],
     raw: &[f32],
     chroma: &mut [f32],
 )
-    requires { ⌜ (badHues hues ≡ false) × (paletteLen hues ≤ length (now palette)) × Sigmas noise (now palette) hues (now sigmas) × (size ≤ 16) × (length (now cxs) ≡ length (now cys)) × (length (now cxs) ≤ 1048576) × (3 * length (now cxs) ≤ length (now raw)) × (length (now cxs) * symbolBits hues ≤ length (now chroma)) ⌝ }
-    ensures { λ _. ⌜ now (chroma .exit) ≡ spec.writeCells noise (now (palette .entry)) hues (now (cxs .entry)) (now (cys .entry)) (spec.cellColour model size (now (cxs .entry)) (now (cys .entry)) (now (raw .entry))) (length (now (cxs .entry))) (now (chroma .entry)) ⌝ }
+    requires { ⌜ Shaped layout × Tables noise (now palette) (layout .hues) (now sigmas) × Cells (now cxs) (now cys) × (3 * length (now cxs) ≤ length (now raw)) × (length (now cxs) * symbolBits (layout .hues) ≤ length (now chroma)) ⌝ }
+    ensures { λ _. ⌜ now (chroma .exit) ≡ spec.writeCells noise (now (palette .entry)) (layout .hues) (now (cxs .entry)) (now (cys .entry)) (spec.cellColour model (layout .size) (now (cxs .entry)) (now (cys .entry)) (now (raw .entry))) (length (now (cxs .entry))) (now (chroma .entry)) ⌝ }
 {
     let mut from = 0;
     while from < cxs.len() {
         let n = block_size(from, cxs.len());
         cell_block(
+            layout,
             noise,
             palette,
-            hues,
             sigmas,
             model,
-            size,
             cxs,
             cys,
             raw,
@@ -500,27 +499,26 @@ fn write_cells(
 
 // The chroma scores of a block of ring modules, whose corrected colours stand in `colours`.
 fn ring_block(
+    layout: Layout,
     noise: ChannelStats,
     palette: &[f32],
-    hues: usize,
     sigmas: &[f32],
     cxs: &[u16],
     cys: &[u16],
     colours: &[f32],
-    grid: usize,
     from: usize,
     n: usize,
     chroma: &mut [f32],
 )
-    requires { ⌜ (badHues hues ≡ false) × (paletteLen hues ≤ length (now palette)) × Sigmas noise (now palette) hues (now sigmas) × (length (now cxs) ≡ length (now cys)) × (length (now cxs) ≤ 1048576) × (n ≤ 16) × (grid ≤ from) × (from + n ≤ 1048576) × (3 * (from + n) ≤ length (now colours)) × ((length (now cxs) + (from + n - grid)) * symbolBits hues ≤ length (now chroma)) ⌝ }
-    ensures { λ _. ⌜ now (chroma .exit) ≡ spec.ringBlock noise (now (palette .entry)) hues (length (now (cxs .entry))) grid (linearAt (now (colours .entry))) from n (now (chroma .entry)) ⌝ }
+    requires { ⌜ Shaped layout × Tables noise (now palette) (layout .hues) (now sigmas) × Cells (now cxs) (now cys) × (n ≤ 16) × (layout .grid ≤ from) × (from + n ≤ 1048576) × (3 * (from + n) ≤ length (now colours)) × ((length (now cxs) + (from + n - layout .grid)) * symbolBits (layout .hues) ≤ length (now chroma)) ⌝ }
+    ensures { λ _. ⌜ now (chroma .exit) ≡ spec.ringBlock noise (now (palette .entry)) (layout .hues) (length (now (cxs .entry))) (layout .grid) (linearAt (now (colours .entry))) from n (now (chroma .entry)) ⌝ }
 {
     let mut labs = [0.0f32; 48];
     let mut weights = [0.0f32; 16];
     write_samples(
         noise,
         palette,
-        hues,
+        layout.hues,
         sigmas,
         colours,
         from,
@@ -528,11 +526,11 @@ fn ring_block(
         &mut labs,
         &mut weights,
     );
-    let first = cxs.len() + (from - grid);
+    let first = cxs.len() + (from - layout.grid);
     put_entries(
         noise,
         palette,
-        hues,
+        layout.hues,
         cxs,
         cys,
         &labs,
@@ -545,32 +543,30 @@ fn ring_block(
 
 // The chroma scores of the ring modules, those from module `grid` on, of m modules.
 fn write_rings(
+    layout: Layout,
     noise: ChannelStats,
     palette: &[f32],
-    hues: usize,
     sigmas: &[f32],
     cxs: &[u16],
     cys: &[u16],
     colours: &[f32],
-    grid: usize,
     m: usize,
     chroma: &mut [f32],
 )
-    requires { ⌜ (badHues hues ≡ false) × (paletteLen hues ≤ length (now palette)) × Sigmas noise (now palette) hues (now sigmas) × (length (now cxs) ≡ length (now cys)) × (length (now cxs) ≤ 1048576) × (grid ≤ m) × (m ≤ 1048576) × (3 * m ≤ length (now colours)) × ((length (now cxs) + (m - grid)) * symbolBits hues ≤ length (now chroma)) ⌝ }
-    ensures { λ _. ⌜ now (chroma .exit) ≡ spec.writeRings noise (now (palette .entry)) hues (length (now (cxs .entry))) grid (linearAt (now (colours .entry))) m (now (chroma .entry)) ⌝ }
+    requires { ⌜ Shaped layout × Tables noise (now palette) (layout .hues) (now sigmas) × Cells (now cxs) (now cys) × Modules layout m (now colours) × ((length (now cxs) + (m - layout .grid)) * symbolBits (layout .hues) ≤ length (now chroma)) ⌝ }
+    ensures { λ _. ⌜ now (chroma .exit) ≡ spec.writeRings noise (now (palette .entry)) (layout .hues) (length (now (cxs .entry))) (layout .grid) (linearAt (now (colours .entry))) m (now (chroma .entry)) ⌝ }
 {
-    let mut from = grid;
+    let mut from = layout.grid;
     while from < m {
         let n = block_size(from, m);
         ring_block(
+            layout,
             noise,
             palette,
-            hues,
             sigmas,
             cxs,
             cys,
             colours,
-            grid,
             from,
             n,
             chroma,
@@ -581,82 +577,54 @@ fn write_rings(
 
 // The chroma scores of ring modules, which carry chroma only at cell size 1.
 fn ring_chroma(
+    layout: Layout,
     noise: ChannelStats,
     palette: &[f32],
-    hues: usize,
     sigmas: &[f32],
-    size: usize,
     cxs: &[u16],
     cys: &[u16],
     colours: &[f32],
-    grid: usize,
     m: usize,
     chroma: &mut [f32],
 )
-    requires { ⌜ (badHues hues ≡ false) × (paletteLen hues ≤ length (now palette)) × Sigmas noise (now palette) hues (now sigmas) × (length (now cxs) ≡ length (now cys)) × (length (now cxs) ≤ 1048576) × (grid ≤ m) × (m ≤ 1048576) × (3 * m ≤ length (now colours)) × (chromaLength hues (length (now cxs)) (ringModules m grid) size ≤ length (now chroma)) ⌝ }
-    ensures { λ _. ⌜ now (chroma .exit) ≡ spec.ringChroma noise (now (palette .entry)) hues size (length (now (cxs .entry))) grid (linearAt (now (colours .entry))) m (now (chroma .entry)) ⌝ }
+    requires { ⌜ Shaped layout × Tables noise (now palette) (layout .hues) (now sigmas) × Cells (now cxs) (now cys) × Modules layout m (now colours) × (chromaLength (layout .hues) (length (now cxs)) (ringModules m (layout .grid)) (layout .size) ≤ length (now chroma)) ⌝ }
+    ensures { λ _. ⌜ now (chroma .exit) ≡ spec.ringChroma layout noise (now (palette .entry)) (length (now (cxs .entry))) (linearAt (now (colours .entry))) m (now (chroma .entry)) ⌝ }
 {
-    if size == 1 {
-        write_rings(
-            noise,
-            palette,
-            hues,
-            sigmas,
-            cxs,
-            cys,
-            colours,
-            grid,
-            m,
-            chroma,
-        );
+    if layout.size == 1 {
+        write_rings(layout, noise, palette, sigmas, cxs, cys, colours, m, chroma);
     }
 }
 
 // The chroma scores: with chroma on those of the cells, then those of the ring modules. The corrected colours of the m modules stand in `colours`.
 fn write_chroma(
+    layout: Layout,
     noise: ChannelStats,
     palette: &[f32],
-    hues: usize,
     sigmas: &[f32],
     model: IlluminationModel,
-    size: usize,
     colours: &[f32],
-    grid: usize,
     m: usize,
     cxs: &[u16],
     cys: &[u16],
     craw: &[f32],
     chroma: &mut [f32],
 )
-    requires { ⌜ (badHues hues ≡ false) × (paletteLen hues ≤ length (now palette)) × Sigmas noise (now palette) hues (now sigmas) × (size ≤ 16) × (grid ≤ m) × (m ≤ 1048576) × (3 * m ≤ length (now colours)) × (length (now cxs) ≡ length (now cys)) × (length (now cxs) ≤ 1048576) × (3 * length (now cxs) ≤ length (now craw)) × (chromaLength hues (length (now cxs)) (ringModules m grid) size ≤ length (now chroma)) ⌝ }
-    ensures { λ _. ⌜ now (chroma .exit) ≡ spec.chromaWritten noise (now (palette .entry)) hues size grid (linearAt (now (colours .entry))) m (now (cxs .entry)) (now (cys .entry)) (spec.cellColour model size (now (cxs .entry)) (now (cys .entry)) (now (craw .entry))) (now (chroma .entry)) ⌝ }
+    requires { ⌜ Shaped layout × Tables noise (now palette) (layout .hues) (now sigmas) × Modules layout m (now colours) × Cells (now cxs) (now cys) × (3 * length (now cxs) ≤ length (now craw)) × (chromaLength (layout .hues) (length (now cxs)) (ringModules m (layout .grid)) (layout .size) ≤ length (now chroma)) ⌝ }
+    ensures { λ _. ⌜ now (chroma .exit) ≡ spec.chromaWritten layout noise (now (palette .entry)) (linearAt (now (colours .entry))) m (now (cxs .entry)) (now (cys .entry)) (spec.cellColour model (layout .size) (now (cxs .entry)) (now (cys .entry)) (now (craw .entry))) (now (chroma .entry)) ⌝ }
 {
-    if limits::chroma_on(hues) {
+    if limits::chroma_on(layout.hues) {
         write_cells(
+            layout,
             noise,
             palette,
-            hues,
             sigmas,
             model,
-            size,
             cxs,
             cys,
             craw,
             chroma,
         );
-        ring_chroma(
-            noise,
-            palette,
-            hues,
-            sigmas,
-            size,
-            cxs,
-            cys,
-            colours,
-            grid,
-            m,
-            chroma,
-        );
+        ring_chroma(layout, noise, palette, sigmas, cxs, cys, colours, m, chroma);
     }
 }
 
@@ -689,29 +657,11 @@ fn bad_cell_lengths(cxs: &[u16], cys: &[u16], raw: &[f32]) -> bool
 }
 
 // Sentence 5, of the chroma scores.
-fn short_chroma(
-    chroma: &[f32],
-    hues: usize,
-    size: usize,
-    modules: usize,
-    grid: usize,
-    cells: usize,
-) -> bool
-    ensures { λ r. ⌜ r ≡ call.shortChroma (length (now (chroma .entry))) hues size modules grid cells ⌝ }
+fn short_chroma(layout: Layout, chroma: &[f32], modules: usize, cells: usize) -> bool
+    ensures { λ r. ⌜ r ≡ call.shortChroma layout (length (now (chroma .entry))) modules cells ⌝ }
 {
-    let ring = limits::ring_modules(modules, grid);
-    limits::below_chroma(chroma.len(), hues, cells, ring, size)
-}
-
-// Sentence 7, of modules and cells.
-fn bad_positions(side: usize, grid: usize, xs: &[i32], ys: &[i32], cxs: &[u16], cys: &[u16]) -> bool
-    requires { ⌜ (side ≤ 1024) × (length (now xs) ≡ length (now ys)) × (length (now cxs) ≡ length (now cys)) ⌝ }
-    ensures { λ r. ⌜ r ≡ call.badPositions side grid (now (xs .entry)) (now (ys .entry)) (now (cxs .entry)) (now (cys .entry)) ⌝ }
-{
-    if places::bad_places(side, grid, xs, ys) {
-        return true;
-    }
-    limits::bad_cells(cxs, cys)
+    let ring = limits::ring_modules(modules, layout.grid);
+    limits::below_chroma(chroma.len(), layout.hues, cells, ring, layout.size)
 }
 
 // Sentence 8, of the raw colours of m modules and c cells, of the palette and of the noise record.
@@ -738,7 +688,7 @@ fn bad_inputs(
 
 // Sentence 12, of modules.
 fn bad_module_colours(model: IlluminationModel, xs: &[i32], ys: &[i32], raw: &[f32]) -> bool
-    requires { ⌜ (length (now xs) ≡ length (now ys)) × Exact (now xs) (length (now xs)) × Exact (now ys) (length (now xs)) × (3 * length (now xs) ≤ length (now raw)) ⌝ }
+    requires { ⌜ Sampled (now xs) (now ys) (now raw) ⌝ }
     ensures { λ r. ⌜ r ≡ call.wildColours (spec.moduleColour model (now (xs .entry)) (now (ys .entry)) (now (raw .entry))) (length (now (xs .entry))) ⌝ }
 {
     let reach = illum::reach(model);
@@ -780,35 +730,32 @@ fn bad_cell_colours(
 
 // Sentence 12: of modules, and with chroma on of cells.
 fn bad_corrected(
-    hues: usize,
+    layout: Layout,
     model: IlluminationModel,
     xs: &[i32],
     ys: &[i32],
     raw: &[f32],
-    size: usize,
     cxs: &[u16],
     cys: &[u16],
     craw: &[f32],
 ) -> bool
-    requires { ⌜ (length (now xs) ≡ length (now ys)) × Exact (now xs) (length (now xs)) × Exact (now ys) (length (now xs)) × (3 * length (now xs) ≤ length (now raw)) × (size ≤ 16) × (length (now cxs) ≡ length (now cys)) × (3 * length (now cxs) ≤ length (now craw)) ⌝ }
-    ensures { λ r. ⌜ r ≡ call.badCorrected hues (spec.moduleColour model (now (xs .entry)) (now (ys .entry)) (now (raw .entry))) (length (now (xs .entry))) (spec.cellColour model size (now (cxs .entry)) (now (cys .entry)) (now (craw .entry))) (length (now (cxs .entry))) ⌝ }
+    requires { ⌜ Shaped layout × Sampled (now xs) (now ys) (now raw) × (length (now cxs) ≡ length (now cys)) × (3 * length (now cxs) ≤ length (now craw)) ⌝ }
+    ensures { λ r. ⌜ r ≡ call.badCorrected (layout .hues) (spec.moduleColour model (now (xs .entry)) (now (ys .entry)) (now (raw .entry))) (length (now (xs .entry))) (spec.cellColour model (layout .size) (now (cxs .entry)) (now (cys .entry)) (now (craw .entry))) (length (now (cxs .entry))) ⌝ }
 {
     if bad_module_colours(model, xs, ys, raw) {
         return true;
     }
-    if limits::chroma_on(hues) {
-        return bad_cell_colours(model, size, cxs, cys, craw);
+    if limits::chroma_on(layout.hues) {
+        return bad_cell_colours(model, layout.size, cxs, cys, craw);
     }
     false
 }
 
 // Sentence 5.
 fn bad_lengths(
-    hues: usize,
-    size: usize,
+    layout: Layout,
     xs: &[i32],
     ys: &[i32],
-    grid: usize,
     raw: &[f32],
     cxs: &[u16],
     cys: &[u16],
@@ -818,7 +765,7 @@ fn bad_lengths(
     colours: &[f32],
     chroma: &[f32],
 ) -> bool
-    ensures { λ r. ⌜ r ≡ call.badLengths hues size (now (xs .entry)) (now (ys .entry)) grid (now (raw .entry)) (now (cxs .entry)) (now (cys .entry)) (now (craw .entry)) (now (palette .entry)) (now (luma .entry)) (now (colours .entry)) (now (chroma .entry)) ⌝ }
+    ensures { λ r. ⌜ r ≡ call.badLengths layout (now (xs .entry)) (now (ys .entry)) (now (raw .entry)) (now (cxs .entry)) (now (cys .entry)) (now (craw .entry)) (now (palette .entry)) (now (luma .entry)) (now (colours .entry)) (now (chroma .entry)) ⌝ }
 {
     if bad_module_lengths(xs, ys, raw, luma, colours) {
         return true;
@@ -826,20 +773,17 @@ fn bad_lengths(
     if bad_cell_lengths(cxs, cys, craw) {
         return true;
     }
-    if stats::short_palette(palette, hues) {
+    if stats::short_palette(palette, layout.hues) {
         return true;
     }
-    short_chroma(chroma, hues, size, xs.len(), grid, cxs.len())
+    short_chroma(layout, chroma, xs.len(), cxs.len())
 }
 
 // The number of the first sentence that holds, or 0.
 fn refused(
-    side: usize,
-    hues: usize,
-    size: usize,
+    layout: Layout,
     xs: &[i32],
     ys: &[i32],
-    grid: usize,
     raw: &[f32],
     cxs: &[u16],
     cys: &[u16],
@@ -851,23 +795,16 @@ fn refused(
     colours: &[f32],
     chroma: &[f32],
 ) -> u32
-    ensures { λ r. ⌜ r ≡ refusal (call.sentencesOf (call.request side hues size (now (xs .entry)) (now (ys .entry)) grid (now (raw .entry)) (now (cxs .entry)) (now (cys .entry)) (now (craw .entry)) (now (palette .entry)) model noise (now (luma .entry)) (now (colours .entry)) (now (chroma .entry)))) ⌝ }
+    ensures { λ r. ⌜ r ≡ refusal (sentencesOf (request layout (now (xs .entry)) (now (ys .entry)) (now (raw .entry)) (now (cxs .entry)) (now (cys .entry)) (now (craw .entry)) (now (palette .entry)) model noise (now (luma .entry)) (now (colours .entry)) (now (chroma .entry)))) ⌝ }
 {
-    if limits::bad_side(side) {
-        return 2;
-    }
-    if limits::bad_hues(hues) {
-        return 3;
-    }
-    if limits::bad_cell_size(size) {
-        return 4;
+    let shape = layout::refused_shape(layout);
+    if shape != 0 {
+        return shape;
     }
     if bad_lengths(
-        hues,
-        size,
+        layout,
         xs,
         ys,
-        grid,
         raw,
         cxs,
         cys,
@@ -879,13 +816,11 @@ fn refused(
     ) {
         return 5;
     }
-    if limits::bad_counts(xs.len(), grid, cxs.len()) {
-        return 6;
+    let places = layout::refused_placement(layout, xs, ys, cxs, cys);
+    if places != 0 {
+        return places;
     }
-    if bad_positions(side, grid, xs, ys, cxs, cys) {
-        return 7;
-    }
-    if bad_inputs(raw, xs.len(), craw, cxs.len(), noise, palette, hues) {
+    if bad_inputs(raw, xs.len(), craw, cxs.len(), noise, palette, layout.hues) {
         return 8;
     }
     if stats::bad_sigmas(noise) {
@@ -894,7 +829,7 @@ fn refused(
     if illum::bad_model(model) {
         return 10;
     }
-    if bad_corrected(hues, model, xs, ys, raw, size, cxs, cys, craw) {
+    if bad_corrected(layout, model, xs, ys, raw, cxs, cys, craw) {
         return 12;
     }
     0
@@ -907,12 +842,9 @@ fn refused(
 // Writes a luma score a module, three components of its corrected colour, and, with chroma on, log2(hues) scores a cell
 // and then, at cell size 1, a ring module. Refused: 2, 3, 4, 5, 6, 7, 8, 9, 10, 12.
 pub fn score(
-    side: usize,
-    hues: usize,
-    size: usize,
+    layout: Layout,
     xs: &[i32],
     ys: &[i32],
-    grid: usize,
     raw: &[f32],
     cxs: &[u16],
     cys: &[u16],
@@ -924,15 +856,12 @@ pub fn score(
     colours: &mut [f32],
     chroma: &mut [f32],
 ) -> Outcome
-    ensures { λ r. ⌜ call.final r (now (luma .exit)) (now (colours .exit)) (now (chroma .exit)) ≡ call.scoredOf (call.request side hues size (now (xs .entry)) (now (ys .entry)) grid (now (raw .entry)) (now (cxs .entry)) (now (cys .entry)) (now (craw .entry)) (now (palette .entry)) model noise (now (luma .entry)) (now (colours .entry)) (now (chroma .entry))) ⌝ }
+    ensures { λ r. ⌜ final r (now (luma .exit)) (now (colours .exit)) (now (chroma .exit)) ≡ scoredOf (request layout (now (xs .entry)) (now (ys .entry)) (now (raw .entry)) (now (cxs .entry)) (now (cys .entry)) (now (craw .entry)) (now (palette .entry)) model noise (now (luma .entry)) (now (colours .entry)) (now (chroma .entry))) ⌝ }
 {
     let n = refused(
-        side,
-        hues,
-        size,
+        layout,
         xs,
         ys,
-        grid,
         raw,
         cxs,
         cys,
@@ -948,11 +877,11 @@ pub fn score(
         return Outcome::Refused(n);
     }
     let mut sigmas = [0.0f32; 32];
-    noise.palette_sigmas(palette, hues, &mut sigmas);
+    noise.palette_sigmas(palette, layout.hues, &mut sigmas);
     write_modules(
         noise,
         palette,
-        hues,
+        layout.hues,
         &sigmas,
         model,
         xs,
@@ -962,14 +891,12 @@ pub fn score(
         colours,
     );
     write_chroma(
+        layout,
         noise,
         palette,
-        hues,
         &sigmas,
         model,
-        size,
         colours,
-        grid,
         xs.len(),
         cxs,
         cys,

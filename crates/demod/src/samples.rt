@@ -4,7 +4,7 @@ ghost use mathlib.Core.Path.{_≡_};
 ghost use Prim.Native.Nat.{_+_, _*_, _<_, _≤_};
 ghost use lib.ListN.{length};
 ghost use Rattle.color.specs.Palette.{paletteLen, linearAt};
-ghost use Rattle.stats.specs.Noise.{Sigmas};
+ghost use Rattle.demod.specs.Ready.{Tables};
 ghost use Rattle.demod.specs.Samples as spec;
 ghost use Rattle.demod.specs.Samples.{Block, Samples};
 use color::Lab;
@@ -66,7 +66,7 @@ fn write_distances(
     n: usize,
     distances: &mut [f32],
 )
-    requires { ⌜ (paletteLen hues ≤ length (now palette)) × Sigmas noise (now palette) hues (now sigmas) × (3 * n ≤ length (now labs)) × (n ≤ length (now distances)) ⌝ }
+    requires { ⌜ Tables noise (now palette) hues (now sigmas) × (3 * n ≤ length (now labs)) × (n ≤ length (now distances)) ⌝ }
     ensures { λ _. ⌜ Block spec.numberAt (spec.distanceOf noise (now (palette .entry)) hues (spec.labAt (now (labs .entry)))) n (now (distances .exit)) ⌝ }
 {
     for j in 0..n {
@@ -96,7 +96,7 @@ pub fn write_samples(
     labs: &mut [f32],
     weights: &mut [f32],
 )
-    requires { ⌜ (paletteLen hues ≤ length (now palette)) × Sigmas noise (now palette) hues (now sigmas) × (n ≤ 16) × (3 * (from + n) ≤ length (now colours)) × (3 * n ≤ length (now labs)) × (n ≤ length (now weights)) ⌝ }
+    requires { ⌜ Tables noise (now palette) hues (now sigmas) × (n ≤ 16) × (3 * (from + n) ≤ length (now colours)) × (3 * n ≤ length (now labs)) × (n ≤ length (now weights)) ⌝ }
     ensures { λ _. ⌜ Samples noise (now (palette .entry)) hues (spec.onwards (linearAt (now (colours .entry))) from) n (now (labs .exit)) (now (weights .exit)) ⌝ }
 {
     write_labs(colours, from, n, labs);

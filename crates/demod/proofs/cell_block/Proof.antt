@@ -5,7 +5,7 @@ use Rattle.demod.proofs.cell_block.Statement.{statement}
 use Rattle.demod.proofs.cell_block.Tie as tie
 
 put-entries-requires : tie.Need-put-entries-requires
-put-entries-requires c κs = (search needs, search needs, search needs, search needs, search needs, search needs, search needs)
+put-entries-requires c κs = (record { hues-good = search needs; palette-long = search needs }, search needs, search needs, search needs, search needs, search needs)
 
 returns : tie.Need-returns
 returns c = search (cell-scores, of-room, needs)

@@ -24,7 +24,7 @@ entry-in : (hues first j n long lent : ℕ) → j < n → long ≡ lent → (fir
 entry-in hues first j n long lent h f l = entry-of hues (first + j) (first + n) long (omega arith) (rw f l)
 
 put-entry-requires : tie.Need-put-entry-requires Inv μ
-put-entry-requires c κs = (search needs, search needs, search needs, search needs, search needs, search needs, search (entry-in))
+put-entry-requires c κs = (search needs, search needs, search needs, search needs, search needs, search (entry-in))
 
 pub put-entries-spec : {M : Type 1} → statement M
 put-entries-spec =

@@ -3,62 +3,71 @@ use mathlib.Core.Path.{_≡_, sym, _∙_}
 use mathlib.Core.Bool.{Bool, false}
 use borrow.Author.Needs.{needs}
 use mathlib.Core.List.{List}
-use Prim.Native.Nat.{ℕ, _≤_}
+use Prim.Native.Nat.{ℕ, _*_, _≤_}
 use lib.IntN.{ℤ}
 use lib.ListN.{length}
 use lib.Ieee.{Float}
+use Rattle.sentences.specs.Sentences.{refusal}
 use Rattle.sentences.proofs.Laws.{sentences}
-use Rattle.limits.specs.Limits.{badSide, badCellSize}
-use Rattle.limits.proofs.Laws.{side-in, cell-size-in}
+use Rattle.layout.specs.declared.Layout.{Layout}
+use Rattle.layout.specs.Groups.{shape, placement, Shaped, Placed}
+use Rattle.layout.proofs.Laws.{shaped, placed, layouts}
+use Rattle.color.specs.Palette.{paletteLen}
 use Rattle.demod.specs.Score.{Exact}
-use Rattle.demod.specs.Call.{badLengths, badPositions, sentencesOf}
+use Rattle.demod.specs.Call.{badLengths, sentencesOf}
 use Rattle.demod.proofs.Places.{exact-xs, exact-ys}
-use Rattle.demod.proofs.Accepted.{Lengths, lengths-in, placed-in}
+use Rattle.demod.proofs.Accepted.{Lengths, lengths-in}
 use Rattle.demod.proofs.refused.Statement.{statement}
 use Rattle.demod.proofs.refused.Tie as tie
 
-small : (side : ℕ) (r : Bool) → r ≡ badSide side → r ≡ false → side ≤ 1024
-small side r e f = side-in side (sym e ∙ f) .1
+module _ (l : Layout) (xs ys : List ℤ) (raw : List Float) (cxs cys : List ℕ) (craw palette luma colours chroma : List Float) (r : Bool)
+    (e : r ≡ badLengths l xs ys raw cxs cys craw palette luma colours chroma) (f : r ≡ false) where
+  long : Lengths l xs ys raw cxs cys craw palette luma colours chroma
+  long = lengths-in l xs ys raw cxs cys craw palette luma colours chroma (sym e ∙ f)
 
-few : (size : ℕ) (r : Bool) → r ≡ badCellSize size → r ≡ false → size ≤ 16
-few size r e f = cell-size-in size (sym e ∙ f) .1
+  modules-pair : length xs ≡ length ys
+  modules-pair = long .pairs .modules
 
-module _ (hues size : ℕ) (xs ys : List ℤ) (grid : ℕ) (raw : List Float) (cxs cys : List ℕ) (craw palette luma colours chroma : List Float) (r : Bool)
-    (e : r ≡ badLengths hues size xs ys grid raw cxs cys craw palette luma colours chroma) (f : r ≡ false) where
-  long : Lengths hues size xs ys grid raw cxs cys craw palette luma colours chroma
-  long = lengths-in hues size xs ys grid raw cxs cys craw palette luma colours chroma (sym e ∙ f)
+  cells-pair : length cxs ≡ length cys
+  cells-pair = long .pairs .cells
 
-module _ (side grid : ℕ) (xs ys : List ℤ) (cxs cys : List ℕ) (r s : Bool) (e : r ≡ badPositions side grid xs ys cxs cys) (f : r ≡ false) (d : s ≡ badSide side) (g : s ≡ false) where
+  raw-three : 3 * length xs ≤ length raw
+  raw-three = long .raw-three
+
+  craw-three : 3 * length cxs ≤ length craw
+  craw-three = long .craw-three
+
+  palette-long : paletteLen (l .hues) ≤ length palette
+  palette-long = long .palette-long
+
+module _ (l : Layout) (xs ys : List ℤ) (cxs cys : List ℕ) (s : Shaped l) (p : Placed l xs ys cxs cys) where
+  x-in : Exact xs (length xs)
+  x-in = exact-xs (l .side) (l .grid) xs ys (s .side-most) (p .places-good)
+
+  y-in : Exact ys (length xs)
+  y-in = exact-ys (l .side) (l .grid) xs ys (s .side-most) (p .places-good)
+
+module _ (l : Layout) (n : ℕ) (xs ys : List ℤ) (cxs cys : List ℕ) (m : ℕ) (e : n ≡ refusal (shape l)) (z : n ≡ 0) (f : m ≡ refusal (placement l xs ys cxs cys)) (y : m ≡ 0) where
   x-exact : Exact xs (length xs)
-  x-exact = exact-xs side grid xs ys (small side s d g) (placed-in side grid xs ys cxs cys (sym e ∙ f) .0)
+  x-exact = x-in l xs ys cxs cys (shaped l n e z) (placed l xs ys cxs cys m f y)
 
   y-exact : Exact ys (length xs)
-  y-exact = exact-ys side grid xs ys (small side s d g) (placed-in side grid xs ys cxs cys (sym e ∙ f) .0)
+  y-exact = y-in l xs ys cxs cys (shaped l n e z) (placed l xs ys cxs cys m f y)
 
-bad-positions-requires : tie.Need-bad-positions-requires
-bad-positions-requires c κs =
-    let l = long _ _ _ _ _ _ _ _ _ _ _ _ _ _ (c .before .before .before .bad-lengths .ensures) (c .before .before .if4 .left) in
-    (small _ _ (c .before .before .before .before .before .before .before .before .before .bad-side .ensures) (c .before .before .before .before .before .before .before .before .if1 .left), l .modules, l .cells)
+refused-placement-requires : tie.Need-refused-placement-requires
+refused-placement-requires c κs = (search (shaped), record { modules = search (modules-pair); cells = search (cells-pair) })
 
 bad-inputs-requires : tie.Need-bad-inputs-requires
-bad-inputs-requires c κs =
-    let l = long _ _ _ _ _ _ _ _ _ _ _ _ _ _ (c .before .before .before .before .before .bad-lengths .ensures) (c .before .before .before .before .if4 .left) in
-    (l .raw-three, l .craw-three, l .palette-long)
+bad-inputs-requires c κs = (search (raw-three), search (craw-three), search (palette-long))
 
 bad-corrected-requires : tie.Need-bad-corrected-requires
 bad-corrected-requires c κs =
-    let l = long _ _ _ _ _ _ _ _ _ _ _ _ _ _ (c .before .before .before .before .before .before .before .before .before .before .before .bad-lengths .ensures) (c .before .before .before .before .before .before .before .before .before .before .if4 .left) in
-    let x = x-exact _ _ _ _ _ _ _ _ (c .before .before .before .before .before .before .before .bad-positions .ensures) (c .before .before .before .before .before .before .if6 .left) (c .before .before .before .before .before .before .before .before .before .before .before .before .before .before .before .before .before .bad-side .ensures) (c .before .before .before .before .before .before .before .before .before .before .before .before .before .before .before .before .if1 .left) in
-    let y = y-exact _ _ _ _ _ _ _ _ (c .before .before .before .before .before .before .before .bad-positions .ensures) (c .before .before .before .before .before .before .if6 .left) (c .before .before .before .before .before .before .before .before .before .before .before .before .before .before .before .before .before .bad-side .ensures) (c .before .before .before .before .before .before .before .before .before .before .before .before .before .before .before .before .if1 .left) in
-    (l .modules, x, y, l .raw-three, few _ _ (c .before .before .before .before .before .before .before .before .before .before .before .before .before .bad-cell-size .ensures) (c .before .before .before .before .before .before .before .before .before .before .before .before .if3 .left), l .cells, l .craw-three)
+    (search (shaped), record { pairs = search (modules-pair); xs-exact = search (x-exact); ys-exact = search (y-exact); raw-three = search (raw-three) }, search (cells-pair), search (craw-three))
 
 pub refused-spec : {M : Type 1} → statement M
 unfolding sentencesOf
 refused-spec =
     tie.close
-    (tie.spec (λ c κs. search needs) (λ c. search (sentences) depth 15 fits 50000) (λ c κs. search needs)
-    (λ c. search (sentences) depth 15 fits 50000) (λ c κs. search needs) (λ c. search (sentences) depth 15 fits 50000) (λ c κs. search needs)
-    (λ c. search (sentences) depth 15 fits 50000) (λ c κs. search needs) (λ c. search (sentences) depth 15 fits 50000) bad-positions-requires
-    (λ c. search (sentences) depth 15 fits 50000) bad-inputs-requires (λ c. search (sentences) depth 15 fits 50000) (λ c κs. search needs)
-    (λ c. search (sentences) depth 15 fits 50000) (λ c κs. search needs) (λ c. search (sentences) depth 15 fits 50000) bad-corrected-requires
-    (λ c. search (sentences) depth 15 fits 50000) (λ c. search (sentences) depth 15 fits 50000))
+    (tie.spec (λ c κs. search needs) (λ c. search (layouts)) (λ c κs. search needs) (λ c. search (sentences, layouts) depth 9) refused-placement-requires (λ c. search (sentences, layouts) depth 9) bad-inputs-requires
+    (λ c. search (sentences, layouts) depth 9) (λ c κs. search needs) (λ c. search (sentences, layouts) depth 9) (λ c κs. search needs) (λ c. search (sentences, layouts) depth 9) bad-corrected-requires
+    (λ c. search (sentences, layouts) depth 9) (λ c. search (sentences, layouts) depth 9))

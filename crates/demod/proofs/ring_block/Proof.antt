@@ -15,7 +15,7 @@ block-long hues cells grid from n long lent l g e =
     rw (p, e) l
 
 put-entries-requires : tie.Need-put-entries-requires
-put-entries-requires c κs = (search needs, search needs, search needs, search needs, search needs, search needs, search (block-long))
+put-entries-requires c κs = (record { hues-good = search needs; palette-long = search needs }, search needs, search needs, search needs, search needs, search (block-long))
 
 returns : tie.Need-returns
 returns c = search (ring-scores, needs)

@@ -7,6 +7,7 @@ use native.Mathlib.Nat.{mul-comm}
 use borrow.Author.Tests.{eq-eqb, ne-eqb}
 use lib.Ieee.{Float}
 use Rattle.limits.specs.Chroma.{symbolBits, ringModules, chromaEntries, chromaLength}
+use Rattle.layout.specs.declared.Layout.{Layout}
 use Rattle.color.specs.declared.Linear.{Linear}
 use Rattle.stats.specs.declared.ChannelStats.{ChannelStats}
 use Rattle.demod.specs.Score.{writeRings, ringChroma}
@@ -18,17 +19,17 @@ long : (hues cells m grid size lent : ℕ) → size ≡ 1 → chromaLength hues 
 unfolding chromaLength chromaEntries
 long hues cells m grid size lent e h = rw (mul-comm (cells + (m - grid)) (symbolBits hues)) (rw (eq-eqb size 1 e) at h)
 
-module _ (n : ChannelStats) (palette : List Float) (hues size cells grid : ℕ) (colour : ℕ → Linear) (m : ℕ) (chroma : List Float) where
-  rings : (after : List Float) → size ≡ 1 → after ≡ writeRings n palette hues cells grid colour m chroma → after ≡ ringChroma n palette hues size cells grid colour m chroma
+module _ (l : Layout) (n : ChannelStats) (palette : List Float) (cells : ℕ) (colour : ℕ → Linear) (m : ℕ) (chroma : List Float) where
+  rings : (after : List Float) → l .size ≡ 1 → after ≡ writeRings n palette (l .hues) cells (l .grid) colour m chroma → after ≡ ringChroma l n palette cells colour m chroma
   unfolding ringChroma
-  rings after e h = rw (eq-eqb size 1 e) h
+  rings after e h = rw (eq-eqb (l .size) 1 e) h
 
-  none : (size ≡ 1 → ⊥) → chroma ≡ ringChroma n palette hues size cells grid colour m chroma
+  none : (l .size ≡ 1 → ⊥) → chroma ≡ ringChroma l n palette cells colour m chroma
   unfolding ringChroma
-  none d = rw (ne-eqb size 1 d)
+  none d = rw (ne-eqb (l .size) 1 d)
 
 write-rings-requires : tie.Need-write-rings-requires
-write-rings-requires c κs = (search needs, search needs, search needs, search needs, search needs, search needs, search needs, search needs, search (long))
+write-rings-requires c κs = (search needs, search needs, search needs, search needs, search (long))
 
 returns : tie.Need-returns
 returns c = search (rings)

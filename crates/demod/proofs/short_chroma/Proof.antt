@@ -5,13 +5,14 @@ use borrow.Author.Needs.{needs}
 use Prim.Native.Nat.{ℕ}
 use lib.Dec.{ltb}
 use Rattle.limits.specs.Chroma.{ringModules, chromaLength}
+use Rattle.layout.specs.declared.Layout.{Layout}
 use Rattle.demod.specs.Call.{shortChroma}
 use Rattle.demod.proofs.short_chroma.Statement.{statement}
 use Rattle.demod.proofs.short_chroma.Tie as tie
 
-same : (chroma hues size modules grid cells ring : ℕ) (r : Bool) → ring ≡ ringModules modules grid → r ≡ ltb chroma (chromaLength hues cells ring size) → r ≡ shortChroma chroma hues size modules grid cells
+same : (l : Layout) (chroma modules cells ring : ℕ) (r : Bool) → ring ≡ ringModules modules (l .grid) → r ≡ ltb chroma (chromaLength (l .hues) cells ring (l .size)) → r ≡ shortChroma l chroma modules cells
 unfolding shortChroma
-same chroma hues size modules grid cells ring r e h = rw e at h
+same l chroma modules cells ring r e h = rw e at h
 
 returns : tie.Need-returns
 returns c = search (same)

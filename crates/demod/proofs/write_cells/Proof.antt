@@ -11,15 +11,15 @@ use Rattle.demod.proofs.write_cells.Statement.{statement}
 use Rattle.demod.proofs.write_cells.Tie as tie
 
 abbrev Inv : tie.InvT-loop
-Inv noise palette hues sigmas model size cxs cys raw chroma₀ from₀ chroma from =
+Inv layout noise palette sigmas model cxs cys raw chroma₀ from₀ chroma from =
     (length chroma ≡ length chroma₀) ×
-    Left (writeCell noise palette hues cxs cys (cellColour model size cxs cys raw)) (length cxs) from chroma (writeCells noise palette hues cxs cys (cellColour model size cxs cys raw) (length cxs) chroma₀)
+    Left (writeCell noise palette (layout .hues) cxs cys (cellColour model (layout .size) cxs cys raw)) (length cxs) from chroma (writeCells noise palette (layout .hues) cxs cys (cellColour model (layout .size) cxs cys raw) (length cxs) chroma₀)
 
 abbrev μ : tie.MeasureT-loop
-μ noise palette hues sigmas model size cxs cys raw chroma₀ from₀ chroma from = length cxs - from
+μ layout noise palette sigmas model cxs cys raw chroma₀ from₀ chroma from = length cxs - from
 
 cell-block-requires : tie.Need-cell-block-requires Inv μ
-cell-block-requires c κs = (search needs, search needs, search needs, search needs, search needs, search needs, search needs, search needs, search needs, search (part-long, needs))
+cell-block-requires c κs = (search needs, search needs, search needs, search needs, search needs, search needs, search (part-long, needs))
 
 loop-again : tie.Need-loop-again Inv μ
 loop-again c = (search needs, search (block-to, needs))

@@ -10,6 +10,7 @@ use lib.Dec.{eqb}
 use lib.ListN.{length}
 use lib.Ieee.{Float}
 use Rattle.limits.specs.Chroma.{symbolBits, chromaOn, chromaEntries, chromaLength}
+use Rattle.layout.specs.declared.Layout.{Layout}
 use Rattle.color.specs.declared.Linear.{Linear}
 use Rattle.stats.specs.declared.ChannelStats.{ChannelStats}
 use Rattle.demod.specs.Score.{writeCells, ringChroma, chromaWritten}
@@ -28,21 +29,21 @@ cells-long hues cells ring size long h =
 still : (hues cells ring size long lent : ℕ) → long ≡ lent → chromaLength hues cells ring size ≤ lent → chromaLength hues cells ring size ≤ long
 still hues cells ring size long lent e h = rw e h
 
-module _ (n : ChannelStats) (palette : List Float) (hues size grid : ℕ) (modules : ℕ → Linear) (m : ℕ) (cxs cys : List ℕ) (cells : ℕ → Linear) (chroma : List Float) (o : Bool) (e : o ≡ chromaOn hues) where
-  scored : (mid after : List Float) → o ≡ true → mid ≡ writeCells n palette hues cxs cys cells (length cxs) chroma → after ≡ ringChroma n palette hues size (length cxs) grid modules m mid →
-      after ≡ chromaWritten n palette hues size grid modules m cxs cys cells chroma
+module _ (l : Layout) (n : ChannelStats) (palette : List Float) (modules : ℕ → Linear) (m : ℕ) (cxs cys : List ℕ) (cells : ℕ → Linear) (chroma : List Float) (o : Bool) (e : o ≡ chromaOn (l .hues)) where
+  scored : (mid after : List Float) → o ≡ true → mid ≡ writeCells n palette (l .hues) cxs cys cells (length cxs) chroma → after ≡ ringChroma l n palette (length cxs) modules m mid →
+      after ≡ chromaWritten l n palette modules m cxs cys cells chroma
   unfolding chromaWritten
   scored mid after t h k = rw (← e, t, ← h) k
 
-  off : o ≡ false → chroma ≡ chromaWritten n palette hues size grid modules m cxs cys cells chroma
+  off : o ≡ false → chroma ≡ chromaWritten l n palette modules m cxs cys cells chroma
   unfolding chromaWritten
   off t = rw (← e, t)
 
 write-cells-requires : tie.Need-write-cells-requires
-write-cells-requires c κs = (search needs, search needs, search needs, search needs, search needs, search needs, search needs, search (cells-long))
+write-cells-requires c κs = (search needs, search needs, search needs, search needs, search (cells-long))
 
 ring-chroma-requires : tie.Need-ring-chroma-requires
-ring-chroma-requires c κs = (search needs, search needs, search needs, search needs, search needs, search needs, search needs, search needs, search (still))
+ring-chroma-requires c κs = (search needs, search needs, search needs, search needs, search (still))
 
 returns : tie.Need-returns
 returns c = search (scored)

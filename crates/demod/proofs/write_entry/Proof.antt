@@ -22,7 +22,7 @@ small hues e k long h l f = record { fits = omega (arith, entry-in hues e k long
 mul-put-scores-2 : tie.Need-mul-put-scores-2
 mul-put-scores-2 c =
     let start = c .before .before .before .before .before .before .before .before .before .before .before .before .before .before .before in
-    small _ _ _ _ (c .before .before .symbol-bits .ensures) (start .pre .4) (search (start .good .1 .1 .1 .1 .1 .1 .1 .1, needs))
+    small _ _ _ _ (c .before .before .symbol-bits .ensures) (start .pre .3) (search (start .good .1 .1 .1 .1 .1 .1 .1 .1, needs))
 
 put-scores-requires : tie.Need-put-scores-requires
 put-scores-requires c κs = (search (bits-room), search (entry-in))

@@ -22,7 +22,7 @@ module _ (hues : ℕ) (w : Bool) (ew : w ≡ weighted hues) where
   plain n palette colour m before after f e = e ∙ forUp-same (plainLuma n colour) (lumaAt n palette hues colour) m 0 before (λ j h l s. rw (← ew, f))
 
 weighted-lumas-requires : tie.Need-weighted-lumas-requires
-weighted-lumas-requires c κs = (search (with-weight), search needs, search needs, search needs, search needs)
+weighted-lumas-requires c κs = (search (with-weight), search needs, search needs, search needs)
 
 returns-2 : tie.Need-returns-2
 returns-2 c = search (plain)

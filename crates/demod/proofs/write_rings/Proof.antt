@@ -14,12 +14,12 @@ use Rattle.demod.proofs.write_rings.Statement.{statement}
 use Rattle.demod.proofs.write_rings.Tie as tie
 
 abbrev Inv : tie.InvT-loop
-Inv noise palette hues sigmas cxs cys colours grid m chroma₀ from₀ chroma from =
-    (grid ≤ from) × (length chroma ≡ length chroma₀) ×
-    Left (writeRing noise palette hues (length cxs) grid (linearAt colours)) m from chroma (writeRings noise palette hues (length cxs) grid (linearAt colours) m chroma₀)
+Inv layout noise palette sigmas cxs cys colours m chroma₀ from₀ chroma from =
+    (layout .grid ≤ from) × (length chroma ≡ length chroma₀) ×
+    Left (writeRing noise palette (layout .hues) (length cxs) (layout .grid) (linearAt colours)) m from chroma (writeRings noise palette (layout .hues) (length cxs) (layout .grid) (linearAt colours) m chroma₀)
 
 abbrev μ : tie.MeasureT-loop
-μ noise palette hues sigmas cxs cys colours grid m chroma₀ from₀ chroma from = m - from
+μ layout noise palette sigmas cxs cys colours m chroma₀ from₀ chroma from = m - from
 
 -- the entries of the ring modules below `to` have room among those of all
 ring-long : (hues cells grid to m long lent : ℕ) → to ≤ m → long ≡ lent → (cells + (m - grid)) * symbolBits hues ≤ lent → (cells + (to - grid)) * symbolBits hues ≤ long
@@ -27,7 +27,7 @@ ring-long hues cells grid to m long lent h e l = part-long hues (cells + (to - g
 
 ring-block-requires : tie.Need-ring-block-requires Inv μ
 ring-block-requires c κs =
-    (search needs, search needs, search needs, search needs, search needs, search needs, search needs, search needs, search needs, search (ring-long, needs))
+    (search needs, search needs, search needs, search needs, search needs, search needs, search needs, search (ring-long, needs))
 
 loop-again : tie.Need-loop-again Inv μ
 loop-again c = (search needs, search needs, search (block-to, needs))

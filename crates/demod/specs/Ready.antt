@@ -1,0 +1,42 @@
+-- What the functions that write scores ask of what they are handed. Definitions only.
+use mathlib.Core.Path.{_≡_}
+use mathlib.Core.Bool.{false}
+use mathlib.Core.List.{List}
+use Prim.Native.Nat.{ℕ, _*_, _≤_}
+use lib.IntN.{ℤ}
+use lib.ListN.{length}
+use lib.Ieee.{Float}
+use Rattle.limits.specs.Limits.{badHues}
+use Rattle.layout.specs.declared.Layout.{Layout}
+use Rattle.color.specs.Palette.{paletteLen}
+use Rattle.stats.specs.declared.ChannelStats.{ChannelStats}
+use Rattle.stats.specs.Noise.{Sigmas}
+use Rattle.demod.specs.Score.{Exact}
+
+-- the hue count passes sentence 3, and the palette has its colours
+pub record Palette (hues : ℕ) (palette : List Float) : Type 0 where
+  pub hues-good : badHues hues ≡ false
+  pub palette-long : paletteLen hues ≤ length palette
+
+-- the palette has its colours, and the sigmas are those of its colours
+pub record Tables (n : ChannelStats) (palette : List Float) (hues : ℕ) (sigmas : List Float) : Type 0 where
+  pub palette-long : paletteLen hues ≤ length palette
+  pub sigmas-are : Sigmas n palette hues sigmas
+
+-- the cells run in pairs, and there are not too many
+pub record Cells (cxs cys : List ℕ) : Type 0 where
+  pub pairs : length cxs ≡ length cys
+  pub most : length cxs ≤ 1048576
+
+-- the modules' positions run in pairs and are f32 values, and each module has a raw colour
+pub record Sampled (xs ys : List ℤ) (raw : List Float) : Type 0 where
+  pub pairs : length xs ≡ length ys
+  pub xs-exact : Exact xs (length xs)
+  pub ys-exact : Exact ys (length xs)
+  pub raw-three : 3 * length xs ≤ length raw
+
+-- m modules, grid modules and others, are not too many, and their corrected colours are there
+pub record Modules (l : Layout) (m : ℕ) (colours : List Float) : Type 0 where
+  pub grid-most : l .grid ≤ m
+  pub most : m ≤ 1048576
+  pub colours-three : 3 * m ≤ length colours
