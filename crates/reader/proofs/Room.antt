@@ -40,12 +40,12 @@ numberOf : Noise → ℕ
 numberOf (noise.Refused n) = n
 numberOf (noise.Record r) = 0
 
-measure-small : (q : measuring.Request) → numberOf (measuring.measureOf q .answer) ≤ 12
+measure-small : (q : measuring.Request) → numberOf (measuring.measureOf q .answer) < 100
 unfolding numberOf measuring.measureOf measuring.sentencesFor tiny
 measure-small q =
     number-small (λ e. numberOf (e .answer)) (measuring.turnedAway q) (measuring.done q) (refusal (measuring.sentencesOf q)) (λ n. refl) refl (refusal-small (measuring.sentencesOf q) refl)
 
-after-in : (c : Sheet) (m : IlluminationModel) (o : Noise) → numberOf o ≤ 12 → ((n : ChannelStats) → length (scoreText c m n) ≤ listingRoom) → length (afterMeasuring c m o) ≤ listingRoom
+after-in : (c : Sheet) (m : IlluminationModel) (o : Noise) → numberOf o < 100 → ((n : ChannelStats) → length (scoreText c m n) ≤ listingRoom) → length (afterMeasuring c m o) ≤ listingRoom
 unfolding numberOf afterMeasuring
 after-in c m (noise.Refused n) h g = line-in n (omega arith)
 after-in c m (noise.Record n) h g = g n
@@ -80,7 +80,7 @@ card-in s c h t =
     let y = list-length (positionAt s (c .modules .at + 2)) m in
     fit-in (sheetOf s c) (referencesOf s c) t (few s c h) (y ∙ sym x) (small s (c .modules .at) m) (small s (c .modules .at + 2) m)
 
-opened-small : (pairs : ℕ) (s : List ℕ) → opened pairs s .number ≤ 12
+opened-small : (pairs : ℕ) (s : List ℕ) → opened pairs s .number < 100
 unfolding opened tiny
 opened-small pairs s =
     number-small (λ e. e .number) (λ n. said (opening.Refused n)) (said (opening.Accepted (cardOf pairs s))) (refusal (fileSentences pairs s)) (λ n. refl) refl

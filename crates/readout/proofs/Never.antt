@@ -12,13 +12,14 @@ use lib.IntN.{ℤ}
 use lib.ListN.{length, getD, length-replicate}
 use lib.Ieee.{Float, nan, binary32, ofBits, neg, le, round}
 use Rattle.loops.specs.Loops.{someOf, anyUp}
-use Rattle.sentences.specs.Sentences.{refusal, decided, at, sound, fresh}
-use Rattle.sentences.proofs.Laws.{none-holds, neither}
+use Rattle.sentences.specs.Sentences.{refusal, orElse, decided}
+use Rattle.sentences.proofs.Laws.{joined, neither}
 use Rattle.floatlaws.specs.Order.{le-trans, of-le, to-le}
 use Rattle.floatlaws.specs.Finite.{num, neg-fin}
 use Rattle.floatlaws.specs.Interval.{In}
-use Rattle.places.specs.Places.{badPlaces}
-use Rattle.limits.specs.Limits.{badSide, badHues, badModules, badCounts}
+use Rattle.layout.specs.Groups.{modulePlacement}
+use Rattle.layout.proofs.Laws.{modules-sound}
+use Rattle.limits.specs.Limits.{badSide, badHues}
 use Rattle.color.specs.Color.{whole, fraction}
 use Rattle.color.specs.Palette.{linearAt, wild, wildLinear, wildAt, wildIn}
 use Rattle.color.proofs.Rises.{fin-of-fraction}
@@ -32,7 +33,6 @@ use Rattle.stats.specs.declared.ChannelStats.{ChannelStats}
 use Rattle.stats.specs.Calls.{shortPalette, badNumbers, badSigmas}
 use Rattle.stats.proofs.Range.{Held}
 use Rattle.demod.specs.Call as scoring
-use Rattle.demod.proofs.Accepted.{number}
 use Rattle.demod.proofs.Outcome.{at-done}
 use Rattle.demod.proofs.Range.{luma-in, colour-tame}
 use Rattle.refine.specs.Refine.{squares, levelsOf, gridOf, refined}
@@ -62,18 +62,18 @@ pub read-done : (scores : List Float) (bits : List ℕ) → length scores ≤ le
 unfolding readListOf readSentences refusal decided
 read-done scores bits h = rw (le-ltb (length bits) (length scores) h)
 
-unmask-done : (luma : List Float) (side : ℕ) (xs ys : List ℤ) (g mask : ℕ) → badSide side ≡ false → length xs ≡ length ys → length xs ≤ length luma → badModules (length xs) g ≡ false →
-    badPlaces side g xs ys ≡ false → unmaskLumaOf luma side xs ys g mask ≡ ended outcome.Done (unmasked mask xs ys g luma)
+unmask-done : (luma : List Float) (side : ℕ) (xs ys : List ℤ) (g mask : ℕ) → badSide side ≡ false → length xs ≡ length ys → length xs ≤ length luma →
+    refusal (modulePlacement side g xs ys) ≡ 0 → unmaskLumaOf luma side xs ys g mask ≡ ended outcome.Done (unmasked mask xs ys g luma)
 unfolding unmaskLumaOf unmaskSentences badLumaLengths refusal decided
-unmask-done luma side xs ys g mask a b c d e = rw (a, eq-eqb (length xs) (length ys) b, le-ltb (length luma) (length xs) c, d, e)
+unmask-done luma side xs ys g mask a b c d = rw (a, eq-eqb (length xs) (length ys) b, le-ltb (length luma) (length xs) c, d)
 
 refine-done : (q : refining.Request) → badSide (q .side) ≡ false → badHues (q .hues) ≡ false →
     refining.shortSlices (q .side) (q .hues) (length (q .xs)) (length (q .ys)) (length (q .colours)) (length (q .luma)) (q .palette) (length (q .scratch)) ≡ false →
-    badModules (length (q .xs)) (q .grid) ≡ false → badPlaces (q .side) (q .grid) (q .xs) (q .ys) ≡ false →
+    refusal (modulePlacement (q .side) (q .grid) (q .xs) (q .ys)) ≡ 0 →
     refining.wildNumbers (length (q .xs)) (q .colours) (q .luma) (q .palette) (q .hues) (q .noise) ≡ false → badSigmas (q .noise) ≡ false →
     refining.refineOf q ≡ refining.finalOf (refining.refinedOf q)
-unfolding refining.refineOf refining.sentencesOf refusal decided
-refine-done q a b c d e f g = rw (a, b, c, d, e, f, g)
+unfolding refining.refineOf refining.sentencesOf refusal orElse decided
+refine-done q a b c d e f = rw (a, b, c, joined (modulePlacement (q .side) (q .grid) (q .xs) (q .ys)) _ (modules-sound (q .side) (q .grid) (q .xs) (q .ys)), d, e, f)
 
 -- ---- numbers that pass sentence 8
 
@@ -110,18 +110,6 @@ score-tame v p =
 -- ---- after an accepted score
 
 module _ (q : scoring.Request) (held : Held (q .noise)) (done : scoring.scoredOf q .answer ≡ outcome.Done) where
-  none : (m : ℕ) → at m (scoring.sentencesOf q) ≡ false
-  unfolding scoring.sentencesOf sound fresh
-  none m = none-holds (scoring.sentencesOf q) refl m (sym (ap outcomeNumber done) ∙ number q)
-
-  side-good : badSide (q .side) ≡ false
-  unfolding scoring.sentencesOf at
-  side-good = none 2
-
-  modules-good : badModules (length (q .xs)) (q .grid) ≡ false
-  unfolding scoring.sentencesOf at badCounts
-  modules-good = neither (badModules (length (q .xs)) (q .grid)) _ (none 6) .0
-
   luma-long : length (scoring.scoredOf q .luma) ≡ length (q .luma)
   luma-long = ap (λ (f : scoring.Final). length (f .luma)) (at-done q done .left) ∙ at-done q done .wrote .luma-long
 
@@ -129,21 +117,21 @@ module _ (q : scoring.Request) (held : Held (q .noise)) (done : scoring.scoredOf
   colours-long = ap (λ (f : scoring.Final). length (f .colours)) (at-done q done .left) ∙ at-done q done .wrote .colours-long
 
   abbrev to : refining.Request
-  to = refining.request (scoring.scoredOf q .luma) (q .side) (q .hues) (q .xs) (q .ys) (q .grid) (scoring.scoredOf q .colours) (q .palette) (q .noise) (zeros (squares (q .side)))
+  to = refining.request (scoring.scoredOf q .luma) (q .layout .side) (q .layout .hues) (q .xs) (q .ys) (q .layout .grid) (scoring.scoredOf q .colours) (q .palette) (q .noise) (zeros (squares (q .layout .side)))
 
-  slices-long : refining.shortSlices (q .side) (q .hues) (length (q .xs)) (length (q .ys)) (length (to .colours)) (length (to .luma)) (q .palette) (length (to .scratch)) ≡ false
+  slices-long : refining.shortSlices (q .layout .side) (q .layout .hues) (length (q .xs)) (length (q .ys)) (length (to .colours)) (length (to .luma)) (q .palette) (length (to .scratch)) ≡ false
   unfolding refining.shortSlices shortPalette
   slices-long =
       let l = at-done q done .fit .lengths in
       rw (
-        eq-eqb (length (q .xs)) (length (q .ys)) (l .modules),
+        eq-eqb (length (q .xs)) (length (q .ys)) (l .pairs .modules),
         le-ltb (length (to .colours)) (3 * length (q .xs)) (omega (arith, colours-long, l .places)),
         le-ltb (length (to .luma)) (length (q .xs)) (omega (arith, luma-long, l .scores)),
         le-ltb (length (q .palette)) _ (l .palette-long),
-        le-ltb (length (to .scratch)) (squares (q .side)) (omega (arith, length-replicate (squares (q .side)) (ofBits binary32 0))),
+        le-ltb (length (to .scratch)) (squares (q .layout .side)) (omega (arith, length-replicate (squares (q .layout .side)) (ofBits binary32 0))),
       )
 
-  numbers-tame : refining.wildNumbers (length (q .xs)) (to .colours) (to .luma) (q .palette) (q .hues) (q .noise) ≡ false
+  numbers-tame : refining.wildNumbers (length (q .xs)) (to .colours) (to .luma) (q .palette) (q .layout .hues) (q .noise) ≡ false
   unfolding refining.wildNumbers badNumbers
   numbers-tame =
       let i = at-done q done .fit .inputs in
@@ -154,32 +142,32 @@ module _ (q : scoring.Request) (held : Held (q .noise)) (done : scoring.scoredOf
   pub refines : refining.refineOf to ≡ refining.finalOf (refining.refinedOf to)
   refines =
       let a = at-done q done .fit in
-      refine-done to side-good (a .hues-good) slices-long modules-good (a .placed) numbers-tame (a .sigmas)
+      refine-done to (a .shaped .side-good) (a .shaped .hues-good) slices-long (a .placed .modules-pass) numbers-tame (a .sigmas)
 
   refined-long : length (refining.refineOf to .luma) ≡ length (q .luma)
   unfolding refining.refinedOf refined
   refined-long =
       ap (λ (f : refining.Final). length (f .luma)) refines ∙
-      each.reached (q .noise) (q .palette) (q .hues) (levelsOf (q .palette)) (q .side) (q .xs) (q .ys) (to .colours) (gridOf (q .side) (q .xs) (q .ys) (to .colours) (to .scratch)) (to .luma)
+      each.reached (q .noise) (q .palette) (q .layout .hues) (levelsOf (q .palette)) (q .layout .side) (q .xs) (q .ys) (to .colours) (gridOf (q .layout .side) (q .xs) (q .ys) (to .colours) (to .scratch)) (to .luma)
       (omega (arith, luma-long, at-done q done .fit .lengths .scores)) .long ∙
       luma-long
 
   -- and so is unmasking
-  pub unmasks : (mask : ℕ) → unmaskLumaOf (refining.refineOf to .luma) (q .side) (q .xs) (q .ys) (q .grid) mask ≡ ended outcome.Done (unmasked mask (q .xs) (q .ys) (q .grid) (refining.refineOf to .luma))
+  pub unmasks : (mask : ℕ) → unmaskLumaOf (refining.refineOf to .luma) (q .layout .side) (q .xs) (q .ys) (q .layout .grid) mask ≡ ended outcome.Done (unmasked mask (q .xs) (q .ys) (q .layout .grid) (refining.refineOf to .luma))
   unmasks mask =
       let a = at-done q done .fit in
-      unmask-done (refining.refineOf to .luma) (q .side) (q .xs) (q .ys) (q .grid) mask side-good (a .lengths .modules) (omega (arith, refined-long, a .lengths .scores)) modules-good (a .placed)
+      unmask-done (refining.refineOf to .luma) (q .layout .side) (q .xs) (q .ys) (q .layout .grid) mask (a .shaped .side-good) (a .lengths .pairs .modules) (omega (arith, refined-long, a .lengths .scores)) (a .placed .modules-pass)
 
-  unmasked-long : (mask : ℕ) → length (unmasked mask (q .xs) (q .ys) (q .grid) (refining.refineOf to .luma)) ≡ length (refining.refineOf to .luma)
+  unmasked-long : (mask : ℕ) → length (unmasked mask (q .xs) (q .ys) (q .layout .grid) (refining.refineOf to .luma)) ≡ length (refining.refineOf to .luma)
   unmasked-long mask =
       let a = at-done q done .fit in
-      reached nan (unmaskAt mask (q .xs) (q .ys)) (refining.refineOf to .luma) (q .grid) (omega (arith, refined-long, a .lengths .scores, a .counts .1)) .long
+      reached nan (unmaskAt mask (q .xs) (q .ys)) (refining.refineOf to .luma) (q .layout .grid) (omega (arith, refined-long, a .lengths .scores, a .placed .grid-most)) .long
 
   -- and the reading of as many bits
-  pub reads-luma : (mask : ℕ) → let scores = unmasked mask (q .xs) (q .ys) (q .grid) (refining.refineOf to .luma) in
+  pub reads-luma : (mask : ℕ) → let scores = unmasked mask (q .xs) (q .ys) (q .layout .grid) (refining.refineOf to .luma) in
       let bits = noBits (length (refining.refineOf to .luma)) in readListOf scores bits ≡ ended outcome.Done (readList scores bits)
   reads-luma mask =
-      read-done (unmasked mask (q .xs) (q .ys) (q .grid) (refining.refineOf to .luma)) (noBits (length (refining.refineOf to .luma)))
+      read-done (unmasked mask (q .xs) (q .ys) (q .layout .grid) (refining.refineOf to .luma)) (noBits (length (refining.refineOf to .luma)))
       (omega (arith, unmasked-long mask, length-replicate {A = ℕ} (length (refining.refineOf to .luma)) 0))
 
 -- the reading of the symbols' bits is always accepted

@@ -19,7 +19,7 @@ use Rattle.demod.specs.Call as scoring
 use Rattle.refine.specs.Refine.{squares}
 use Rattle.refine.specs.Calls as refining
 use Rattle.readout.specs.Sheet.{sheet}
-use Rattle.readout.specs.Reading.{zeros, noBits, unless, afterSymbols, afterBits, afterUnmasking, readText, afterRefinement, refineText, placesOf, afterScoring, scoreText}
+use Rattle.readout.specs.Reading.{zeros, noBits, unless, layoutOf, afterSymbols, afterBits, afterUnmasking, readText, afterRefinement, refineText, placesOf, afterScoring, scoreText}
 
 -- ---- unmasking and reading: calls that write one list
 
@@ -83,10 +83,10 @@ module _ (s : Settings) (palette : List Float) (xs ys : List ℤ) (m : Illuminat
 
 module _ (s : Settings) (palette : List Float) (xs ys : List ℤ) (raw : List Float) (cxs cys : List ℕ) (craw : List Float) (m : IlluminationModel) (t u : Text) where
   module _ (n : ChannelStats) (o : Outcome) (l c h luma colours chroma : List Float)
-      (p : scoring.final o l c h ≡ scoring.scoredOf (scoring.request (s .side) (s .hues) (s .size) xs ys (s .grid) raw cxs cys craw palette m n luma colours chroma))
+      (p : scoring.final o l c h ≡ scoring.scoredOf (scoring.request (layoutOf s) xs ys raw cxs cys craw palette m n luma colours chroma))
       (a : luma ≡ zeros (length xs)) (b : colours ≡ zeros (3 * length xs)) (d : chroma ≡ zeros (placesOf s (length xs) (length cxs))) where
     lent : scoring.final o l c h ≡
-        scoring.scoredOf (scoring.request (s .side) (s .hues) (s .size) xs ys (s .grid) raw cxs cys craw palette m n (zeros (length xs)) (zeros (3 * length xs)) (zeros (placesOf s (length xs) (length cxs))))
+        scoring.scoredOf (scoring.request (layoutOf s) xs ys raw cxs cys craw palette m n (zeros (length xs)) (zeros (3 * length xs)) (zeros (placesOf s (length xs) (length cxs))))
     lent = rw (a, b, d) at p
 
     pub scored : o ≡ outcome.Done → u ≡ written (refineText s palette xs ys m n l c h) t → u ≡ written (scoreText (sheet s palette xs ys raw cxs cys craw) m n) t

@@ -1,4 +1,4 @@
--- The text of a card has room in LISTING_ROOM bytes: a refusal is a number up to 12, a bit is 0 or 1, a card file has at most 1,020 modules and cells, and an
+-- The text of a card has room in LISTING_ROOM bytes: a refusal is a number below 100, a bit is 0 or 1, a card file has at most 1,020 modules and cells, and an
 -- accepted hue count at most 4 bits a symbol. Assumes nothing.
 use mathlib.Core.Path.{_≡_, refl, ap, _∙_}
 use mathlib.Core.Bool.{Bool, true, false, cond}
@@ -17,6 +17,7 @@ use Rattle.loops.proofs.Laws.{forUp-to}
 use Rattle.sentences.specs.Sentences.{Sentence, refusal, decided}
 use Rattle.limits.specs.Chroma.{chromaOn, symbolBits, chromaLength}
 use Rattle.limits.proofs.Laws.{symbol-bits-few}
+use Rattle.layout.specs.Groups.{shape, placement, modulePlacement}
 use Rattle.card.specs.declared.Settings.{Settings}
 use Rattle.listing.specs.Listing.{refusedLine}
 use Rattle.listing.proofs.Room.{listing-length, refused-length}
@@ -37,48 +38,48 @@ use Rattle.readout.proofs.Places.{entries-below}
 
 -- ---- refusals are small numbers
 
--- every number in a list of sentences is at most 12
+-- every number in a list of sentences is below 100
 unfoldable pub tiny : List Sentence → Bool
 tiny [] = true
-tiny (s ∷ ss) = cond (ltb (s .number) 13) (tiny ss) false
+tiny (s ∷ ss) = cond (ltb (s .number) 100) (tiny ss) false
 
-one-of : (b : Bool) (n m : ℕ) → n ≤ 12 → m ≤ 12 → cond b n m ≤ 12
+one-of : (b : Bool) (n m : ℕ) → n < 100 → m < 100 → cond b n m < 100
 one-of true n m h g = h
 one-of false n m h g = g
 
-first-small : (s : Sentence) (m : ℕ) (t b : Bool) → ltb (s .number) 13 ≡ b → cond b t false ≡ true → (t ≡ true → m ≤ 12) → cond (s .holds) (s .number) m ≤ 12
-first-small s m t true e g h = one-of (s .holds) (s .number) m (omega (arith, ltb-true (s .number) 13 e)) (h g)
+first-small : (s : Sentence) (m : ℕ) (t b : Bool) → ltb (s .number) 100 ≡ b → cond b t false ≡ true → (t ≡ true → m < 100) → cond (s .holds) (s .number) m < 100
+first-small s m t true e g h = one-of (s .holds) (s .number) m (omega (arith, ltb-true (s .number) 100 e)) (h g)
 first-small s m t false e g h = let z : _≡_ {A = ℕ} 0 1 = cc in absurd (omega arith)
 
-pub refusal-small : (ss : List Sentence) → tiny ss ≡ true → refusal ss ≤ 12
+pub refusal-small : (ss : List Sentence) → tiny ss ≡ true → refusal ss < 100
 unfolding refusal tiny
 refusal-small [] h = omega arith
-refusal-small (s ∷ ss) h = first-small s (refusal ss) (tiny ss) (ltb (s .number) 13) refl h (λ g. refusal-small ss g)
+refusal-small (s ∷ ss) h = first-small s (refusal ss) (tiny ss) (ltb (s .number) 100) refl h (λ g. refusal-small ss g)
 
 -- what a call gives by its number has that number
-pub number-small : {A : Type 0} (number : A → ℕ) (r : ℕ → A) (d : A) (k : ℕ) → ((n : ℕ) → number (r n) ≡ n) → number d ≡ 0 → k ≤ 12 → number (decided k r d) ≤ 12
+pub number-small : {A : Type 0} (number : A → ℕ) (r : ℕ → A) (d : A) (k : ℕ) → ((n : ℕ) → number (r n) ≡ n) → number d ≡ 0 → k < 100 → number (decided k r d) < 100
 unfolding decided
 number-small number r d zero a b h = omega arith
 number-small number r d (suc k) a b h = omega (arith, a (suc k))
 
-ended-small : {A : Type 0} (ss : List Sentence) (before after : List A) → tiny ss ≡ true → outcomeNumber (writtenOr ss before after .answer) ≤ 12
+ended-small : {A : Type 0} (ss : List Sentence) (before after : List A) → tiny ss ≡ true → outcomeNumber (writtenOr ss before after .answer) < 100
 ended-small ss before after h =
     number-small (λ e. outcomeNumber (e .answer)) (λ n. ended (outcome.Refused n) before) (ended outcome.Done after) (refusal ss) (λ n. refl) refl (refusal-small ss h)
 
-read-small : (scores : List Float) (bits : List ℕ) → outcomeNumber (readListOf scores bits .answer) ≤ 12
+read-small : (scores : List Float) (bits : List ℕ) → outcomeNumber (readListOf scores bits .answer) < 100
 unfolding readListOf readSentences tiny
 read-small scores bits = ended-small (readSentences scores bits) bits (readList scores bits) refl
 
-unmask-small : (luma : List Float) (side : ℕ) (xs ys : List ℤ) (g mask : ℕ) → outcomeNumber (unmaskLumaOf luma side xs ys g mask .answer) ≤ 12
-unfolding unmaskLumaOf unmaskSentences tiny
+unmask-small : (luma : List Float) (side : ℕ) (xs ys : List ℤ) (g mask : ℕ) → outcomeNumber (unmaskLumaOf luma side xs ys g mask .answer) < 100
+unfolding unmaskLumaOf unmaskSentences modulePlacement tiny
 unmask-small luma side xs ys g mask = ended-small (unmaskSentences luma side xs ys g) luma _ refl
 
-refine-small : (q : refining.Request) → outcomeNumber (refining.refineOf q .answer) ≤ 12
-unfolding refining.refineOf refining.sentencesOf tiny
+refine-small : (q : refining.Request) → outcomeNumber (refining.refineOf q .answer) < 100
+unfolding refining.refineOf refining.sentencesOf modulePlacement tiny
 refine-small q = number-small (λ e. outcomeNumber (e .answer)) (refining.turnedAway q) _ (refusal (refining.sentencesOf q)) (λ n. refl) refl (refusal-small (refining.sentencesOf q) refl)
 
-score-small : (q : scoring.Request) → outcomeNumber (scoring.scoredOf q .answer) ≤ 12
-unfolding scoring.scoredOf scoring.sentencesOf tiny
+score-small : (q : scoring.Request) → outcomeNumber (scoring.scoredOf q .answer) < 100
+unfolding scoring.scoredOf scoring.sentencesOf shape placement tiny
 score-small q = number-small (λ e. outcomeNumber (e .answer)) (scoring.turnedAway q) (scoring.done q) (refusal (scoring.sentencesOf q)) (λ n. refl) refl (refusal-small (scoring.sentencesOf q) refl)
 
 -- ---- a text that follows a call
@@ -86,7 +87,7 @@ score-small q = number-small (λ e. outcomeNumber (e .answer)) (scoring.turnedAw
 pub line-in : (n : ℕ) → n < 10 ^ 20 → length (refusedLine n) ≤ 101047
 line-in n h = omega (arith, refused-length n h)
 
-unless-in : (o : Outcome) (next : List ℕ) → outcomeNumber o ≤ 12 → (o ≡ outcome.Done → length next ≤ 101047) → length (unless o next) ≤ 101047
+unless-in : (o : Outcome) (next : List ℕ) → outcomeNumber o < 100 → (o ≡ outcome.Done → length next ≤ 101047) → length (unless o next) ≤ 101047
 unless-in (outcome.Refused n) next h g = line-in n (omega arith)
 unless-in outcome.Done next h g = g refl
 
@@ -181,9 +182,9 @@ module _ (m : IlluminationModel) (xs ys : List ℤ) (f : Figures m) (few : lengt
 
 -- the chroma list of an accepted call has its length, and at most 4 bits a place
 chroma-kept : (q : scoring.Request) → scoring.scoredOf q .answer ≡ outcome.Done → length (scoring.scoredOf q .chroma) ≡ length (q .chroma)
-chroma-kept q e = by (chromaOn (q .hues)) refl
+chroma-kept q e = by (chromaOn (q .layout .hues)) refl
   where
-    by : (b : Bool) → chromaOn (q .hues) ≡ b → length (scoring.scoredOf q .chroma) ≡ length (q .chroma)
+    by : (b : Bool) → chromaOn (q .layout .hues) ≡ b → length (scoring.scoredOf q .chroma) ≡ length (q .chroma)
     by true o = ap (λ (f : scoring.Final). length (f .chroma)) (at-done q e .left) ∙ at-done q e .chroma o .long
     by false o = ap (λ (f : scoring.Final). length (f .chroma)) (at-done q e .left) ∙ ap length (at-done q e .no-chroma o)
 
@@ -203,5 +204,5 @@ score-in c m n f few e px py =
       arith,
       chroma-kept q d,
       length-replicate (placesOf (c .settings) (length (c .xs)) (length (c .cxs))) (ofBits binary32 0),
-      few-places (c .settings .hues) (length (c .cxs)) (length (c .xs) - c .settings .grid) (c .settings .size) (symbol-bits-few (c .settings .hues) (at-done q d .fit .hues-good)) (omega arith),
+      few-places (c .settings .hues) (length (c .cxs)) (length (c .xs) - c .settings .grid) (c .settings .size) (symbol-bits-few (c .settings .hues) (at-done q d .fit .shaped .hues-good)) (omega arith),
     )))

@@ -6,6 +6,7 @@ use lib.IntN.{ℤ}
 use lib.ListN.{length, replicate}
 use lib.Ieee.{Float, binary32, ofBits}
 use Rattle.limits.specs.Chroma.{ringModules, chromaLength}
+use Rattle.layout.specs.declared.Layout.{Layout}
 use Rattle.card.specs.declared.Settings.{Settings}
 use Rattle.listing.specs.Listing.{listing, refusedLine}
 use Rattle.answers.specs.declared.Outcome.{Outcome}
@@ -69,10 +70,13 @@ refineText s palette xs ys m noise luma colours chroma = afterRefinement s xs ys
 abbrev pub placesOf : Settings → ℕ → ℕ → ℕ
 placesOf s modules cells = chromaLength (s .hues) cells (ringModules modules (s .grid)) (s .size)
 
+abbrev pub layoutOf : Settings → Layout
+layoutOf s = record { side = s .side; hues = s .hues; size = s .size; grid = s .grid }
+
 -- "scoring corrects them by the model"
 abbrev pub toScore : Sheet → IlluminationModel → ChannelStats → scoring.Request
 toScore c m noise =
-    scoring.request (c .settings .side) (c .settings .hues) (c .settings .size) (c .xs) (c .ys) (c .settings .grid) (c .raw) (c .cxs) (c .cys) (c .craw) (c .palette) m noise
+    scoring.request (layoutOf (c .settings)) (c .xs) (c .ys) (c .raw) (c .cxs) (c .cys) (c .craw) (c .palette) m noise
     (zeros (length (c .xs))) (zeros (3 * length (c .xs))) (zeros (placesOf (c .settings) (length (c .xs)) (length (c .cxs))))
 
 unfoldable pub afterScoring : Sheet → IlluminationModel → ChannelStats → scoring.Final → List ℕ

@@ -16,6 +16,7 @@ ghost use Rattle.readout.specs.Reading as spec;
 use answers::Outcome;
 use card::Settings;
 use illum::IlluminationModel;
+use layout::Layout;
 use stats::ChannelStats;
 
 // ---- unmasking, reading and the listing
@@ -203,13 +204,16 @@ fn score_card(
     requires { ⌜ (Few settings (length (now xs)) (length (now cxs))) × (length (now ys) ≡ length (now xs)) × (now luma ≡ spec.zeros (length (now xs))) × (now colours ≡ spec.zeros (3 * length (now xs))) × (now chroma ≡ spec.zeros (spec.placesOf settings (length (now xs)) (length (now cxs)))) × (length (now chroma) ≤ 8160) ⌝ }
     ensures { λ r. ⌜ text r (now (out .exit)) ≡ written (spec.scoreText (sheet settings (now (palette .entry)) (now (xs .entry)) (now (ys .entry)) (now (raw .entry)) (now (cxs .entry)) (now (cys .entry)) (now (craw .entry))) model noise) (text 0 (now (out .entry))) ⌝ }
 {
+    let layout = Layout {
+        side: settings.side,
+        hues: settings.hues,
+        size: settings.size,
+        grid: settings.grid,
+    };
     match demod::score(
-        settings.side,
-        settings.hues,
-        settings.size,
+        layout,
         xs,
         ys,
-        settings.grid,
         raw,
         cxs,
         cys,
