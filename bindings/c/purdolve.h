@@ -9,9 +9,9 @@
  * written overlaps no other slice of the same call. A slice may be longer than the call needs; what
  * lies beyond is neither read nor written. "needs n" below means: at least n elements.
  *
- * Refusals. A call that breaks a limit answers the number of the first sentence that it breaks
- * (enum purdolve_refusal), and has then written nothing; only PURDOLVE_REFUSED_FIT leaves the
- * scratch all zero. Number 0 is acceptance. Each sentence is asked of everything that the call
+ * Refusals. A call that breaks a limit answers the number of the first sentence that holds, in the
+ * order of enum purdolve_refusal, and has then written nothing; only PURDOLVE_REFUSED_FIT leaves
+ * the scratch all zero. Number 0 is acceptance. Each sentence is asked of everything that the call
  * takes before the next one. "refused:" below lists the numbers that a call can answer; a call
  * without such a line refuses nothing. The values beside a number other than 0 are zeros.
  *
@@ -38,9 +38,11 @@ extern "C" {
 
 /* ---- Refusals ---------------------------------------------------------------------------- */
 
+/* made from docs/refusals.txt by bindings/refusals */
 enum purdolve_refusal {
     PURDOLVE_ACCEPTED = 0,
-    /* The card file exceeds 16,384 bytes, has a side above 64 or breaks its layout. */
+    /* The card file exceeds 16,384 bytes, has a side above 64 or breaks its layout (`readcard`
+       only). */
     PURDOLVE_REFUSED_CARD_FILE = 1,
     /* The side is 0 or above 1,024. */
     PURDOLVE_REFUSED_SIDE = 2,
@@ -48,29 +50,30 @@ enum purdolve_refusal {
     PURDOLVE_REFUSED_HUES = 3,
     /* The chroma cell size is 0 or above 16. */
     PURDOLVE_REFUSED_CELL_SIZE = 4,
-    /* A slice is shorter than its length, or two slices that run in pairs differ in length. */
+    /* A lent slice is shorter than its length, or two slices that run in pairs differ in length. */
     PURDOLVE_REFUSED_LENGTH = 5,
-    /* More than 16,384 references, more than 1,048,576 modules or cells, more grid modules than
-       modules, or a matrix size or term count outside 1 to 18. */
+    /* There are more than 16,384 references, more than 1,048,576 modules or cells, more grid
+       modules than modules, or a matrix size or term count outside 1 to 18. */
     PURDOLVE_REFUSED_COUNT = 6,
     /* A reference position is not a number from -16 to side + 16, a grid module is outside 0 to
-       side - 1, a ring module outside -6 to side + 5, or a cell coordinate above 1,023. */
+       side - 1, a ring module is outside -6 to side + 5, or a cell coordinate is above 1,023. */
     PURDOLVE_REFUSED_PLACE = 7,
     /* A colour, palette number or score given to refinement is not finite or has magnitude above
-       1,048,576, or a noise figure is not finite or above 2^40 in magnitude; the fit refuses
+       1,048,576, or a noise figure is not finite or above 2^40 in magnitude; `fit` refuses
        reference colours only where they are not finite. */
     PURDOLVE_REFUSED_NUMBER = 8,
-    /* sigma_l or sigma_ab is below 0.75, or a level's sigma is neither 0 nor at least 0.75. */
+    /* `sigma_l` or `sigma_ab` is below 0.75, or a level's sigma is neither 0 nor at least 0.75. */
     PURDOLVE_REFUSED_SIGMA = 9,
     /* A model's terms are neither 4 nor 9, its side is not a whole number from 1 to 1,024, or one
        of its numbers is not finite. */
     PURDOLVE_REFUSED_MODEL = 10,
-    /* After a pass of the fit, a number of the model or a reference's residual is not finite. */
+    /* After a pass of `fit`, a number of the model or a reference's residual is not finite. */
     PURDOLVE_REFUSED_FIT = 11,
     /* A corrected colour of a module, cell or measured reference is not finite or has magnitude
        above 1,048,576. */
     PURDOLVE_REFUSED_CORRECTED = 12
 };
+/* end of docs/refusals.txt */
 
 /* ---- Records ----------------------------------------------------------------------------- */
 
