@@ -49,13 +49,7 @@ fn bad_positions(layout: Layout, xs: &[i32], ys: &[i32], cxs: &[u16], cys: &[u16
 }
 
 // Core: the refusal of the modules and cells that are placed on a layout: 6, 7, or 0.
-pub fn refused_placement(
-    layout: Layout,
-    xs: &[i32],
-    ys: &[i32],
-    cxs: &[u16],
-    cys: &[u16],
-) -> u32
+pub fn refused_placement(layout: Layout, xs: &[i32], ys: &[i32], cxs: &[u16], cys: &[u16]) -> u32
     requires { ⌜ Shaped layout × Paired (now xs) (now ys) (now cxs) (now cys) ⌝ }
     ensures { λ r. ⌜ r ≡ refusal (placement layout (now (xs .entry)) (now (ys .entry)) (now (cxs .entry)) (now (cys .entry))) ⌝ }
 {
