@@ -15,7 +15,8 @@ pub record Scratch (n : ℕ) (s : List Float) : Type 0 where
   pub most : n ≤ 16384
   pub four : length s ≡ 4 * n
 
--- n references stand in flat, and they have their scratch
+-- the same of n references that stand in flat
 pub record Lent (n : ℕ) (flat s : List Float) : Type 0 where
   pub stand : 8 * n ≤ length flat
-  pub scratch : Scratch n s
+  pub most : n ≤ 16384
+  pub four : length s ≡ 4 * n
