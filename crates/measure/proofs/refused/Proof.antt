@@ -5,7 +5,7 @@ use Prim.Native.Nat.{ℕ, _≤_}
 use Rattle.sentences.proofs.Laws.{sentences}
 use Rattle.limits.specs.Limits.{badSide}
 use Rattle.limits.proofs.Laws.{side-in}
-use Rattle.references.proofs.Laws.{few-tested}
+use Rattle.references.proofs.Laws.{few-tested, stand-tested}
 use Rattle.measure.specs.Measure.{sentencesFor}
 use Rattle.measure.proofs.Accepted.{palette-in}
 use borrow.Author.Needs.{needs}
@@ -32,7 +32,7 @@ unfolding sentencesFor
 returns-4 c = search (sentences) depth 15 fits 50000
 
 bad-positions-requires : tie.Need-bad-positions-requires
-bad-positions-requires c κs = (search (most), c .before .before .before .before .before .before .before .before .before .before .pre (search (few-tested)))
+bad-positions-requires c κs = (search (most), search (stand-tested))
 
 returns-5 : tie.Need-returns-5
 unfolding sentencesFor
