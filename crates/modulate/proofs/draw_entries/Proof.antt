@@ -28,7 +28,7 @@ put : (bits : List ℕ) (k m : ℕ) (cxs cys drawn : List ℕ) (j v : ℕ) → v
 put bits k m cxs cys drawn j v e = ap (set drawn j) e
 
 hue-at-requires : tie.Need-hue-at-requires Inv μ
-hue-at-requires c κs = (search needs, search needs, search needs, search (room), search needs)
+hue-at-requires c κs = (search needs, search needs, search (room), search needs)
 
 loop-again : tie.Need-loop-again Inv μ
 loop-again c = search (put, loops, needs)
