@@ -1,4 +1,4 @@
--- What the functions behind the calls ask, from the sentences that are passed: a hue count that is a power of two up to 16, and grid modules, whose coordinates lie in the grid. Assumes nothing.
+-- What the functions behind the calls ask, from the sentences that are passed: a hue count that passes 3 is one of 1 to 16, and a grid module that passes 7 has both coordinates in the grid. Assumes nothing.
 use mathlib.Core.Path.{_≡_}
 use mathlib.Core.Bool.{false}
 use mathlib.Core.List.{List}

@@ -1,5 +1,5 @@
 -- Drawing (document 01, "Drawing, reading, margin"): the level of each module and the hue of each cell, from a card's bits. Definitions only.
-use mathlib.Core.Bool.{Bool, true, false, not, cond, xor, _||_}
+use mathlib.Core.Bool.{Bool, false, not, cond, xor, _||_}
 use mathlib.Core.List.{List, [], _∷_, _++_}
 use Prim.Native.Nat.{ℕ, _+_, _*_}
 use lib.Dec.{ltb, eqb}

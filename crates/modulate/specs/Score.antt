@@ -1,15 +1,15 @@
 -- Bit scores from hue log-likelihoods (the Rust's `chroma_bit_llrs`), and the scores of grid modules unmasked (`unmask_luma`). Definitions only.
 use mathlib.Core.Bool.{Bool, true, false, not, cond, _||_}
 use mathlib.Core.List.{List, [], _∷_}
-use Prim.Native.Nat.{ℕ, zero, suc, _+_, _-_, _/_, _%_, _^_}
+use Prim.Native.Nat.{ℕ, zero, suc, _-_, _/_, _%_, _^_}
 use lib.Dec.{ltb, eqb}
 use lib.IntN.{ℤ, pos, natAbs}
-use lib.ListN.{length, getD, set}
+use lib.ListN.{length, getD}
 use lib.Ieee.{Float, nan, inf, neg, binary32, sub}
 use Rattle.float.specs.Select.{max}
 use Rattle.loops.specs.Loops.{forUp}
 use Rattle.lists.specs.Lists.{replaced}
-use Rattle.sentences.specs.Sentences.{Sentence, _when_, refusal, decided}
+use Rattle.sentences.specs.Sentences.{Sentence, _when_}
 use Rattle.limits.specs.Limits.{badSide, badHues, badCell}
 use Rattle.limits.specs.Chroma.{log2}
 use Rattle.layout.specs.Groups.{modulePlacement}

@@ -19,7 +19,7 @@ abbrev μ : tie.MeasureT-loop
 μ mask side xs ys grid luma₀ i₀ luma i = grid - i
 
 unmask-at-requires : tie.Need-unmask-at-requires Inv μ
-unmask-at-requires c κs = (search (position-at, needs), search needs, search needs)
+unmask-at-requires c κs = (position-at _ _ _ _ _ (search needs) (search needs), search needs, search needs)
 
 pub unmask-grid-spec : {M : Type 1} → statement M
 unmask-grid-spec =
