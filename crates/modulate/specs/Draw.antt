@@ -89,6 +89,7 @@ drawnHues bits l m cxs cys hues =
 
 -- ---- the call
 
+-- what it is handed
 pub record Card : Type 0 where
   pub bits : List ℕ
   pub layout : Layout
@@ -104,14 +105,14 @@ abbrev pub card : List ℕ → Layout → List ℤ → List ℤ → List ℕ →
 card bits layout xs ys cxs cys mask levels drawn =
     record { bits = bits; layout = layout; xs = xs; ys = ys; cxs = cxs; cys = cys; mask = mask; levels = levels; drawn = drawn }
 
--- 5, of m modules and c cells: the bits are one a module and those of the chroma list; with chroma on, the hues one a place of the chroma list
+-- 5, of m modules and c cells: fewer bits than one a module and those of the chroma list; with chroma on, fewer hues than one a place of the chroma list
 unfoldable pub shortBits : ℕ → Layout → ℕ → ℕ → Bool
 shortBits bits l m c = ltb bits (m + chromaLength (l .hues) c (ringModules m (l .grid)) (l .size))
 
 unfoldable pub shortHues : ℕ → Layout → ℕ → ℕ → Bool
 shortHues hues l m c = cond (chromaOn (l .hues)) (ltb hues (entriesOf l m c)) false
 
--- 5, of all lengths: x and y, cx and cy run in pairs; the bits; a level a module; the hues
+-- 5: x and y, cx and cy run in pairs; the bits; a level a module; the hues
 unfoldable pub badDrawLengths : List ℕ → Layout → List ℤ → List ℤ → List ℕ → List ℕ → List ℕ → List ℕ → Bool
 badDrawLengths bits l xs ys cxs cys levels hues =
     not (eqb (length xs) (length ys))

@@ -439,7 +439,8 @@ fn is_one(bit: u8) -> bool
     bit != 0
 }
 
-// The level of a grid module, 1 for light: its bit, other than 0 for 1, turned where the mask turns it. Refuses nothing.
+// The level of a grid module, 1 for light: its bit, other than 0 for 1, turned where the mask turns it. Refuses
+// nothing.
 pub fn grid_level(bit: u8, mask: u8, x: u16, y: u16) -> u8
     ensures { λ r. ⌜ r ≡ drawing.gridLevel bit mask x y ⌝ }
 {

@@ -56,7 +56,7 @@ returns : tie.Need-returns
 returns c = search (away)
 
 unmask-grid-requires : tie.Need-unmask-grid-requires
-unmask-grid-requires c κs = (search (positions), search (grid-most), search (scores))
+unmask-grid-requires c κs = (search (positions), search (grid-most, needs), search (scores))
 
 returns-2 : tie.Need-returns-2
 returns-2 c = search (wrote)
