@@ -5,7 +5,9 @@ ghost use Prim.Native.Nat.{_+_, _*_, _<_, _≤_};
 ghost use lib.ListN.{length};
 ghost use Rattle.math.specs.Gauss.{system, settled};
 ghost use Rattle.math.specs.Normal as normal;
+ghost use Rattle.references.specs.Ready.{Component};
 ghost use Rattle.equations.specs.Once as spec;
+ghost use Rattle.equations.specs.Ready.{Marked};
 
 pub mod live;
 
@@ -93,7 +95,7 @@ fn design(p: Plan, b: [f64; 9], nominal: f64) -> [f64; 18]
 
 // Adds reference i's row of channel c.
 fn surface_row(ata: &mut [f64; 324], atb: &mut [f64; 18], p: Plan, flat: &[f32], c: usize, i: usize)
-    requires { ⌜ (c < 3) × (8 * i + 8 ≤ length (now flat)) ⌝ }
+    requires { ⌜ Component (now flat) c i ⌝ }
     ensures { λ _. ⌜ system (now (ata .exit)) (now (atb .exit)) ≡ spec.surfaceRow p (now (flat .entry)) c i (system (now (ata .entry)) (now (atb .entry))) ⌝ }
 {
     let b = illum::basis(p.terms, p.side, flat[8 * i], flat[8 * i + 1]);
@@ -112,7 +114,7 @@ fn surface_row_at(
     c: usize,
     i: usize,
 )
-    requires { ⌜ (c < 3) × (8 * i + 8 ≤ length (now flat)) × (i < length (now live)) ⌝ }
+    requires { ⌜ Component (now flat) c i × (i < length (now live)) ⌝ }
     ensures { λ _. ⌜ system (now (ata .exit)) (now (atb .exit)) ≡ spec.surfaceRowAt p (now (flat .entry)) (now (live .entry)) c i (system (now (ata .entry)) (now (atb .entry))) ⌝ }
 {
     if live::is_live(live, i) {
@@ -131,7 +133,7 @@ fn surface_rows(
     c: usize,
     n: usize,
 )
-    requires { ⌜ (c < 3) × (8 * n ≤ length (now flat)) × (n ≤ length (now live)) ⌝ }
+    requires { ⌜ (c < 3) × Marked n (now flat) (now live) ⌝ }
     ensures { λ _. ⌜ system (now (ata .exit)) (now (atb .exit)) ≡ spec.surfaceRows p (now (flat .entry)) (now (live .entry)) c n (system (now (ata .entry)) (now (atb .entry))) ⌝ }
 {
     for i in 0..n {
@@ -184,7 +186,7 @@ fn finish(ata: &mut [f64; 324], atb: &mut [f64; 18], x: &mut [f64; 18], w: usize
 
 // Channel c's surfaces from n references, `count` of which are live; unit gain where there is no solution.
 fn fit_surface(p: Plan, flat: &[f32], live: &[f32], c: usize, n: usize, count: usize) -> Surface
-    requires { ⌜ (c < 3) × (8 * n ≤ length (now flat)) × (n ≤ length (now live)) ⌝ }
+    requires { ⌜ (c < 3) × Marked n (now flat) (now live) ⌝ }
     ensures { λ r. ⌜ r ≡ spec.surfaceOf p (now (flat .entry)) (now (live .entry)) c n count ⌝ }
 {
     let w = width(p);
@@ -229,7 +231,7 @@ fn fit_surfaces(
     n: usize,
     count: usize,
 ) -> IlluminationModel
-    requires { ⌜ (8 * n ≤ length (now flat)) × (n ≤ length (now live)) ⌝ }
+    requires { ⌜ Marked n (now flat) (now live) ⌝ }
     ensures { λ r. ⌜ r ≡ spec.surfacesOf m (now (flat .entry)) (now (live .entry)) n count ⌝ }
 {
     let p = Plan {
@@ -269,7 +271,7 @@ fn affine_row_at(
     c: usize,
     i: usize,
 )
-    requires { ⌜ (c < 3) × (8 * i + 8 ≤ length (now flat)) × (i < length (now live)) ⌝ }
+    requires { ⌜ Component (now flat) c i × (i < length (now live)) ⌝ }
     ensures { λ _. ⌜ system (now (ata .exit)) (now (atb .exit)) ≡ spec.affineRowAt m (now (flat .entry)) (now (live .entry)) c i (system (now (ata .entry)) (now (atb .entry))) ⌝ }
 {
     if live::is_live(live, i) {
@@ -290,7 +292,7 @@ fn affine_rows(
     c: usize,
     n: usize,
 )
-    requires { ⌜ (c < 3) × (8 * n ≤ length (now flat)) × (n ≤ length (now live)) ⌝ }
+    requires { ⌜ (c < 3) × Marked n (now flat) (now live) ⌝ }
     ensures { λ _. ⌜ system (now (ata .exit)) (now (atb .exit)) ≡ spec.affineRows m (now (flat .entry)) (now (live .entry)) c n (system (now (ata .entry)) (now (atb .entry))) ⌝ }
 {
     for i in 0..n {
@@ -300,7 +302,7 @@ fn affine_rows(
 
 // Channel c's row of the affine part.
 fn fit_row(m: IlluminationModel, flat: &[f32], live: &[f32], c: usize, n: usize) -> Row
-    requires { ⌜ (c < 3) × (8 * n ≤ length (now flat)) × (n ≤ length (now live)) ⌝ }
+    requires { ⌜ (c < 3) × Marked n (now flat) (now live) ⌝ }
     ensures { λ r. ⌜ r ≡ spec.fitRow m (now (flat .entry)) (now (live .entry)) c n ⌝ }
 {
     let mut ata = [0.0f64; 324];
@@ -316,7 +318,7 @@ fn fit_row(m: IlluminationModel, flat: &[f32], live: &[f32], c: usize, n: usize)
 
 // The affine part: three rows, or no solution as soon as a channel has none.
 fn fit_affine(m: IlluminationModel, flat: &[f32], live: &[f32], n: usize) -> Affine
-    requires { ⌜ (8 * n ≤ length (now flat)) × (n ≤ length (now live)) ⌝ }
+    requires { ⌜ Marked n (now flat) (now live) ⌝ }
     ensures { λ r. ⌜ r ≡ spec.affineOf m (now (flat .entry)) (now (live .entry)) n ⌝ }
 {
     let none = [0.0, 0.0, 0.0, 0.0];
@@ -362,7 +364,7 @@ fn with_affine(m: IlluminationModel, a: Affine) -> IlluminationModel
 // Core: one pass's equations over the live ones of n references, from model m: no solution, and m as it was, where fewer than 8
 // are live or a row of the affine part has none.
 pub fn fit_once(m: IlluminationModel, flat: &[f32], live: &[f32], n: usize) -> Once
-    requires { ⌜ (8 * n ≤ length (now flat)) × (n ≤ length (now live)) ⌝ }
+    requires { ⌜ Marked n (now flat) (now live) ⌝ }
     ensures { λ r. ⌜ r ≡ spec.fitOnce m (now (flat .entry)) (now (live .entry)) n ⌝ }
 {
     let count = live::live_count(live, n);

@@ -9,12 +9,14 @@
 //     if fitted.number == 0 { .. fitted.model .. }
 ghost use mathlib.Core.Path.{_≡_};
 ghost use mathlib.Core.Bool.{true, false};
-ghost use Prim.Native.Nat.{_+_, _*_, _/_, _<_, _≤_};
+ghost use Prim.Native.Nat.{_*_, _≤_};
 ghost use lib.ListN.{length, take, drop};
 ghost use Rattle.sentences.specs.Sentences.{refusal};
+ghost use Rattle.references.specs.Ready.{Scratch, Lent};
 ghost use Rattle.fit.specs.Residual.{residualsOf};
 ghost use Rattle.fit.specs.Fit as spec;
 ghost use Rattle.fit.specs.Fit.{final, request, flatRequest, ran, dropped};
+ghost use Rattle.fit.specs.Ready.{Residuals};
 
 mod residual;
 
@@ -63,7 +65,7 @@ fn bad_pass(m: IlluminationModel, residuals: &[f32], n: usize) -> bool
 
 // A solved pass, with the root mean square of its residuals.
 fn measure(m: IlluminationModel, residuals: &[f32], live: &[f32], n: usize) -> Pass
-    requires { ⌜ (n ≤ 16384) × (n ≤ length (now residuals)) × (n ≤ length (now live)) ⌝ }
+    requires { ⌜ (n ≤ 16384) × Residuals n (now residuals) (now live) ⌝ }
     ensures { λ r. ⌜ r ≡ spec.measured m (now (residuals .entry)) (now (live .entry)) n ⌝ }
 {
     let model = with_rms(m, residual::residual_rms(residuals, live, n));
@@ -77,7 +79,7 @@ fn measure(m: IlluminationModel, residuals: &[f32], live: &[f32], n: usize) -> P
 
 // One pass over the live references, from model m, which leaves its residuals where it has a solution.
 fn run_pass(m: IlluminationModel, flat: &[f32], n: usize, s: &mut [f32]) -> Pass
-    requires { ⌜ (n ≤ 16384) × (8 * n ≤ length (now flat)) × (length (now s) ≡ 4 * n) ⌝ }
+    requires { ⌜ Lent n (now flat) (now s) ⌝ }
     ensures { λ r. ⌜ (r ≡ spec.passOf m (now (flat .entry)) (take n (now (s .entry))) n) × (take n (now (s .exit)) ≡ take n (now (s .entry))) × (r .solved ≡ true → take n (drop n (now (s .exit))) ≡ residualsOf (r .model) (now (flat .entry)) n) ⌝ }
 {
     let o = equations::fit_once(m, flat, &s[..n], n);
@@ -96,7 +98,7 @@ fn run_pass(m: IlluminationModel, flat: &[f32], n: usize, s: &mut [f32]) -> Pass
 
 // Drops the references whose residual is above 3 sigma, and counts them in the model.
 fn drop_outliers(m: IlluminationModel, n: usize, s: &mut [f32]) -> IlluminationModel
-    requires { ⌜ (1 ≤ n) × (n ≤ 16384) × (length (now s) ≡ 4 * n) ⌝ }
+    requires { ⌜ (1 ≤ n) × Scratch n (now s) ⌝ }
     ensures { λ r. ⌜ dropped r (take n (now (s .exit))) ≡ spec.droppedOf m (take n (drop n (now (s .entry)))) (take n (now (s .entry))) n ⌝ }
 {
     let sigma = residual::sigma_in(&mut s[n..3 * n], n);
@@ -106,7 +108,7 @@ fn drop_outliers(m: IlluminationModel, n: usize, s: &mut [f32]) -> IlluminationM
 
 // What comes after pass one: m's outliers dropped, and pass two.
 fn refit(m: IlluminationModel, flat: &[f32], n: usize, s: &mut [f32]) -> Modelled
-    requires { ⌜ (1 ≤ n) × (n ≤ 16384) × (8 * n ≤ length (now flat)) × (length (now s) ≡ 4 * n) ⌝ }
+    requires { ⌜ (1 ≤ n) × Lent n (now flat) (now s) ⌝ }
     ensures { λ r. ⌜ ran r (take n (now (s .exit))) ≡ spec.refitted m (now (flat .entry)) (take n (drop n (now (s .entry)))) (take n (now (s .entry))) n ⌝ }
 {
     let first = drop_outliers(m, n, s);
@@ -134,7 +136,7 @@ fn refit(m: IlluminationModel, flat: &[f32], n: usize, s: &mut [f32]) -> Modelle
 // Core: the fit of n references that the sentences 2 to 8 let pass: number 0 and the model, or 11. The first n of s are left as
 // the live marks: 1 for a reference that is live, 0 for one that is rejected.
 pub fn fit_live(flat: &[f32], n: usize, side: usize, terms: usize, s: &mut [f32]) -> Modelled
-    requires { ⌜ (n ≤ 16384) × (8 * n ≤ length (now flat)) × (length (now s) ≡ 4 * n) × (side ≤ 1024) ⌝ }
+    requires { ⌜ Lent n (now flat) (now s) × (side ≤ 1024) ⌝ }
     ensures { λ r. ⌜ ran r (take n (now (s .exit))) ≡ spec.fitted (now (flat .entry)) n side terms ⌝ }
 {
     residual::revive(&mut s[..n]);

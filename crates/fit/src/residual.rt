@@ -8,6 +8,7 @@ ghost use Rattle.illum.specs.Refusals.{notFiniteUpTo};
 ghost use Rattle.equations.specs.Live.{allLive};
 ghost use Rattle.fit.specs.Residual as spec;
 ghost use Rattle.fit.specs.Residual.{rejection};
+ghost use Rattle.fit.specs.Ready.{Residuals};
 use color::Linear;
 use equations::live;
 use illum::IlluminationModel;
@@ -77,7 +78,7 @@ fn add_square(residuals: &[f32], live: &[f32], i: usize, s: f32) -> f32
 
 // The sum of the squares of the live ones of n residuals.
 fn squares(residuals: &[f32], live: &[f32], n: usize) -> f32
-    requires { ⌜ (n ≤ length (now residuals)) × (n ≤ length (now live)) ⌝ }
+    requires { ⌜ Residuals n (now residuals) (now live) ⌝ }
     ensures { λ r. ⌜ r ≡ spec.squares (now (residuals .entry)) (now (live .entry)) n ⌝ }
 {
     let mut s = 0.0;
@@ -99,7 +100,7 @@ fn at_least_one(k: usize) -> usize
 
 // Core: the root of the mean square of the live ones of n residuals.
 pub fn residual_rms(residuals: &[f32], live: &[f32], n: usize) -> f32
-    requires { ⌜ (n ≤ 16384) × (n ≤ length (now residuals)) × (n ≤ length (now live)) ⌝ }
+    requires { ⌜ (n ≤ 16384) × Residuals n (now residuals) (now live) ⌝ }
     ensures { λ r. ⌜ r ≡ spec.rmsOf (now (residuals .entry)) (now (live .entry)) n ⌝ }
 {
     let k = at_least_one(live::live_count(live, n));

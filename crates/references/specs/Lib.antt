@@ -1,2 +1,3 @@
--- What the contracts of `references` cite.
+-- What the contracts of `references` cite: references and their sentences, and what the functions over them ask.
 pub mod References
+pub mod Ready

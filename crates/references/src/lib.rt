@@ -1,17 +1,18 @@
 // References of known colour as flat floats, eight each: x, y, the observed colour, the nominal colour. What stands where,
 // sentences 6, 7 and 8 of them, and the scratch of 4 × references that is lent with them.
 ghost use mathlib.Core.Path.{_≡_};
-ghost use Prim.Native.Nat.{_+_, _*_, _<_, _≤_};
+ghost use Prim.Native.Nat.{_+_, _*_, _≤_};
 ghost use lib.ListN.{length};
 ghost use Rattle.order.specs.Deviation.{cleared};
 ghost use Rattle.references.specs.References as spec;
+ghost use Rattle.references.specs.Ready.{Component};
 use color::Linear;
 
 // ---- what stands where
 
 // Core: channel c, 0 to 2, of the observed colour of reference i.
 pub fn observed_of(flat: &[f32], c: usize, i: usize) -> f32
-    requires { ⌜ (c < 3) × (8 * i + 8 ≤ length (now flat)) ⌝ }
+    requires { ⌜ Component (now flat) c i ⌝ }
     ensures { λ r. ⌜ r ≡ spec.observedOf (now (flat .entry)) c i ⌝ }
 {
     flat[8 * i + 2 + c]
@@ -19,7 +20,7 @@ pub fn observed_of(flat: &[f32], c: usize, i: usize) -> f32
 
 // Core: channel c, 0 to 2, of the nominal colour of reference i.
 pub fn nominal_of(flat: &[f32], c: usize, i: usize) -> f32
-    requires { ⌜ (c < 3) × (8 * i + 8 ≤ length (now flat)) ⌝ }
+    requires { ⌜ Component (now flat) c i ⌝ }
     ensures { λ r. ⌜ r ≡ spec.nominalOf (now (flat .entry)) c i ⌝ }
 {
     flat[8 * i + 5 + c]

@@ -2,7 +2,7 @@
 -- Assumes nothing.
 use mathlib.Core.Path.{_≡_, sym, ap, _∙_}
 use mathlib.Core.List.{List, _++_}
-use Prim.Native.Nat.{ℕ, _+_, _-_, _*_}
+use Prim.Native.Nat.{ℕ, _-_, _*_}
 use native.Mathlib.Omega.{arith}
 use borrow.Rule.Slice.PartMut.{putMid, same-len-mid}
 use lib.ListN.{length, take, drop, length-drop}
@@ -57,25 +57,13 @@ third : (n : ℕ) → 3 * n - n ≡ 2 * n
 third n = omega arith
 
 slice-aggregate-reject : tie.Need-slice-aggregate-reject
-slice-aggregate-reject c =
-    let start = c .before .before .before .before .before .before in
-    let t = c .before .before .before .sigma-in in
-    half (start .args .s .now) (t .last .0) (start .args .n) _ (start .pre .2) (third (start .args .n)) (t .kept .0) (t .ensures .1)
+slice-aggregate-reject c = search (half, third)
 
 reject-requires : tie.Need-reject-requires
-reject-requires c κs =
-    let start = c .before .before .before .before .before .before .before in
-    let t = c .before .before .before .before .sigma-in in
-    sym (half (start .args .s .now) (t .last .0) (start .args .n) _ (start .pre .2) (third (start .args .n)) (t .kept .0) (t .ensures .1))
+reject-requires c κs = sym (search (half, third))
 
 returns : tie.Need-returns
-returns c =
-    let start = c .before .before .before .before .before .before .before .before .before .before .before in
-    let t = c .before .before .before .before .before .before .before .before .sigma-in in
-    let u = c .before .before .before .reject in
-    let limit = c .before .before .before .before .limit in
-    ends (start .args .s .now) (t .last .0) (start .args .n) _ (start .pre .2) (third (start .args .n)) (t .kept .0) (t .ensures .1)
-    (u .last .0) (u .result) (t .result) (limit .result) (u .kept .0) (t .ensures .0) (limit .ensures) (u .ensures .0) _ _ (c .with-counts .ensures)
+returns c = search (ends, third)
 
 pub drop-outliers-spec : {M : Type 1} → statement M
 drop-outliers-spec =

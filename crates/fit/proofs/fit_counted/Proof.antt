@@ -3,7 +3,7 @@
 use mathlib.Core.Path.{_≡_, sym, ap, _∙_}
 use mathlib.Core.Bool.{false}
 use mathlib.Core.List.{List, _++_}
-use Prim.Native.Nat.{ℕ, _+_, _*_, _≤_}
+use Prim.Native.Nat.{ℕ, _*_, _≤_}
 use native.Mathlib.Omega.{arith}
 use lib.ListN.{length, take, drop, replicate, length-append}
 use lib.Seq.{length-take-le, drop-at}
@@ -11,73 +11,77 @@ use lib.Ieee.{Float}
 use Rattle.sentences.specs.Sentences.{refusal}
 use Rattle.order.specs.Median.{zero32}
 use Rattle.order.specs.Deviation.{cleared}
+use Rattle.references.specs.Ready.{Lent}
+use Rattle.illum.specs.declared.IlluminationModel.{IlluminationModel}
 use Rattle.illum.specs.declared.Modelled.{Modelled}
-use Rattle.fit.specs.Fit.{Ran, ran, fitted, termsFor, final, request, sentencesOf, fitOf}
+use Rattle.illum.specs.Correct.{noModel}
+use Rattle.illum.specs.Refusals.{modelled}
+use Rattle.fit.specs.Fit.{Ran, ran, fitted, termsFor, fitSentences, final, request, fitOf}
 use Rattle.fit.proofs.Accepted.{accepted, turned-away, taken}
 use borrow.Author.Needs.{needs}
 use Rattle.fit.proofs.fit_counted.Statement.{statement}
 use Rattle.fit.proofs.fit_counted.Tie as tie
 
--- u is the first 4 × n numbers of s as the passes left them, and t what is left after clearing
-module _ (flat s u t : List Float) (n side version terms k : ℕ) (r : Modelled) (e : k ≡ refusal (sentencesOf (request flat false n side version s))) (z : k ≡ 0) where
+-- s is lent, and the number k of the first sentence that holds is 0
+module _ (flat s : List Float) (n side k : ℕ) (e : k ≡ refusal (fitSentences flat false n side (length s))) (z : k ≡ 0) where
   room : 4 * n ≤ length s
   room = accepted flat false n side (length s) k e z .room
 
-  lent : length (take (4 * n) s) ≡ 4 * n
-  lent = length-take-le (4 * n) s room
+  four : 4 * n ≡ length (take (4 * n) s)
+  four = sym (length-take-le (4 * n) s room)
 
-  module _ (lu : length u ≡ length (take (4 * n) s)) where
+  ready : (n ≤ 16384 → 8 * n ≤ length flat) → Lent n flat (take (4 * n) s) × (side ≤ 1024)
+  ready h =
+      let a = accepted flat false n side (length s) k e z in
+      (record { stand = h (a .few); most = a .few; four = sym four }, a .side-most)
+
+  -- u is the first 4 × n numbers of s as the passes left them
+  module _ (u : List Float) (lu : length u ≡ length (take (4 * n) s)) where
     long : 4 * n ≤ length (u ++ drop (4 * n) s)
-    long = omega (arith, length-append u (drop (4 * n) s), lent)
+    long = omega (arith, length-append u (drop (4 * n) s), four)
 
     past : cleared (4 * n) (u ++ drop (4 * n) s) ≡ cleared (4 * n) s
-    past = ap (λ (l : List Float). replicate (4 * n) zero32 ++ l) (drop-at u (drop (4 * n) s) (4 * n) (lu ∙ lent))
+    past = ap (λ (l : List Float). replicate (4 * n) zero32 ++ l) (drop-at u (drop (4 * n) s) (4 * n) (lu ∙ sym four))
 
-    ends : terms ≡ termsFor version → ran r (take n u) ≡ fitted flat n side terms → t ≡ cleared (4 * n) (u ++ drop (4 * n) s) → final r t ≡ fitOf (request flat false n side version s)
-    ends et er ec =
+    -- and t what is left after clearing
+    ends : (t : List Float) (version terms : ℕ) (r : Modelled) → ran r (take n u) ≡ fitted flat n side terms → terms ≡ termsFor version → t ≡ cleared (4 * n) (u ++ drop (4 * n) s)
+        → final r t ≡ fitOf (request flat false n side version s)
+    ends t version terms r er et ec =
         ap (final r) (ec ∙ past)
         ∙ ap (λ (x : Ran). final (x .answer) (cleared (4 * n) s)) (er ∙ ap (fitted flat n side) et)
         ∙ taken (request flat false n side version s) k e z
 
+turned : (flat s : List Float) (n side version k : ℕ) (m : IlluminationModel) → k ≡ refusal (fitSentences flat false n side (length s)) → (k ≡ 0 → ⊥) → m ≡ noModel
+    → final (modelled k m) s ≡ fitOf (request flat false n side version s)
+turned flat s n side version k m e h em = turned-away (request flat false n side version s) k e m h em
+
 returns : tie.Need-returns
-returns c =
-    let start = c .before .before .before .before .before .before in
-    turned-away (request (start .args .flat .now) false (start .args .n) (start .args .side) (start .args .version) (start .args .scratch .now)) _ (c .before .before .refused .ensures) _ (c .before .if1 .taken) (c .no-model .ensures)
+returns c = search (turned)
 
 mul-fit-live : tie.Need-mul-fit-live
-mul-fit-live c =
-    let a = accepted _ _ _ _ _ _ (c .before .before .refused .ensures) (c .before .if1 .left) in
-    omega (arith, a .room)
+mul-fit-live c = omega (arith, accepted _ _ _ _ _ _ (c .before .before .refused .ensures) (c .before .if1 .left) .few)
 
 slice-relend-prefix-fit-live : tie.Need-slice-relend-prefix-fit-live
-slice-relend-prefix-fit-live c = accepted _ _ _ _ _ _ (c .before .before .refused .ensures) (c .before .if1 .left) .room
+slice-relend-prefix-fit-live c = search (room)
 
 slice-aggregate-fit-live : tie.Need-slice-aggregate-fit-live
-slice-aggregate-fit-live c = sym (length-take-le _ _ (accepted _ _ _ _ _ _ (c .before .before .before .refused .ensures) (c .before .before .if1 .left) .room))
+slice-aggregate-fit-live c = search (four)
 
 fit-live-requires : tie.Need-fit-live-requires
 fit-live-requires c κs =
-    let a = accepted _ _ _ _ _ _ (c .before .before .before .refused .ensures) (c .before .before .if1 .left) in
-    (a .few, c .before .before .before .before .before .before .before .pre (a .few), length-take-le _ _ (a .room), a .side-most)
+    let k = c .before .before .before in
+    ready _ _ _ _ _ (k .refused .ensures) (c .before .before .if1 .left) (k .before .before .before .before .pre)
 
 mul-clear : tie.Need-mul-clear
 mul-clear c =
-    let a = accepted _ _ _ _ _ _ (c .before .before .before .before .before .before .before .refused .ensures) (c .before .before .before .before .before .before .if1 .left) in
-    omega (arith, a .room)
+    let k = c .before .before .before .before .before in
+    omega (arith, accepted _ _ _ _ _ _ (k .before .before .refused .ensures) (k .before .if1 .left) .few)
 
 clear-requires : tie.Need-clear-requires
-clear-requires c κs =
-    let start = c .before .before .before .before .before .before .before .before .before .before .before in
-    let l = c .before .before .before .fit-live in
-    long (start .args .flat .now) (start .args .scratch .now) (l .last .1 .1 .1 .1 .0) (start .args .scratch .now) (start .args .n) (start .args .side) (start .args .version) 0 _ (l .result)
-    (c .before .before .before .before .before .before .before .refused .ensures) (c .before .before .before .before .before .before .if1 .left) (l .kept .1 .1 .1 .1 .0)
+clear-requires c κs = search (long)
 
 returns-2 : tie.Need-returns-2
-returns-2 c =
-    let start = c .before .before .before .before .before .before .before .before .before .before .before .before .before .before in
-    let l = c .before .before .before .before .before .before .fit-live in
-    ends (start .args .flat .now) (start .args .scratch .now) (l .last .1 .1 .1 .1 .0) _ (start .args .n) (start .args .side) (start .args .version) _ _ (l .result)
-    (c .before .before .before .before .before .before .before .before .before .before .refused .ensures) (c .before .before .before .before .before .before .before .before .before .if1 .left) (l .kept .1 .1 .1 .1 .0) (c .before .before .before .before .before .before .before .before .terms-for .ensures) (l .ensures) (c .before .before .clear .ensures)
+returns-2 c = search (ends)
 
 pub fit-counted-spec : {M : Type 1} → statement M
 fit-counted-spec =

@@ -1,7 +1,7 @@
 -- `fit::fit_live` meets its contract: too few references, pass one without a solution or not finite, or what comes after it.
 -- Assumes nothing.
 use mathlib.Core.Path.{_≡_, sym, ap, _∙_}
-use mathlib.Core.Bool.{true, false}
+use mathlib.Core.Bool.{true, false, not}
 use mathlib.Core.List.{List, _++_}
 use Prim.Native.Nat.{ℕ, _*_, _<_, _≤_}
 use native.Mathlib.Omega.{arith}
@@ -21,69 +21,72 @@ use borrow.Author.Needs.{needs}
 use Rattle.fit.proofs.fit_live.Statement.{statement}
 use Rattle.fit.proofs.fit_live.Tie as tie
 
--- the marks that `revive` writes to the start of s
-revived : (s ys : List Float) (n : ℕ) → length s ≡ 4 * n → ys ≡ allLive (length (take n s)) → take n (ys ++ drop n s) ≡ allLive n
-revived s ys n l e =
-    let q : ys ≡ allLive n = e ∙ ap allLive (length-take-le n s (omega arith)) in
-    take-at ys (drop n s) n (ap length q ∙ length-replicate n liveMark) ∙ q
+-- `revive` writes ys to the start of s
+module _ (flat s ys : List Float) (n side terms : ℕ) (start : IlluminationModel) (es : start ≡ unitModel side terms) (ey : ys ≡ allLive (length (take n s))) (l : length s ≡ 4 * n) where
+  marks : take n (ys ++ drop n s) ≡ allLive n
+  marks =
+      let q : ys ≡ allLive n = ey ∙ ap allLive (length-take-le n s (omega arith)) in
+      take-at ys (drop n s) n (ap length q ∙ length-replicate n liveMark) ∙ q
 
-module _ (flat : List Float) (n side terms : ℕ) (start : IlluminationModel) (l₁ : List Float) (es : start ≡ unitModel side terms) (e₁ : l₁ ≡ allLive n) where
-  few : n < 8 → ran (modelled 0 start) l₁ ≡ fitted flat n side terms
+  few : n < 8 → ran (modelled 0 start) (take n (ys ++ drop n s)) ≡ fitted flat n side terms
   unfolding fitted
-  few h = cc (lt-ltb n 8 h)
+  few h = ap (ran (modelled 0 start)) marks ∙ cc (lt-ltb n 8 h)
 
-  module _ (p : Pass) (l₂ : List Float) (h : 8 ≤ n) (ep : p ≡ passOf start flat l₁ n) (e₂ : l₂ ≡ l₁) where
+  -- past pass one, p, which leaves the marks
+  module _ (h : 8 ≤ n) (p : Pass) (live : List Float) (ep : p ≡ passOf start flat (take n (ys ++ drop n s)) n) (el : live ≡ take n (ys ++ drop n s)) where
     at-first : firstPass start flat n p ≡ fitted flat n side terms
     unfolding fitted
     at-first =
-        ap (firstPass start flat n) (ep ∙ ap (λ (l : List Float). passOf start flat l n) e₁)
-        ∙ ap (λ (s : IlluminationModel). firstPass s flat n (passOf s flat (allLive n) n)) es ∙ cc (le-ltb n 8 h)
+        ap (firstPass start flat n) (ep ∙ ap (λ (z : List Float). passOf start flat z n) marks)
+        ∙ ap (λ (m : IlluminationModel). firstPass m flat n (passOf m flat (allLive n) n)) es ∙ cc (le-ltb n 8 h)
 
-    unsolved : p .solved ≡ false → ran (modelled 0 start) l₂ ≡ fitted flat n side terms
-    unsolved t = ap (ran (modelled 0 start)) (e₂ ∙ e₁) ∙ cc at-first
+    unsolved : not (p .solved) ≡ true → ran (modelled 0 start) live ≡ fitted flat n side terms
+    unsolved t = ap (ran (modelled 0 start)) (el ∙ marks) ∙ cc (at-first, not-true (p .solved) t)
 
-    infinite : (k : IlluminationModel) → p .solved ≡ true → p .bad ≡ true → k ≡ noModel → ran (modelled 11 k) l₂ ≡ fitted flat n side terms
-    infinite k t u e = ap (ran (modelled 11 k)) (e₂ ∙ e₁) ∙ cc at-first
+    infinite : (k : IlluminationModel) → not (p .solved) ≡ false → p .bad ≡ true → k ≡ noModel → ran (modelled 11 k) live ≡ fitted flat n side terms
+    infinite k t u e = ap (ran (modelled 11 k)) (el ∙ marks) ∙ cc (at-first, not-false (p .solved) t)
 
-    goes-on : (r : Modelled) (residuals l₃ : List Float) → p .solved ≡ true → p .bad ≡ false → residuals ≡ residualsOf (p .model) flat n
-        → ran r l₃ ≡ refitted (p .model) flat residuals l₂ n → ran r l₃ ≡ fitted flat n side terms
-    goes-on r residuals l₃ t u er e =
-        e ∙ ap (λ (z : List Float). refitted (p .model) flat z l₂ n) er
-        ∙ ap (λ (z : List Float). refitted (p .model) flat (residualsOf (p .model) flat n) z n) (e₂ ∙ e₁) ∙ cc at-first
+    goes-on : (r : Modelled) (residuals live′ : List Float) → ran r live′ ≡ refitted (p .model) flat residuals live n → (p .solved ≡ true → residuals ≡ residualsOf (p .model) flat n)
+        → not (p .solved) ≡ false → p .bad ≡ false → ran r live′ ≡ fitted flat n side terms
+    goes-on r residuals live′ e er t u =
+        let t′ : p .solved ≡ true = not-false (p .solved) t in
+        e ∙ ap (λ (z : List Float). refitted (p .model) flat z live n) (er t′)
+        ∙ ap (λ (z : List Float). refitted (p .model) flat (residualsOf (p .model) flat n) z n) (el ∙ marks) ∙ cc at-first
 
 slice-aggregate-revive : tie.Need-slice-aggregate-revive
 slice-aggregate-revive c = sym (length-take-le _ _ (search needs))
 
 returns : tie.Need-returns
-returns c =
-    let start = c .before .before .before .before .before .before .before .before in
-    let v = c .before .before .before .before .revive in
-    few _ _ _ _ _ _ (c .before .unit-model .ensures) (revived (start .args .s .now) (v .last .0) (start .args .n) (start .pre .2) (v .ensures)) (c .if1 .taken)
+returns c = search (few)
 
 returns-2 : tie.Need-returns-2
 returns-2 c =
-    let start = c .before .before .before .before .before .before .before .before .before .before .before .before .before .before in
-    let v = c .before .before .before .before .before .before .before .before .before .before .revive in
-    let p = c .before .before .before .before .run-pass in
-    unsolved _ _ _ _ _ _ (c .before .before .before .before .before .before .before .unit-model .ensures) (revived (start .args .s .now) (v .last .0) (start .args .n) (start .pre .2) (v .ensures))
-    (p .result) _ (c .before .before .before .before .before .before .if1 .left) (p .ensures .0) (p .ensures .1) (not-true (p .result .solved) (c .if2 .taken))
+    let p = c .before .before .before .before in
+    let u = p .before .before .before in
+    let v = u .before .before .before in
+    let start = v .before .before .before .before in
+    unsolved _ (start .args .s .now) (v .revive .last .0) (start .args .n) (start .args .side) (start .args .terms) _ (u .unit-model .ensures) (v .revive .ensures) (start .pre .0 .four) (p .before .before .if1 .left) (p .run-pass .result) _ (p .run-pass .ensures .0) (p .run-pass .ensures .1)
+    (c .if2 .taken)
 
 returns-3 : tie.Need-returns-3
 returns-3 c =
-    let start = c .before .before .before .before .before .before .before .before .before .before .before .before .before .before .before .before in
-    let v = c .before .before .before .before .before .before .before .before .before .before .before .before .revive in
-    let p = c .before .before .before .before .before .before .run-pass in
-    infinite _ _ _ _ _ _ (c .before .before .before .before .before .before .before .before .before .unit-model .ensures) (revived (start .args .s .now) (v .last .0) (start .args .n) (start .pre .2) (v .ensures))
-    (p .result) _ (c .before .before .before .before .before .before .before .before .if1 .left) (p .ensures .0) (p .ensures .1) _ (not-false (p .result .solved) (c .before .before .if2 .left)) (c .before .if3 .taken) (c .no-model .ensures)
+    let w = c .before .before in
+    let p = w .before .before .before .before in
+    let u = p .before .before .before in
+    let v = u .before .before .before in
+    let start = v .before .before .before .before in
+    infinite _ (start .args .s .now) (v .revive .last .0) (start .args .n) (start .args .side) (start .args .terms) _ (u .unit-model .ensures) (v .revive .ensures) (start .pre .0 .four) (p .before .before .if1 .left) (p .run-pass .result) _ (p .run-pass .ensures .0) (p .run-pass .ensures .1)
+    _ (w .if2 .left) (c .before .if3 .taken) (c .no-model .ensures)
 
 returns-4 : tie.Need-returns-4
 returns-4 c =
-    let start = c .before .before .before .before .before .before .before .before .before .before .before .before .before .before .before .before .before .before .before .before in
-    let v = c .before .before .before .before .before .before .before .before .before .before .before .before .before .before .before .before .revive in
-    let p = c .before .before .before .before .before .before .before .before .before .before .run-pass in
-    let t = not-false (p .result .solved) (c .before .before .before .before .before .before .if2 .left) in
-    goes-on _ _ _ _ _ _ (c .before .before .before .before .before .before .before .before .before .before .before .before .before .unit-model .ensures) (revived (start .args .s .now) (v .last .0) (start .args .n) (start .pre .2) (v .ensures))
-    (p .result) _ (c .before .before .before .before .before .before .before .before .before .before .before .before .if1 .left) (p .ensures .0) (p .ensures .1) _ _ _ t (c .before .before .before .before .before .if3 .left) (p .ensures .2 t) (c .before .before .refit .ensures)
+    let w = c .before .before .before .before .before in
+    let p = w .before .before .before .before .before in
+    let u = p .before .before .before in
+    let v = u .before .before .before in
+    let start = v .before .before .before .before in
+    goes-on _ (start .args .s .now) (v .revive .last .0) (start .args .n) (start .args .side) (start .args .terms) _ (u .unit-model .ensures) (v .revive .ensures) (start .pre .0 .four) (p .before .before .if1 .left) (p .run-pass .result) _ (p .run-pass .ensures .0) (p .run-pass .ensures .1)
+    _ _ _ (c .before .before .refit .ensures) (p .run-pass .ensures .2) (w .before .if2 .left) (w .if3 .left)
 
 pub fit-live-spec : {M : Type 1} → statement M
 fit-live-spec =

@@ -6,7 +6,7 @@ use Prim.Native.Nat.{ℕ, _≤_}
 use Rattle.sentences.proofs.Laws.{sentences}
 use Rattle.limits.specs.Limits.{badSide}
 use Rattle.limits.proofs.Laws.{side-in}
-use Rattle.references.proofs.Laws.{few-tested}
+use Rattle.references.proofs.Laws.{stand-tested}
 use Rattle.fit.specs.Fit.{fitSentences}
 use borrow.Author.Needs.{needs}
 use Rattle.fit.proofs.refused.Statement.{statement}
@@ -17,11 +17,10 @@ most side r e f = side-in side (sym e ∙ f) .1
 
 bad-positions-requires : tie.Need-bad-positions-requires
 bad-positions-requires c κs =
-    (search (most), c .before .before .before .before .before .before .before .before .pre (search (few-tested)))
+    (search (most), search (stand-tested))
 
 bad-colours-requires : tie.Need-bad-colours-requires
-bad-colours-requires c κs =
-    c .before .before .before .before .before .before .before .before .before .before .pre (search (few-tested))
+bad-colours-requires c κs = search (stand-tested)
 
 pub refused-spec : {M : Type 1} → statement M
 unfolding fitSentences

@@ -55,17 +55,7 @@ module _ (n : ℕ) (t t₁ p t₃ q : List Float) (m v : Float) (h : 1 ≤ n) (l
       part-before n (length t₃ - n) t₃ q (omega (arith, long)) ∙ ap (take n) then ∙ take-at (take n t) (map (deviation m) (take n t)) n long
 
 returns : tie.Need-returns
-returns c =
-    let start = c .before .before .before .before .before .before .before .before .before .before .before .before .before .before .before .before .before in
-    let copied = c .before .before .before .before .before .before .before .before .before .before .before .before .before .before .copy-up in
-    let one = c .before .before .before .before .before .before .before .before .before .before .median in
-    let deviated = c .before .before .before .before .before .before .deviate-up in
-    let two = c .before .before .median2 in
-    let n = start .args .n in
-    let t = start .args .t .now in (
-      sigma n t (copied .last .0) (one .last .0) (deviated .last .0) (two .last .0) (one .result) (two .result) (start .pre .0) (start .pre .1) (copied .ensures) (one .ensures) (deviated .ensures) (two .ensures),
-      kept n t (copied .last .0) (one .last .0) (deviated .last .0) (two .last .0) (one .result) (two .result) (start .pre .0) (start .pre .1) (copied .ensures) (one .ensures) (deviated .ensures) (two .ensures),
-    )
+returns c = (search (sigma), search (kept))
 
 pub sigma-in-spec : {M : Type 1} → statement M
 sigma-in-spec =
