@@ -7,7 +7,9 @@ use lib.IntN.{ℤ}
 use lib.ListN.{length}
 use lib.Ieee.{Float}
 use Rattle.limits.specs.Limits.{badHues}
+use Rattle.limits.specs.Chroma.{ringModules, chromaLength}
 use Rattle.layout.specs.declared.Layout.{Layout}
+use Rattle.layout.specs.Groups.{Shaped}
 use Rattle.color.specs.Palette.{paletteLen}
 use Rattle.stats.specs.declared.ChannelStats.{ChannelStats}
 use Rattle.stats.specs.Noise.{Sigmas}
@@ -40,3 +42,14 @@ pub record Modules (l : Layout) (m : ℕ) (colours : List Float) : Type 0 where
   pub grid-most : l .grid ≤ m
   pub most : m ≤ 1048576
   pub colours-three : 3 * m ≤ length colours
+
+-- all that is handed over to be scored, and the room for its scores
+pub record Scorable (l : Layout) (xs ys : List ℤ) (raw : List Float) (cxs cys : List ℕ) (craw palette luma colours chroma : List Float) : Type 0 where
+  pub shaped : Shaped l
+  pub sampled : Sampled xs ys raw
+  pub modules : Modules l (length xs) colours
+  pub cells : Cells cxs cys
+  pub craw-three : 3 * length cxs ≤ length craw
+  pub palette-long : paletteLen (l .hues) ≤ length palette
+  pub luma-long : length xs ≤ length luma
+  pub chroma-long : chromaLength (l .hues) (length cxs) (ringModules (length xs) (l .grid)) (l .size) ≤ length chroma

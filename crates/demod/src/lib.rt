@@ -17,11 +17,12 @@ ghost use Rattle.color.specs.Color.{linearToLab};
 ghost use Rattle.color.specs.Palette.{paletteLen, linearAt};
 ghost use Rattle.illum.specs.Correct.{rounded};
 ghost use Rattle.demod.specs.Score as spec;
-ghost use Rattle.demod.specs.Ready.{Palette, Tables, Cells, Sampled, Modules};
+ghost use Rattle.demod.specs.Ready.{Palette, Tables, Cells, Sampled, Modules, Scorable};
 ghost use Rattle.demod.specs.Samples.{Block, labAt, numberAt, onwards};
 ghost use Rattle.demod.specs.Score.{sheet};
 ghost use Rattle.demod.specs.Call as call;
-ghost use Rattle.demod.specs.Call.{final, request, scoredOf, sentencesOf};
+ghost use Rattle.demod.specs.Call.{request, sentencesOf, final, done, scoredOf};
+ghost use Rattle.answers.specs.declared.Outcome.the-variants.{Done};
 use answers::Outcome;
 use color::Linear;
 use color::Xyz;
@@ -837,6 +838,63 @@ fn refused(
 
 // ---- the call
 
+// The chroma noise of each palette colour.
+fn sigmas_of(noise: ChannelStats, palette: &[f32], hues: usize) -> [f32; 32]
+    requires { ⌜ Palette hues (now palette) ⌝ }
+    ensures { λ r. ⌜ Tables noise (now (palette .entry)) hues r ⌝ }
+{
+    let mut sigmas = [0.0f32; 32];
+    noise.palette_sigmas(palette, hues, &mut sigmas);
+    sigmas
+}
+
+// Writes what an accepted call writes: the modules' colours and luma scores, and then the chroma scores.
+fn write_scores(
+    layout: Layout,
+    xs: &[i32],
+    ys: &[i32],
+    raw: &[f32],
+    cxs: &[u16],
+    cys: &[u16],
+    craw: &[f32],
+    palette: &[f32],
+    model: IlluminationModel,
+    noise: ChannelStats,
+    luma: &mut [f32],
+    colours: &mut [f32],
+    chroma: &mut [f32],
+)
+    requires { ⌜ Scorable layout (now xs) (now ys) (now raw) (now cxs) (now cys) (now craw) (now palette) (now luma) (now colours) (now chroma) ⌝ }
+    ensures { λ _. ⌜ final Done (now (luma .exit)) (now (colours .exit)) (now (chroma .exit)) ≡ done (request layout (now (xs .entry)) (now (ys .entry)) (now (raw .entry)) (now (cxs .entry)) (now (cys .entry)) (now (craw .entry)) (now (palette .entry)) model noise (now (luma .entry)) (now (colours .entry)) (now (chroma .entry))) ⌝ }
+{
+    let sigmas = sigmas_of(noise, palette, layout.hues);
+    write_modules(
+        noise,
+        palette,
+        layout.hues,
+        &sigmas,
+        model,
+        xs,
+        ys,
+        raw,
+        luma,
+        colours,
+    );
+    write_chroma(
+        layout,
+        noise,
+        palette,
+        &sigmas,
+        model,
+        colours,
+        xs.len(),
+        cxs,
+        cys,
+        craw,
+        chroma,
+    );
+}
+
 // Scores a card. `xs` and `ys` are its modules' positions, the first `grid` of them grid modules and the others ring
 // modules; `cxs` and `cys` its cells' coordinates; `raw` and `craw` hold three linear components a module and a cell.
 // Writes a luma score a module, three components of its corrected colour, and, with chroma on, log2(hues) scores a cell
@@ -876,31 +934,19 @@ pub fn score(
     if n != 0 {
         return Outcome::Refused(n);
     }
-    let mut sigmas = [0.0f32; 32];
-    noise.palette_sigmas(palette, layout.hues, &mut sigmas);
-    write_modules(
-        noise,
-        palette,
-        layout.hues,
-        &sigmas,
-        model,
+    write_scores(
+        layout,
         xs,
         ys,
         raw,
-        luma,
-        colours,
-    );
-    write_chroma(
-        layout,
-        noise,
-        palette,
-        &sigmas,
-        model,
-        colours,
-        xs.len(),
         cxs,
         cys,
         craw,
+        palette,
+        model,
+        noise,
+        luma,
+        colours,
         chroma,
     );
     Outcome::Done

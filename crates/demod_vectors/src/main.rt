@@ -2,6 +2,7 @@
 // every bit.
 use answers::outcome_number;
 use illum::IlluminationModel;
+use layout::Layout;
 use stage_words::count;
 use stats::ChannelStats;
 use vectors::Compared;
@@ -11,21 +12,21 @@ use vectors::Tally;
 
 // What a card is scored from, but for its slices.
 struct Card {
-    side: usize,
-    hues: usize,
-    size: usize,
-    grid: usize,
+    layout: Layout,
     model: IlluminationModel,
     noise: ChannelStats,
 }
 
 // The card of a record whose grid count and model stand at these places.
 fn card_at(row: &[u64], at_grid: usize, at_model: usize) -> Card {
-    Card {
+    let layout = Layout {
         side: count(row, 0, 0),
         hues: count(row, 1, 0),
         size: count(row, 2, 0),
         grid: count(row, at_grid, 0),
+    };
+    Card {
+        layout,
         model: stage_words::model(row, at_model),
         noise: stage_words::noise(row, stage_words::past_model(row, at_model)),
     }
@@ -46,15 +47,13 @@ fn score_in(
     chroma: &mut [f32],
     got: &mut [u64],
 ) -> usize {
+    let layout = card.layout;
     let model = card.model;
     let noise = card.noise;
     let outcome = demod::score(
-        card.side,
-        card.hues,
-        card.size,
+        layout,
         xs,
         ys,
-        card.grid,
         raw,
         cxs,
         cys,

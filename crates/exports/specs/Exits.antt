@@ -52,6 +52,9 @@ measureExit f = exit1 (noiseAnswer (f .answer)) (f .scratch)
 unfoldable pub scoreExit : demod.Final → Exit3 ℕ Float Float Float
 scoreExit f = exit3 (outcomeNumber (f .answer)) (f .luma) (f .colours) (f .chroma)
 
+abbrev pub scored : demod.Request → Exit3 ℕ Float Float Float
+scored q = scoreExit (demod.scoredOf q)
+
 -- `add_local_luma`
 unfoldable pub refineExit : refine.Final → Exit2 ℕ Float Float
 refineExit f = exit2 (outcomeNumber (f .answer)) (f .luma) (f .scratch)

@@ -9,8 +9,10 @@ ghost use Rattle.modulate.specs.Read as reading;
 ghost use Rattle.modulate.specs.Score as scores;
 ghost use Rattle.exports.specs.Replies as spec;
 ghost use Rattle.exports.specs.Exits as exits;
+ghost use Rattle.exports.specs.Layouts.{layout};
 use super::replies;
 use super::replies::NumberAnswer;
+use layout::Layout;
 
 // The reflected binary code of n.
 #[no_mangle]
@@ -197,16 +199,19 @@ pub extern "C" fn purdolve_draw(
     levels: &mut [u8],
     drawn: &mut [usize],
 ) -> u32
-    ensures { λ r. ⌜ exits.exit2 r (now (levels .exit)) (now (drawn .exit)) ≡ exits.drawExit (drawing_spec.drawOf (drawing_spec.card (now (bits .entry)) side hues size (now (xs .entry)) (now (ys .entry)) grid (now (cxs .entry)) (now (cys .entry)) mask (now (levels .entry)) (now (drawn .entry)))) ⌝ }
+    ensures { λ r. ⌜ exits.exit2 r (now (levels .exit)) (now (drawn .exit)) ≡ exits.drawExit (drawing_spec.drawOf (drawing_spec.card (now (bits .entry)) (layout side hues size grid) (now (xs .entry)) (now (ys .entry)) (now (cxs .entry)) (now (cys .entry)) mask (now (levels .entry)) (now (drawn .entry)))) ⌝ }
 {
-    answers::outcome_number(modulate::draw(
-        bits,
+    let layout = Layout {
         side,
         hues,
         size,
+        grid,
+    };
+    answers::outcome_number(modulate::draw(
+        bits,
+        layout,
         xs,
         ys,
-        grid,
         cxs,
         cys,
         mask,

@@ -1,14 +1,16 @@
 // The illumination model, the noise record, scoring and refinement.
 ghost use mathlib.Core.Path.{_≡_};
-ghost use Rattle.demod.specs.Call as demod_call;
 ghost use Rattle.fit.specs.Fit as fit_call;
-ghost use Rattle.illum.specs.Correct as illum_model;
+ghost use Rattle.illum.specs.Correct.{lentModel};
 ghost use Rattle.illum.specs.Refusals as illum_call;
+ghost use Rattle.illum.specs.Refusals.{correctOf};
 ghost use Rattle.measure.specs.Measure as measure_call;
 ghost use Rattle.refine.specs.Calls as refine_call;
 ghost use Rattle.stats.specs.Calls as stats_call;
 ghost use Rattle.exports.specs.Replies as spec;
 ghost use Rattle.exports.specs.Exits as exits;
+ghost use Rattle.exports.specs.Exits.{exit3, scored};
+ghost use Rattle.exports.specs.Layouts.{toScore};
 use super::replies;
 use super::replies::FlagAnswer;
 use super::replies::FloatAnswer;
@@ -18,6 +20,7 @@ use color::Lab;
 use color::Linear;
 use illum::IlluminationModel;
 use illum::Modelled;
+use layout::Layout;
 use stats::ChannelStats;
 
 // An observed colour at a position, corrected by a model that is lent part by part. Refused: 8, 10.
@@ -39,7 +42,7 @@ pub extern "C" fn purdolve_correct_lent<'a>(
     y: f32,
     colour: Linear,
 ) -> LinearAnswer
-    ensures { λ r. ⌜ r ≡ spec.linearAnswer (illum_call.correctOf (illum_model.lentModel terms side «residual_rms» (now («affine_r» .entry)) (now («affine_g» .entry)) (now («affine_b» .entry)) (now («gain_r» .entry)) (now («gain_g» .entry)) (now («gain_b» .entry)) (now («flare_r» .entry)) (now («flare_g» .entry)) (now («flare_b» .entry))) x y colour) ⌝ }
+    ensures { λ r. ⌜ r ≡ spec.linearAnswer (correctOf (lentModel terms side «residual_rms» (now («affine_r» .entry)) (now («affine_g» .entry)) (now («affine_b» .entry)) (now («gain_r» .entry)) (now («gain_g» .entry)) (now («gain_b» .entry)) (now («flare_r» .entry)) (now («flare_g» .entry)) (now («flare_b» .entry))) x y colour) ⌝ }
 {
     replies::linear_answer(illum::correct_lent(
         terms,
@@ -112,15 +115,18 @@ pub extern "C" fn purdolve_score(
     colours: &mut [f32],
     chroma: &mut [f32],
 ) -> u32
-    ensures { λ r. ⌜ exits.exit3 r (now (luma .exit)) (now (colours .exit)) (now (chroma .exit)) ≡ exits.scoreExit (demod_call.scoredOf (demod_call.request side hues size (now (xs .entry)) (now (ys .entry)) grid (now (raw .entry)) (now (cxs .entry)) (now (cys .entry)) (now (craw .entry)) (now (palette .entry)) model noise (now (luma .entry)) (now (colours .entry)) (now (chroma .entry)))) ⌝ }
+    ensures { λ r. ⌜ exit3 r (now (luma .exit)) (now (colours .exit)) (now (chroma .exit)) ≡ scored (toScore side hues size grid (now (xs .entry)) (now (ys .entry)) (now (raw .entry)) (now (cxs .entry)) (now (cys .entry)) (now (craw .entry)) (now (palette .entry)) model noise (now (luma .entry)) (now (colours .entry)) (now (chroma .entry))) ⌝ }
 {
-    answers::outcome_number(demod::score(
+    let layout = Layout {
         side,
         hues,
         size,
+        grid,
+    };
+    answers::outcome_number(demod::score(
+        layout,
         xs,
         ys,
-        grid,
         raw,
         cxs,
         cys,

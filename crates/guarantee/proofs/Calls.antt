@@ -20,15 +20,16 @@ use Rattle.guarantee.proofs.Guarantee.{read-as-drawn}
 
 -- `score`, `add_local_luma`, `unmask_luma` and `read_list` twice: e, f, g, h and k are what their contracts say
 module _ (s : Setting) (c : Card) (r : Outcome) (luma colours chroma : List Float) (e : scoring.final r luma colours chroma ≡ scoring.scoredOf (toScore s c))
-    (r₂ : Outcome) (luma₂ scratch : List Float) (f : refinement.final r₂ luma₂ scratch ≡ refinement.refineOf (refinement.request luma (s .side) (s .hues) (s .xs) (s .ys) (s .grid) colours (s .palette) (s .noise) (c .scratch)))
-    (r₃ : Outcome) (luma₃ : List Float) (g : ended r₃ luma₃ ≡ unmaskLumaOf luma₂ (s .side) (s .xs) (s .ys) (s .grid) (s .mask))
+    (r₂ : Outcome) (luma₂ scratch : List Float)
+    (f : refinement.final r₂ luma₂ scratch ≡ refinement.refineOf (refinement.request luma (s .layout .side) (s .layout .hues) (s .xs) (s .ys) (s .layout .grid) colours (s .palette) (s .noise) (c .scratch)))
+    (r₃ : Outcome) (luma₃ : List Float) (g : ended r₃ luma₃ ≡ unmaskLumaOf luma₂ (s .layout .side) (s .xs) (s .ys) (s .layout .grid) (s .mask))
     (r₄ : Outcome) (bits : List ℕ) (h : ended r₄ bits ≡ readListOf luma₃ (c .lumaBits)) (r₅ : Outcome) (chromaBits : List ℕ) (k : ended r₅ chromaBits ≡ readListOf chroma (c .chromaBits)) where
   refine-is : refinement.final r₂ luma₂ scratch ≡ refinedCard s c
   refine-is =
-      f ∙ ap (λ x. refinement.refineOf (refinement.request (x .luma) (s .side) (s .hues) (s .xs) (s .ys) (s .grid) (x .colours) (s .palette) (s .noise) (c .scratch))) e
+      f ∙ ap (λ x. refinement.refineOf (refinement.request (x .luma) (s .layout .side) (s .layout .hues) (s .xs) (s .ys) (s .layout .grid) (x .colours) (s .palette) (s .noise) (c .scratch))) e
 
   unmask-is : ended r₃ luma₃ ≡ unmaskedCard s c
-  unmask-is = g ∙ ap (λ x. unmaskLumaOf (x .luma) (s .side) (s .xs) (s .ys) (s .grid) (s .mask)) refine-is
+  unmask-is = g ∙ ap (λ x. unmaskLumaOf (x .luma) (s .layout .side) (s .xs) (s .ys) (s .layout .grid) (s .mask)) refine-is
 
   luma-is : ended r₄ bits ≡ lumaRead s c
   luma-is = h ∙ ap (λ x. readListOf (x .list) (c .lumaBits)) unmask-is
@@ -53,5 +54,5 @@ module _ (s : Setting) (c : Card) (r : Outcome) (luma colours chroma : List Floa
 
     -- inside the margin, and near what was drawn, the program has the bits drawn
     pub program-reads : Singles s → InMargin s → drawnCard s c .answer ≡ outcome.Done → ((i : ℕ) → i < modules s → NearModule s c i) →
-        (chromaOn (s .hues) ≡ true → (j : ℕ) → j < length (s .cxs) → NearCell s c j) → take (modules s) bits ++ take (chromaScores s) chromaBits ≡ bitsDrawn s c
+        (chromaOn (s .layout .hues) ≡ true → (j : ℕ) → j < length (s .cxs) → NearCell s c j) → take (modules s) bits ++ take (chromaScores s) chromaBits ≡ bitsDrawn s c
     program-reads S M D N C = joined ∙ read-as-drawn s c S M (record { drawing = D; accepted = all-done; module-near = N; cell-near = C }) .same

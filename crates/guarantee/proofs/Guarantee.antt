@@ -35,15 +35,15 @@ module _ (a b : List ℕ) (m q : ℕ) (A : m ≤ length a) (B : q ≤ length b) 
 
 module _ (s : Setting) (c : Card) (S : Singles s) (M : InMargin s) (R : Readable s c) where
   -- with chroma off there are no chroma scores
-  off : (b : Bool) → chromaOn (s .hues) ≡ b → b ≡ false → chromaScores s ≡ 0
+  off : (b : Bool) → chromaOn (s .layout .hues) ≡ b → b ≡ false → chromaScores s ≡ 0
   unfolding chromaLength symbolBits
   off b e f = rw (e ∙ f, zero-mul) refl
 
-  chroma-long : (b : Bool) → chromaOn (s .hues) ≡ b → chromaScores s ≤ length (chromaRead s c .list)
+  chroma-long : (b : Bool) → chromaOn (s .layout .hues) ≡ b → chromaScores s ≤ length (chromaRead s c .list)
   chroma-long true e = chroma-bits s c S M R e
   chroma-long false e = le-trans (le-of-eq (off false e refl)) zero-le
 
-  chroma-at : (b : Bool) → chromaOn (s .hues) ≡ b → (j : ℕ) → j < chromaScores s → getD (chromaRead s c .list) j 0 ≡ bitOf (isOne (getD (c .bits) (modules s + j) 0))
+  chroma-at : (b : Bool) → chromaOn (s .layout .hues) ≡ b → (j : ℕ) → j < chromaScores s → getD (chromaRead s c .list) j 0 ≡ bitOf (isOne (getD (c .bits) (modules s + j) 0))
   chroma-at true e j h = chroma-bit s c S M R e j h
   chroma-at false e j h = absurd (omega (arith, off false e refl))
 
@@ -51,14 +51,14 @@ module _ (s : Setting) (c : Card) (S : Singles s) (M : InMargin s) (R : Readable
   luma-enough = luma-bits s c S M R
 
   chroma-enough : chromaScores s ≤ length (chromaRead s c .list)
-  chroma-enough = chroma-long (chromaOn (s .hues)) refl
+  chroma-enough = chroma-long (chromaOn (s .layout .hues)) refl
 
   read-length : length (bitsRead s c) ≡ modules s + chromaScores s
   unfolding bitsRead
   read-length = joined-length (lumaRead s c .list) (chromaRead s c .list) (modules s) (chromaScores s) luma-enough chroma-enough
 
   bits-enough : modules s + chromaScores s ≤ length (c .bits)
-  bits-enough = bits-long (length (c .bits)) (s .hues) (s .size) (modules s) (s .grid) (length (s .cxs)) (is-drawn s c R .fit .lengths .bits-in)
+  bits-enough = bits-long (length (c .bits)) (s .layout) (modules s) (length (s .cxs)) (is-drawn s c R .fit .lengths .bits-in)
 
   drawn-length : length (bitsDrawn s c) ≡ modules s + chromaScores s
   unfolding bitsDrawn
@@ -79,7 +79,7 @@ module _ (s : Setting) (c : Card) (S : Singles s) (M : InMargin s) (R : Readable
       let z : modules s + j ≡ i = omega arith in
       let k : j < chromaScores s = omega arith in
       subst (λ (x : ℕ). getD (take (modules s) (lumaRead s c .list) ++ take (chromaScores s) (chromaRead s c .list)) x 0 ≡ bitOf (isOne (getD (c .bits) x 0))) z
-      (joined-back (lumaRead s c .list) (chromaRead s c .list) (modules s) (chromaScores s) luma-enough chroma-enough j k ∙ chroma-at (chromaOn (s .hues)) refl j k)
+      (joined-back (lumaRead s c .list) (chromaRead s c .list) (modules s) (chromaScores s) luma-enough chroma-enough j k ∙ chroma-at (chromaOn (s .layout .hues)) refl j k)
 
   pub read-as-drawn : ReadAsDrawn s c
   read-as-drawn =

@@ -30,7 +30,7 @@ use Rattle.demod.proofs.Accepted as scored
 use Rattle.demod.proofs.Outcome.{IsDone, at-done}
 use Rattle.refine.specs.Calls as refinement
 use Rattle.refine.proofs.Accepted as refining
-use Rattle.guarantee.specs.Card.{Setting, Card, modules, toDraw, drawnCard, toScore, toRefine, refinedCard, unmaskedCard, Accepted}
+use Rattle.guarantee.specs.Card.{Setting, Card, modules, toDraw, drawnCard, toScore, toRefine, refinedCard, unmaskedCard}
 use Rattle.guarantee.specs.Guarantee.{Singles, InMargin, Readable}
 use Rattle.guarantee.proofs.Sample.{Fits, said-yes}
 
@@ -71,9 +71,9 @@ either : (b : Bool) (x y n : ℕ) → x < n → y < n → cond b x y < n
 either true x y n p q = p
 either false x y n p q = q
 
-pub level-two : (bits : List ℕ) (s : Setting) (i : ℕ) → levelAt bits (s .xs) (s .ys) (s .grid) (s .mask) i < 2
+pub level-two : (bits : List ℕ) (s : Setting) (i : ℕ) → levelAt bits (s .xs) (s .ys) (s .layout .grid) (s .mask) i < 2
 unfolding levelAt gridLevel ringLevel
-level-two bits s i = either (ltb i (s .grid)) _ _ 2 (bit-lt _) (bit-lt _)
+level-two bits s i = either (ltb i (s .layout .grid)) _ _ 2 (bit-lt _) (bit-lt _)
 
 pub hue-below : (bits : List ℕ) (hues m : ℕ) (cxs cys : List ℕ) (j : ℕ) → 0 < hues → hueAt bits hues m cxs cys j < hues
 unfolding hueAt cellHue ringHue chromaMaskApply chromaSymbolToHue
@@ -84,10 +84,11 @@ module _ (s : Setting) (c : Card) (R : Readable s c) where
   pub is-drawn : IsDrawn (toDraw s c)
   is-drawn = drawn-done (toDraw s c) (R .drawing)
 
-  pub drawn-level : (i : ℕ) → i < modules s → getD (drawnCard s c .levels) i 0 ≡ levelAt (c .bits) (s .xs) (s .ys) (s .grid) (s .mask) i
+  pub drawn-level : (i : ℕ) → i < modules s → getD (drawnCard s c .levels) i 0 ≡ levelAt (c .bits) (s .xs) (s .ys) (s .layout .grid) (s .mask) i
   drawn-level i h = ap (λ d. getD (d .levels) i 0) (is-drawn .left) ∙ is-drawn .level i h
 
-  pub drawn-hue : chromaOn (s .hues) ≡ true → (j : ℕ) → j < entriesOf (modules s) (s .grid) (length (s .cxs)) (s .size) → getD (drawnCard s c .hues) j 0 ≡ hueAt (c .bits) (s .hues) (modules s) (s .cxs) (s .cys) j
+  pub drawn-hue : chromaOn (s .layout .hues) ≡ true → (j : ℕ) → j < entriesOf (s .layout) (modules s) (length (s .cxs)) →
+      getD (drawnCard s c .hues) j 0 ≡ hueAt (c .bits) (s .layout .hues) (modules s) (s .cxs) (s .cys) j
   drawn-hue on j h = ap (λ d. getD (d .hues) j 0) (is-drawn .left) ∙ is-drawn .hue on j h
 
   -- scoring
@@ -105,10 +106,11 @@ module _ (s : Setting) (c : Card) (R : Readable s c) where
   refined-is = refining.at-done (toRefine s c) 0 refine-zero refl
 
   -- unmasking
-  pub unmasked-is : unmaskedCard s c .list ≡ unmasked (s .mask) (s .xs) (s .ys) (s .grid) (refinedCard s c .luma)
+  pub unmasked-is : unmaskedCard s c .list ≡ unmasked (s .mask) (s .xs) (s .ys) (s .layout .grid) (refinedCard s c .luma)
   unfolding unmaskLumaOf
   unmasked-is =
-      list-done (unmaskSentences (refinedCard s c .luma) (s .side) (s .xs) (s .ys) (s .grid)) (refinedCard s c .luma) (unmasked (s .mask) (s .xs) (s .ys) (s .grid) (refinedCard s c .luma)) (R .accepted .unmasking) .1
+      list-done (unmaskSentences (refinedCard s c .luma) (s .layout .side) (s .xs) (s .ys) (s .layout .grid)) (refinedCard s c .luma)
+      (unmasked (s .mask) (s .xs) (s .ys) (s .layout .grid) (refinedCard s c .luma)) (R .accepted .unmasking) .1
 
 -- ---- the setting's numbers
 
@@ -118,5 +120,5 @@ held s p = record { l0 = p .l0; l1 = p .l1; sigma-l = p .sigma-l; sigma-ab = p .
 pub palette-fits : (s : Setting) → Singles s → Fits (s .palette)
 palette-fits s p = record { at = p .palette }
 
-pub in-margin : (s : Setting) → InMargin s → inMargin (whole 13) (s .noise) (s .palette) (s .hues) ≡ true
-in-margin s e = said-yes (refusal (stats.sentencesOf (s .noise) (s .palette) (s .hues))) (inMargin (whole 13) (s .noise) (s .palette) (s .hues)) e
+pub in-margin : (s : Setting) → InMargin s → inMargin (whole 13) (s .noise) (s .palette) (s .layout .hues) ≡ true
+in-margin s e = said-yes (refusal (stats.sentencesOf (s .noise) (s .palette) (s .layout .hues))) (inMargin (whole 13) (s .noise) (s .palette) (s .layout .hues)) e

@@ -30,8 +30,11 @@ use Rattle.guarantee.proofs.Sample.{lab-fits, dark-score, light-score}
 use Rattle.guarantee.proofs.Known.{read-at, read-long, level-two, drawn-level, scored-card, scoring-knows, refined-is, unmasked-is, held, palette-fits, in-margin}
 
 module _ (s : Setting) (c : Card) (S : Singles s) (M : InMargin s) (R : Readable s c) where
+  abbrev hues : ℕ
+  hues = s .layout .hues
+
   abbrev scoreOf : ℕ → Float
-  scoreOf i = lumaScore (s .noise) (s .palette) (s .hues) (moduleColours (toScore s c) i)
+  scoreOf i = lumaScore (s .noise) (s .palette) hues (moduleColours (toScore s c) i)
 
   -- a score that says the level, and that refinement passes over
   record Clearly (level : ℕ) (v : Float) : Type 0 where
@@ -46,26 +49,26 @@ module _ (s : Setting) (c : Card) (S : Singles s) (M : InMargin s) (R : Readable
   unfolding sure
   light-clearly p = record { says = record { is = p .is; light = λ e. light-below p; dark = λ e. absurd (omega arith) }; sure = light-sure p }
 
-  by-level : (level hue : ℕ) → level < 2 → hue < s .hues → (i : ℕ) → halfSigma (s .noise) (moduleLab s c i) (paletteColour s level hue) ≡ true → Clearly level (scoreOf i)
+  by-level : (level hue : ℕ) → level < 2 → hue < hues → (i : ℕ) → halfSigma (s .noise) (moduleLab s c i) (paletteColour s level hue) ≡ true → Clearly level (scoreOf i)
   unfolding paletteColour lumaScore
   by-level zero hue l h i e =
       let k = scoring-knows s c R in
-      let z : 0 * s .hues + hue ≡ hue = rw (zero-mul (s .hues)) (omega arith) in
-      let f : halfSigma (s .noise) (moduleLab s c i) (paletteLab (s .palette) (s .hues) hue) ≡ true = rw z at e in
-      dark-clearly (dark-score (s .noise) (s .palette) (s .hues) (held s S) (palette-fits s S) (k .inputs .palette-tame) (k .sigmas) (in-margin s M) (moduleLab s c i) (lab-fits (moduleColours (toScore s c) i)) hue (omega arith) f h (weighted (s .hues)))
+      let z : 0 * hues + hue ≡ hue = rw (zero-mul hues) (omega arith) in
+      let f : halfSigma (s .noise) (moduleLab s c i) (paletteLab (s .palette) hues hue) ≡ true = rw z at e in
+      dark-clearly (dark-score (s .noise) (s .palette) hues (held s S) (palette-fits s S) (k .inputs .palette-tame) (k .sigmas) (in-margin s M) (moduleLab s c i) (lab-fits (moduleColours (toScore s c) i)) hue (omega arith) f h (weighted hues))
   by-level (suc zero) hue l h i e =
       let k = scoring-knows s c R in
-      let z : 1 * s .hues + hue ≡ s .hues + hue = rw (one-mul (s .hues)) in
-      let f : halfSigma (s .noise) (moduleLab s c i) (paletteLab (s .palette) (s .hues) (s .hues + hue)) ≡ true = rw z at e in
-      light-clearly (light-score (s .noise) (s .palette) (s .hues) (held s S) (palette-fits s S) (k .inputs .palette-tame) (k .sigmas) (in-margin s M) (moduleLab s c i) (lab-fits (moduleColours (toScore s c) i)) (s .hues + hue) (omega arith) f hue h refl (weighted (s .hues)))
+      let z : 1 * hues + hue ≡ hues + hue = rw (one-mul hues) in
+      let f : halfSigma (s .noise) (moduleLab s c i) (paletteLab (s .palette) hues (hues + hue)) ≡ true = rw z at e in
+      light-clearly (light-score (s .noise) (s .palette) hues (held s S) (palette-fits s S) (k .inputs .palette-tame) (k .sigmas) (in-margin s M) (moduleLab s c i) (lab-fits (moduleColours (toScore s c) i)) (hues + hue) (omega arith) f hue h refl (weighted hues))
   by-level (suc (suc n)) hue l h i e = absurd (omega arith)
 
   -- module i's score
-  clearly : (i : ℕ) → i < modules s → Clearly (levelAt (c .bits) (s .xs) (s .ys) (s .grid) (s .mask) i) (scoreOf i)
+  clearly : (i : ℕ) → i < modules s → Clearly (levelAt (c .bits) (s .xs) (s .ys) (s .layout .grid) (s .mask) i) (scoreOf i)
   clearly i h =
       let d = drawn-level s c R i h in
       let p = R .module-near i h in
-      by-level (levelAt (c .bits) (s .xs) (s .ys) (s .grid) (s .mask) i) (p .hue) (level-two (c .bits) s i) (p .below) i (rw d at (p .near))
+      by-level (levelAt (c .bits) (s .xs) (s .ys) (s .layout .grid) (s .mask) i) (p .hue) (level-two (c .bits) s i) (p .below) i (rw d at (p .near))
 
   -- what scoring left
   luma-at : (i : ℕ) → i < modules s → getD (scoredCard s c .luma) i nan ≡ scoreOf i
@@ -79,32 +82,33 @@ module _ (s : Setting) (c : Card) (S : Singles s) (M : InMargin s) (R : Readable
   unfolding refinedOf refined
   passed-over =
       ap (λ f. f .luma) (sym (refined-is s c R)) ∙
-      all-passed-over (s .noise) (s .palette) (s .hues) (levelsOf (s .palette)) (s .side) (s .xs) (s .ys) (scoredCard s c .colours) (gridOf (s .side) (s .xs) (s .ys) (scoredCard s c .colours) (c .scratch)) (scoredCard s c .luma)
+      all-passed-over (s .noise) (s .palette) hues (levelsOf (s .palette)) (s .layout .side) (s .xs) (s .ys) (scoredCard s c .colours)
+      (gridOf (s .layout .side) (s .xs) (s .ys) (scoredCard s c .colours) (c .scratch)) (scoredCard s c .luma)
       (λ i h. ap sure (luma-at i h) ∙ clearly i h .sure)
 
   -- unmasking
-  turned : Reached nan (unmaskAt (s .mask) (s .xs) (s .ys)) (scoredCard s c .luma) (s .grid) (unmasked (s .mask) (s .xs) (s .ys) (s .grid) (scoredCard s c .luma))
-  turned = reached nan (unmaskAt (s .mask) (s .xs) (s .ys)) (scoredCard s c .luma) (s .grid) (omega (arith, luma-long, scoring-knows s c R .counts .1))
+  turned : Reached nan (unmaskAt (s .mask) (s .xs) (s .ys)) (scoredCard s c .luma) (s .layout .grid) (unmasked (s .mask) (s .xs) (s .ys) (s .layout .grid) (scoredCard s c .luma))
+  turned = reached nan (unmaskAt (s .mask) (s .xs) (s .ys)) (scoredCard s c .luma) (s .layout .grid) (omega (arith, luma-long, scoring-knows s c R .placed .grid-most))
 
-  unmasked-list : unmaskedCard s c .list ≡ unmasked (s .mask) (s .xs) (s .ys) (s .grid) (scoredCard s c .luma)
-  unmasked-list = unmasked-is s c R ∙ ap (unmasked (s .mask) (s .xs) (s .ys) (s .grid)) passed-over
+  unmasked-list : unmaskedCard s c .list ≡ unmasked (s .mask) (s .xs) (s .ys) (s .layout .grid) (scoredCard s c .luma)
+  unmasked-list = unmasked-is s c R ∙ ap (unmasked (s .mask) (s .xs) (s .ys) (s .layout .grid)) passed-over
 
   unmasked-long : modules s ≤ length (unmaskedCard s c .list)
   unmasked-long = rw unmasked-list (omega (arith, turned .long, luma-long))
 
-  read-unmasked : (i : ℕ) → i < modules s → (b : Bool) → ltb i (s .grid) ≡ b → reads (getD (unmaskedCard s c .list) i nan) ≡ bitOf (isOne (getD (c .bits) i 0))
+  read-unmasked : (i : ℕ) → i < modules s → (b : Bool) → ltb i (s .layout .grid) ≡ b → reads (getD (unmaskedCard s c .list) i nan) ≡ bitOf (isOne (getD (c .bits) i 0))
   read-unmasked i h true e =
-      let g = ltb-true i (s .grid) e in
+      let g = ltb-true i (s .layout .grid) e in
       ap (λ (l : List Float). reads (getD l i nan)) unmasked-list ∙ ap reads (turned .done i g ∙ ap (unmaskAt (s .mask) (s .xs) (s .ys) i) (luma-at i h)) ∙
-      read-grid (c .bits) (s .xs) (s .ys) (s .grid) (s .mask) i (scoreOf i) (clearly i h .says) g
+      read-grid (c .bits) (s .xs) (s .ys) (s .layout .grid) (s .mask) i (scoreOf i) (clearly i h .says) g
   read-unmasked i h false e =
-      let g = ltb-false i (s .grid) e in
+      let g = ltb-false i (s .layout .grid) e in
       ap (λ (l : List Float). reads (getD l i nan)) unmasked-list ∙ ap reads (turned .kept i g ∙ luma-at i h) ∙
-      read-ring-luma (c .bits) (s .xs) (s .ys) (s .grid) (s .mask) i (scoreOf i) (clearly i h .says) g
+      read-ring-luma (c .bits) (s .xs) (s .ys) (s .layout .grid) (s .mask) i (scoreOf i) (clearly i h .says) g
 
   -- reading
   pub luma-bit : (i : ℕ) → i < modules s → getD (lumaRead s c .list) i 0 ≡ bitOf (isOne (getD (c .bits) i 0))
-  luma-bit i h = read-at (unmaskedCard s c .list) (c .lumaBits) (R .accepted .luma) i (omega (arith, unmasked-long)) ∙ read-unmasked i h (ltb i (s .grid)) refl
+  luma-bit i h = read-at (unmaskedCard s c .list) (c .lumaBits) (R .accepted .luma) i (omega (arith, unmasked-long)) ∙ read-unmasked i h (ltb i (s .layout .grid)) refl
 
   pub luma-bits : modules s ≤ length (lumaRead s c .list)
   luma-bits = omega (arith, read-long (unmaskedCard s c .list) (c .lumaBits) (R .accepted .luma), unmasked-long)

@@ -19,6 +19,7 @@ use Rattle.loops.specs.Loops.{someOf, anyUp, turns, forUp}
 use Rattle.limits.specs.Limits.{badSide, badHues, badCellSize, badModules, badCounts, badCell}
 use Rattle.limits.specs.Chroma.{halvings, log2, weighted, symbolBits, chromaEntries, chromaLength}
 use Rattle.places.specs.Places.{outside, misplaced}
+use Rattle.layout.specs.Groups.{shape, modulePlacement, badPositions, placement}
 use Rattle.floatlaws.specs.Value.{mag, hi, lo}
 use Rattle.float.specs.Select.{abs, max, min, clamp}
 use Rattle.float.specs.Root.{digits, iroot, rootOfUnits, sqrtOf, cbrtOf}
@@ -32,7 +33,6 @@ use Rattle.modulate.specs.Gray.{gray, xorShifts, grayInverse, chromaSymbolToHue
 use Rattle.modulate.specs.Mask.{maskRules, lumaMask, chromaRotation, chromaMaskApply, chromaMaskRemove}
 use Rattle.modulate.specs.Score.{unmaskedHue, symbolBit, bitOfHue, bettered, bitLlr, maskedAt, unmaskAt, badLumaLengths, unmaskSentences, unmaskLumaOf}
 use Rattle.modulate.specs.Read.{readSentences, readListOf}
-use Rattle.modulate.specs.Draw as drawing
 use Rattle.modulate.specs.Draw.{isOne, bitOf, gridLevel, ringLevel, pushBit, cellHue, ringHue, levelAt, hueAt, drawnHues, shortBits, shortHues, badDrawLengths, drawSentences, drawOf}
 use Rattle.stats.specs.Noise.{between, sigmaAbAt, lumaLlr, distance, closer, weight, reliability, denominator, hueLogLikelihood, putLikelihood}
 use Rattle.stats.specs.Margin.{levelFits, colourFits, levelsFit, sigmasFit, darkClear, lightClear, near, far, otherFar, apart, hueClear, chromaClear, inMargin}
@@ -73,10 +73,7 @@ plainPalette = n 0 ∷ n 100 ∷ n 0 ∷ n 0 ∷ n 0 ∷ n 0 ∷ n 0 ∷ n 100 �
 abbrev pub plain : Setting
 plain =
     record {
-      side = 21;
-      hues = 1;
-      size = 1;
-      grid = 2;
+      layout = record { side = 21; hues = 1; size = 1; grid = 2 };
       xs = pos 0 ∷ pos 1 ∷ [];
       ys = pos 0 ∷ pos 0 ∷ [];
       cxs = [];
@@ -123,7 +120,7 @@ unfolding fits fraction round levelL
 plain-singles = record { palette = each-fits plainPalette plain-fits; l0 = tt; l1 = tt; sigma-l = tt; sigma-ab = tt; sigma-ab-dark = tt; sigma-ab-light = tt }
 
 pub plain-meets : InMargin plain × Readable plain plainCard
-unfolding add sub mul div neg lt le eq round isNan fraction abs max min clamp refusal decided someOf anyUp turns forUp stats.sentencesOf badHues shortPalette badNumbers wild badNoiseNumbers wildFigure badSigmas badLevelSigma levelL hueAb paletteLab inMargin levelsFit levelFits colourFits sigmasFit darkClear lightClear lumaLlr chromaClear chromaOn hueClear apart near far otherFar sigmaAbAt between drawOf drawSentences badSide badCellSize badDrawLengths shortBits shortHues chromaLength symbolBits log2 halvings chromaEntries badCounts badModules drawing.badPositions misplaced outside badCell levelAt gridLevel ringLevel xor isOne bitOf lumaMask maskRules drawnHues hueAt pushBit cellHue ringHue chromaMaskApply chromaRotation chromaSymbolToHue grayInverse xorShifts unitModel moduleColour cellColour centre cellCentre ofInt linearAt mixed unshaded affineRow basisAt normalised termsUsed addTerm isHeld holdGain leastGain deshade toSingle linearToXyz xyzToLab lightness labF line cbrtOf digits iroot rootOfUnits mag scoredOf scoring.sentencesOf badLengths badModuleLengths badCellLengths shortChroma scoring.badPositions badInputs badCorrected wildLinear badModel badShape badTerms badModelSide notFiniteModel notFiniteAffine notFiniteGains notFiniteFlares toUnsigned writeModule lumaScore weighted weighed reliability closer distance weight sqrtOf chromaWritten ringChroma writeCell writeRing writeEntry putScore chromaScore putLikelihood hueLogLikelihood denominator bitLlr bettered bitOfHue symbolBit unmaskedHue hueToChromaSymbol gray chromaMaskRemove refineOf refinement.sentencesOf shortSlices wildNumbers refinedOf refined refineAt placeAt unmaskLumaOf unmaskSentences badLumaLengths unmaskAt maskedAt readListOf readSentences halfSigma halfApart hi lo paletteColour carriesChroma
+unfolding add sub mul div neg lt le eq round isNan fraction abs max min clamp refusal decided someOf anyUp turns forUp stats.sentencesOf badHues shortPalette badNumbers wild badNoiseNumbers wildFigure badSigmas badLevelSigma levelL hueAb paletteLab inMargin levelsFit levelFits colourFits sigmasFit darkClear lightClear lumaLlr chromaClear chromaOn hueClear apart near far otherFar sigmaAbAt between drawOf drawSentences badSide badCellSize badDrawLengths shortBits shortHues chromaLength symbolBits log2 halvings chromaEntries shape placement modulePlacement badCounts badModules badPositions misplaced outside badCell levelAt gridLevel ringLevel xor isOne bitOf lumaMask maskRules drawnHues hueAt pushBit cellHue ringHue chromaMaskApply chromaRotation chromaSymbolToHue grayInverse xorShifts unitModel moduleColour cellColour centre cellCentre ofInt linearAt mixed unshaded affineRow basisAt normalised termsUsed addTerm isHeld holdGain leastGain deshade toSingle linearToXyz xyzToLab lightness labF line cbrtOf digits iroot rootOfUnits mag scoredOf scoring.sentencesOf badLengths badModuleLengths badCellLengths shortChroma badInputs badCorrected wildLinear badModel badShape badTerms badModelSide notFiniteModel notFiniteAffine notFiniteGains notFiniteFlares toUnsigned writeModule lumaScore weighted weighed reliability closer distance weight sqrtOf chromaWritten ringChroma writeCell writeRing writeEntry putScore chromaScore putLikelihood hueLogLikelihood denominator bitLlr bettered bitOfHue symbolBit unmaskedHue hueToChromaSymbol gray chromaMaskRemove refineOf refinement.sentencesOf shortSlices wildNumbers refinedOf refined refineAt placeAt unmaskLumaOf unmaskSentences badLumaLengths unmaskAt maskedAt readListOf readSentences halfSigma halfApart hi lo paletteColour carriesChroma
 plain-meets = (
   refl,
   record {
@@ -142,10 +139,7 @@ colouredPalette = n 0 ∷ n 100 ∷ n 0 ∷ n 0 ∷ n 100 ∷ n 0 ∷ n 0 ∷ n 
 abbrev pub coloured : Setting
 coloured =
     record {
-      side = 21;
-      hues = 2;
-      size = 1;
-      grid = 1;
+      layout = record { side = 21; hues = 2; size = 1; grid = 1 };
       xs = pos 0 ∷ negsuc 0 ∷ [];
       ys = pos 0 ∷ pos 0 ∷ [];
       cxs = 1 ∷ [];
@@ -182,7 +176,7 @@ unfolding fits fraction round levelL
 coloured-singles = record { palette = each-fits colouredPalette coloured-fits; l0 = tt; l1 = tt; sigma-l = tt; sigma-ab = tt; sigma-ab-dark = tt; sigma-ab-light = tt }
 
 pub coloured-meets : InMargin coloured × Readable coloured colouredCard
-unfolding add sub mul div neg lt le eq round isNan fraction abs max min clamp refusal decided someOf anyUp turns forUp stats.sentencesOf badHues shortPalette badNumbers wild badNoiseNumbers wildFigure badSigmas badLevelSigma levelL hueAb paletteLab inMargin levelsFit levelFits colourFits sigmasFit darkClear lightClear lumaLlr chromaClear chromaOn hueClear apart near far otherFar sigmaAbAt between drawOf drawSentences badSide badCellSize badDrawLengths shortBits shortHues chromaLength symbolBits log2 halvings chromaEntries badCounts badModules drawing.badPositions misplaced outside badCell levelAt gridLevel ringLevel xor isOne bitOf lumaMask maskRules drawnHues hueAt pushBit cellHue ringHue chromaMaskApply chromaRotation chromaSymbolToHue grayInverse xorShifts unitModel moduleColour cellColour centre cellCentre ofInt linearAt mixed unshaded affineRow basisAt normalised termsUsed addTerm isHeld holdGain leastGain deshade toSingle linearToXyz xyzToLab lightness labF line cbrtOf digits iroot rootOfUnits mag scoredOf scoring.sentencesOf badLengths badModuleLengths badCellLengths shortChroma scoring.badPositions badInputs badCorrected wildLinear badModel badShape badTerms badModelSide notFiniteModel notFiniteAffine notFiniteGains notFiniteFlares toUnsigned writeModule lumaScore weighted weighed reliability closer distance weight sqrtOf chromaWritten ringChroma writeCell writeRing writeEntry putScore chromaScore putLikelihood hueLogLikelihood denominator bitLlr bettered bitOfHue symbolBit unmaskedHue hueToChromaSymbol gray chromaMaskRemove refineOf refinement.sentencesOf shortSlices wildNumbers refinedOf refined refineAt placeAt unmaskLumaOf unmaskSentences badLumaLengths unmaskAt maskedAt readListOf readSentences halfSigma halfApart hi lo paletteColour carriesChroma
+unfolding add sub mul div neg lt le eq round isNan fraction abs max min clamp refusal decided someOf anyUp turns forUp stats.sentencesOf badHues shortPalette badNumbers wild badNoiseNumbers wildFigure badSigmas badLevelSigma levelL hueAb paletteLab inMargin levelsFit levelFits colourFits sigmasFit darkClear lightClear lumaLlr chromaClear chromaOn hueClear apart near far otherFar sigmaAbAt between drawOf drawSentences badSide badCellSize badDrawLengths shortBits shortHues chromaLength symbolBits log2 halvings chromaEntries shape placement modulePlacement badCounts badModules badPositions misplaced outside badCell levelAt gridLevel ringLevel xor isOne bitOf lumaMask maskRules drawnHues hueAt pushBit cellHue ringHue chromaMaskApply chromaRotation chromaSymbolToHue grayInverse xorShifts unitModel moduleColour cellColour centre cellCentre ofInt linearAt mixed unshaded affineRow basisAt normalised termsUsed addTerm isHeld holdGain leastGain deshade toSingle linearToXyz xyzToLab lightness labF line cbrtOf digits iroot rootOfUnits mag scoredOf scoring.sentencesOf badLengths badModuleLengths badCellLengths shortChroma badInputs badCorrected wildLinear badModel badShape badTerms badModelSide notFiniteModel notFiniteAffine notFiniteGains notFiniteFlares toUnsigned writeModule lumaScore weighted weighed reliability closer distance weight sqrtOf chromaWritten ringChroma writeCell writeRing writeEntry putScore chromaScore putLikelihood hueLogLikelihood denominator bitLlr bettered bitOfHue symbolBit unmaskedHue hueToChromaSymbol gray chromaMaskRemove refineOf refinement.sentencesOf shortSlices wildNumbers refinedOf refined refineAt placeAt unmaskLumaOf unmaskSentences badLumaLengths unmaskAt maskedAt readListOf readSentences halfSigma halfApart hi lo paletteColour carriesChroma
 coloured-meets = (
   refl,
   record {

@@ -14,6 +14,7 @@ use lib.Seq.{getD-set-same, getD-set-other}
 use lib.Ieee.{Float, nan}
 use Rattle.loops.proofs.Laws.{forUp-to}
 use Rattle.limits.specs.Chroma.{chromaOn, symbolBits, chromaEntries}
+use Rattle.layout.specs.declared.Layout.{Layout}
 use Rattle.color.specs.declared.Linear.{Linear}
 use Rattle.color.specs.Color.{linearToLab}
 use Rattle.modulate.specs.declared.Cell.{Cell}
@@ -65,7 +66,13 @@ module _ (n : ChannelStats) (palette : List Float) (hues : ℕ) (cell : ℕ → 
       }
 
 -- the cells, then, at cell size 1, the ring modules
-module _ (n : ChannelStats) (palette : List Float) (hues size grid : ℕ) (modules : ℕ → Linear) (m : ℕ) (cxs cys : List ℕ) (cells : ℕ → Linear) (chroma : List Float) where
+module _ (layout : Layout) (n : ChannelStats) (palette : List Float) (modules : ℕ → Linear) (m : ℕ) (cxs cys : List ℕ) (cells : ℕ → Linear) (chroma : List Float) where
+  abbrev hues : ℕ
+  hues = layout .hues
+
+  abbrev grid : ℕ
+  grid = layout .grid
+
   abbrev pub cellOf : ℕ → Cell
   cellOf e = cond (ltb e (length cxs)) (At (getD cxs e 0) (getD cys e 0)) Unmasked
 
@@ -120,7 +127,7 @@ module _ (n : ChannelStats) (palette : List Float) (hues size grid : ℕ) (modul
       nought = omega arith
 
   -- with chroma on, every entry of the chroma list
-  pub chroma-done : chromaOn hues ≡ true → grid ≤ m → chromaEntries (length cxs) (m - grid) size * symbolBits hues ≤ length chroma →
-      Filled n palette hues cellOf colourOf chroma (chromaEntries (length cxs) (m - grid) size) (chromaWritten n palette hues size grid modules m cxs cys cells chroma)
+  pub chroma-done : chromaOn hues ≡ true → grid ≤ m → chromaEntries (length cxs) (m - grid) (layout .size) * symbolBits hues ≤ length chroma →
+      Filled n palette hues cellOf colourOf chroma (chromaEntries (length cxs) (m - grid) (layout .size)) (chromaWritten layout n palette modules m cxs cys cells chroma)
   unfolding chromaWritten ringChroma chromaEntries
-  chroma-done on g l = rw on (by-size (eqb size 1) g l)
+  chroma-done on g l = rw on (by-size (eqb (layout .size) 1) g l)

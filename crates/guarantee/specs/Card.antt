@@ -8,6 +8,7 @@ use lib.IntN.{ℤ}
 use lib.ListN.{length, take}
 use lib.Ieee.{Float}
 use Rattle.limits.specs.Chroma.{chromaOn, ringModules, chromaLength}
+use Rattle.layout.specs.declared.Layout.{Layout}
 use Rattle.color.specs.declared.Lab.{Lab}
 use Rattle.color.specs.Color.{linearToLab}
 use Rattle.color.specs.Palette.{paletteLab}
@@ -27,10 +28,7 @@ use Rattle.refine.specs.Calls.{refineOf}
 
 -- what two cards share: "Two cards are of one layout when side, hues, cell size, grid module count, module positions and cell coordinates are equal, entry by entry", and the palette, mask, model and noise record
 pub record Setting : Type 0 where
-  pub side : ℕ
-  pub hues : ℕ
-  pub size : ℕ
-  pub grid : ℕ
+  pub layout : Layout
   pub xs : List ℤ
   pub ys : List ℤ
   pub cxs : List ℕ
@@ -59,12 +57,12 @@ abbrev pub modules : Setting → ℕ
 modules s = length (s .xs)
 
 abbrev pub chromaScores : Setting → ℕ
-chromaScores s = chromaLength (s .hues) (length (s .cxs)) (ringModules (modules s) (s .grid)) (s .size)
+chromaScores s = chromaLength (s .layout .hues) (length (s .cxs)) (ringModules (modules s) (s .layout .grid)) (s .layout .size)
 
 -- ---- the calls, each handed what the one before it left
 
 abbrev pub toDraw : Setting → Card → drawing.Card
-toDraw s c = drawing.card (c .bits) (s .side) (s .hues) (s .size) (s .xs) (s .ys) (s .grid) (s .cxs) (s .cys) (s .mask) (c .levels) (c .drawn)
+toDraw s c = drawing.card (c .bits) (s .layout) (s .xs) (s .ys) (s .cxs) (s .cys) (s .mask) (c .levels) (c .drawn)
 
 abbrev pub drawnCard : Setting → Card → Drawn
 drawnCard s c = drawOf (toDraw s c)
@@ -72,7 +70,7 @@ drawnCard s c = drawOf (toDraw s c)
 -- "scoring corrects them by the model"
 abbrev pub toScore : Setting → Card → scoring.Request
 toScore s c =
-    scoring.request (s .side) (s .hues) (s .size) (s .xs) (s .ys) (s .grid) (c .raw) (s .cxs) (s .cys) (c .craw) (s .palette) (s .model) (s .noise) (c .luma) (c .colours) (c .chroma)
+    scoring.request (s .layout) (s .xs) (s .ys) (c .raw) (s .cxs) (s .cys) (c .craw) (s .palette) (s .model) (s .noise) (c .luma) (c .colours) (c .chroma)
 
 abbrev pub scoredCard : Setting → Card → scoring.Final
 scoredCard s c = scoredOf (toScore s c)
@@ -80,14 +78,14 @@ scoredCard s c = scoredOf (toScore s c)
 -- "refinement takes the luma scores that scoring left"
 abbrev pub toRefine : Setting → Card → refinement.Request
 toRefine s c =
-    refinement.request (scoredCard s c .luma) (s .side) (s .hues) (s .xs) (s .ys) (s .grid) (scoredCard s c .colours) (s .palette) (s .noise) (c .scratch)
+    refinement.request (scoredCard s c .luma) (s .layout .side) (s .layout .hues) (s .xs) (s .ys) (s .layout .grid) (scoredCard s c .colours) (s .palette) (s .noise) (c .scratch)
 
 abbrev pub refinedCard : Setting → Card → refinement.Final
 refinedCard s c = refineOf (toRefine s c)
 
 -- "unmasking those that refinement left"
 abbrev pub unmaskedCard : Setting → Card → Ended Float
-unmaskedCard s c = unmaskLumaOf (refinedCard s c .luma) (s .side) (s .xs) (s .ys) (s .grid) (s .mask)
+unmaskedCard s c = unmaskLumaOf (refinedCard s c .luma) (s .layout .side) (s .xs) (s .ys) (s .layout .grid) (s .mask)
 
 -- "and reading takes these and the chroma scores"
 abbrev pub lumaRead : Setting → Card → Ended ℕ
@@ -118,16 +116,16 @@ abbrev pub moduleLab : Setting → Card → ℕ → Lab
 moduleLab s c i = linearToLab (moduleColour (s .model) (s .xs) (s .ys) (c .raw) i)
 
 abbrev pub cellLab : Setting → Card → ℕ → Lab
-cellLab s c j = linearToLab (cellColour (s .model) (s .size) (s .cxs) (s .cys) (c .craw) j)
+cellLab s c j = linearToLab (cellColour (s .model) (s .layout .size) (s .cxs) (s .cys) (c .craw) j)
 
 -- "The palette holds dark colours by hue, then light ones": the colour of a level, 0 for dark and 1 for light, and a hue
 unfoldable pub paletteColour : Setting → ℕ → ℕ → Lab
-paletteColour s level hue = paletteLab (s .palette) (s .hues) (level * s .hues + hue)
+paletteColour s level hue = paletteLab (s .palette) (s .layout .hues) (level * s .layout .hues + hue)
 
 -- "ring modules carry chroma only at cell size 1", and with chroma on
 unfoldable pub carriesChroma : Setting → ℕ → Bool
-carriesChroma s i = chromaOn (s .hues) && (eqb (s .size) 1 && leb (s .grid) i)
+carriesChroma s i = chromaOn (s .layout .hues) && (eqb (s .layout .size) 1 && leb (s .layout .grid) i)
 
 -- the place of a ring module in the chroma list, "listed after the cells"
 abbrev pub ringPlace : Setting → ℕ → ℕ
-ringPlace s i = length (s .cxs) + (i - s .grid)
+ringPlace s i = length (s .cxs) + (i - s .layout .grid)

@@ -26,7 +26,7 @@ pub record Singles (s : Setting) : Type 0 where
 -- module i is within half a sigma of its drawn colour: "A module's drawn colour is a palette colour of its level, and of its hue too where a ring module carries chroma"
 pub record NearModule (s : Setting) (c : Card) (i : ℕ) : Type 0 where
   pub hue : ℕ
-  pub below : hue < s .hues
+  pub below : hue < s .layout .hues
   pub own : carriesChroma s i ≡ true → hue ≡ getD (drawnCard s c .hues) (ringPlace s i) 0
   pub near : halfSigma (s .noise) (moduleLab s c i) (paletteColour s (getD (drawnCard s c .levels) i 0) hue) ≡ true
 
@@ -41,7 +41,7 @@ pub record Readable (s : Setting) (c : Card) : Type 0 where
   pub drawing : drawnCard s c .answer ≡ outcome.Done
   pub accepted : Accepted s c
   pub module-near : (i : ℕ) → i < modules s → NearModule s c i
-  pub cell-near : chromaOn (s .hues) ≡ true → (j : ℕ) → j < length (s .cxs) → NearCell s c j
+  pub cell-near : chromaOn (s .layout .hues) ≡ true → (j : ℕ) → j < length (s .cxs) → NearCell s c j
 
 -- "the bits read are the bits drawn, place for place, with equal lengths"
 pub record ReadAsDrawn (s : Setting) (c : Card) : Type 0 where
@@ -51,7 +51,7 @@ pub record ReadAsDrawn (s : Setting) (c : Card) : Type 0 where
 
 -- the margin check says yes, so it is not refused
 abbrev pub InMargin : Setting → Type 0
-InMargin s = marginAnswer (s .noise) (s .palette) (s .hues) ≡ verdict.Yes
+InMargin s = marginAnswer (s .noise) (s .palette) (s .layout .hues) ≡ verdict.Yes
 
 -- the guarantee
 pub record Guaranteed (s : Setting) (a b : Card) : Type 0 where

@@ -1,33 +1,28 @@
 -- What drawing answers by the number that its sentences give, and what holds of a card that is drawn: each sentence's opposite. Assumes nothing.
 use mathlib.Core.Path.{_≡_, refl, sym, ap, _∙_}
-use mathlib.Core.Bool.{Bool, true, false}
-use mathlib.Core.List.{List}
+use mathlib.Core.Bool.{true}
+use mathlib.Core.List.{[], _∷_}
 use Prim.Native.Nat.{ℕ, zero, suc, _≤_, _<_}
 use native.Mathlib.Omega.{arith}
 use lib.ListN.{length, getD}
 use Rattle.sentences.specs.Sentences.{refusal, decided, at, sound, fresh}
-use Rattle.sentences.proofs.Laws.{refuses, accepts, neither}
-use Rattle.places.specs.Places.{badPlaces}
-use Rattle.limits.specs.Limits.{badHues, badCells}
+use Rattle.sentences.proofs.Laws.{refuses, accepts, split}
 use Rattle.limits.specs.Chroma.{chromaOn}
-use Rattle.limits.proofs.Laws.{side-in, cell-size-in, counts-in}
+use Rattle.layout.specs.Groups.{shape, placement, Shaped, Placed}
+use Rattle.layout.proofs.Laws.{shape-sound, shaped, placed}
 use Rattle.answers.specs.declared.Outcome.the-variants.{Refused, Done}
 use Rattle.answers.specs.Answers.{outcomeNumber}
-use Rattle.modulate.specs.Draw.{Card, notDrawn, drawn, levelAt, levelAtOf, hueAt, hueAtOf, entriesOf, drawnHues, levelsOf, huesOf, badPositions, drawSentences, drawOf}
+use Rattle.modulate.specs.Draw.{Card, notDrawn, drawn, levelAt, levelAtOf, hueAt, hueAtOf, entriesOf, drawnHues, levelsOf, huesOf, drawSentences, drawOf}
 use Rattle.answers.proofs.Answers.{none-of}
 use Rattle.lists.proofs.Laws.{reached}
 use Rattle.modulate.proofs.Lengths.{DrawLengths, draw-lengths, bits-long, hues-long}
 
 -- no sentence holds
 pub record Accepted (q : Card) : Type 0 where
-  pub side-most : q .side ≤ 1024
-  pub hues-good : badHues (q .hues) ≡ false
-  pub size-in : (1 ≤ q .size) × (q .size ≤ 16)
-  pub lengths : DrawLengths (length (q .bits)) (q .hues) (q .size) (length (q .xs)) (length (q .ys)) (q .grid) (length (q .cxs)) (length (q .cys)) (length (q .levels)) (length (q .drawn))
+  pub shaped : Shaped (q .layout)
+  pub lengths : DrawLengths (q .bits) (q .layout) (q .xs) (q .ys) (q .cxs) (q .cys) (q .levels) (q .drawn)
   pub modules-bits : length (q .xs) ≤ length (q .bits)
-  pub counts : (length (q .xs) ≤ 1048576) × (q .grid ≤ length (q .xs)) × (length (q .cxs) ≤ 1048576)
-  pub placed : badPlaces (q .side) (q .grid) (q .xs) (q .ys) ≡ false
-  pub cells-in : badCells (q .cxs) (q .cys) ≡ false
+  pub placed : Placed (q .layout) (q .xs) (q .ys) (q .cxs) (q .cys)
 
 module _ (q : Card) (n : ℕ) (e : n ≡ refusal (drawSentences q)) where
   pub not-drawn : (n ≡ 0 → ⊥) → notDrawn q n ≡ drawOf q
@@ -39,30 +34,28 @@ module _ (q : Card) (n : ℕ) (e : n ≡ refusal (drawSentences q)) where
     unfolding drawOf
     all-drawn = accepts (notDrawn q) (drawn Done (levelsOf q) (huesOf q)) n (refusal (drawSentences q)) z e
 
-    none : (m : ℕ) → at m (drawSentences q) ≡ false
+    -- the two groups are passed
+    is-shaped : Shaped (q .layout)
+    unfolding drawSentences
+    is-shaped = shaped (q .layout) 0 (split (shape (q .layout)) _ (shape-sound (q .layout)) (sym z ∙ e) .0) refl
+
+    is-placed : Placed (q .layout) (q .xs) (q .ys) (q .cxs) (q .cys)
     unfolding drawSentences sound fresh
-    none m = none-of (drawSentences q) refl n e z m
+    is-placed =
+        let past-shape = split (shape (q .layout)) _ (shape-sound (q .layout)) (sym z ∙ e) .1 in
+        placed (q .layout) (q .xs) (q .ys) (q .cxs) (q .cys) 0 (split (_ ∷ []) _ refl past-shape .1) refl
 
-    positions : (badPlaces (q .side) (q .grid) (q .xs) (q .ys) ≡ false) × (badCells (q .cxs) (q .cys) ≡ false)
-    unfolding drawSentences badPositions at
-    positions = neither (badPlaces (q .side) (q .grid) (q .xs) (q .ys)) (badCells (q .cxs) (q .cys)) (none 7)
-
-    lengths-in : DrawLengths (length (q .bits)) (q .hues) (q .size) (length (q .xs)) (length (q .ys)) (q .grid) (length (q .cxs)) (length (q .cys)) (length (q .levels)) (length (q .drawn))
-    unfolding drawSentences at
-    lengths-in = draw-lengths (length (q .bits)) (q .hues) (q .size) (length (q .xs)) (length (q .ys)) (q .grid) (length (q .cxs)) (length (q .cys)) (length (q .levels)) (length (q .drawn)) (none 5)
+    long : DrawLengths (q .bits) (q .layout) (q .xs) (q .ys) (q .cxs) (q .cys) (q .levels) (q .drawn)
+    unfolding drawSentences shape placement sound fresh at
+    long = draw-lengths (q .bits) (q .layout) (q .xs) (q .ys) (q .cxs) (q .cys) (q .levels) (q .drawn) (none-of (drawSentences q) refl n e z 5)
 
     pub accepted : Accepted q
-    unfolding drawSentences at
     accepted =
         record {
-          side-most = side-in (q .side) (none 2) .1;
-          hues-good = none 3;
-          size-in = cell-size-in (q .size) (none 4);
-          lengths = lengths-in;
-          modules-bits = omega (arith, bits-long (length (q .bits)) (q .hues) (q .size) (length (q .xs)) (q .grid) (length (q .cxs)) (lengths-in .bits-in));
-          counts = counts-in (length (q .xs)) (q .grid) (length (q .cxs)) (none 6);
-          placed = positions .0;
-          cells-in = positions .1;
+          shaped = is-shaped;
+          lengths = long;
+          modules-bits = omega (arith, bits-long (length (q .bits)) (q .layout) (length (q .xs)) (length (q .cxs)) (long .bits-in));
+          placed = is-placed;
         }
 
 -- ---- for callers: what a drawn card is, element by element
@@ -70,9 +63,9 @@ module _ (q : Card) (n : ℕ) (e : n ≡ refusal (drawSentences q)) where
 pub record IsDrawn (q : Card) : Type 0 where
   pub fit : Accepted q
   pub left : drawOf q ≡ drawn Done (levelsOf q) (huesOf q)
-  pub level : (i : ℕ) → i < length (q .xs) → getD (levelsOf q) i 0 ≡ levelAt (q .bits) (q .xs) (q .ys) (q .grid) (q .mask) i
-  pub hue : chromaOn (q .hues) ≡ true → (j : ℕ) → j < entriesOf (length (q .xs)) (q .grid) (length (q .cxs)) (q .size) →
-      getD (huesOf q) j 0 ≡ hueAt (q .bits) (q .hues) (length (q .xs)) (q .cxs) (q .cys) j
+  pub level : (i : ℕ) → i < length (q .xs) → getD (levelsOf q) i 0 ≡ levelAt (q .bits) (q .xs) (q .ys) (q .layout .grid) (q .mask) i
+  pub hue : chromaOn (q .layout .hues) ≡ true → (j : ℕ) → j < entriesOf (q .layout) (length (q .xs)) (length (q .cxs)) →
+      getD (huesOf q) j 0 ≡ hueAt (q .bits) (q .layout .hues) (length (q .xs)) (q .cxs) (q .cys) j
 
 matches : (q : Card) (n : ℕ) → outcomeNumber (decided n (notDrawn q) (drawn Done (levelsOf q) (huesOf q)) .answer) ≡ n
 unfolding decided
@@ -84,17 +77,17 @@ module _ (q : Card) where
   unfolding drawOf
   number-is = matches q (refusal (drawSentences q))
 
-  level-is : Accepted q → (i : ℕ) → i < length (q .xs) → getD (levelsOf q) i 0 ≡ levelAt (q .bits) (q .xs) (q .ys) (q .grid) (q .mask) i
-  level-is a i h = reached 0 (levelAtOf (q .bits) (q .xs) (q .ys) (q .grid) (q .mask)) (q .levels) (length (q .xs)) (a .lengths .levels-in) .done i h
+  level-is : Accepted q → (i : ℕ) → i < length (q .xs) → getD (levelsOf q) i 0 ≡ levelAt (q .bits) (q .xs) (q .ys) (q .layout .grid) (q .mask) i
+  level-is a i h = reached 0 (levelAtOf (q .bits) (q .xs) (q .ys) (q .layout .grid) (q .mask)) (q .levels) (length (q .xs)) (a .lengths .levels-in) .done i h
 
-  hue-is : Accepted q → chromaOn (q .hues) ≡ true → (j : ℕ) → j < entriesOf (length (q .xs)) (q .grid) (length (q .cxs)) (q .size) →
-      getD (huesOf q) j 0 ≡ hueAt (q .bits) (q .hues) (length (q .xs)) (q .cxs) (q .cys) j
+  hue-is : Accepted q → chromaOn (q .layout .hues) ≡ true → (j : ℕ) → j < entriesOf (q .layout) (length (q .xs)) (length (q .cxs)) →
+      getD (huesOf q) j 0 ≡ hueAt (q .bits) (q .layout .hues) (length (q .xs)) (q .cxs) (q .cys) j
   unfolding drawnHues
   hue-is a on j h =
-      let e = entriesOf (length (q .xs)) (q .grid) (length (q .cxs)) (q .size) in
+      let e = entriesOf (q .layout) (length (q .xs)) (length (q .cxs)) in
       rw on
-      (reached 0 (hueAtOf (q .bits) (q .hues) (length (q .xs)) (q .cxs) (q .cys)) (q .drawn) e
-      (hues-long (length (q .drawn)) (q .hues) (q .size) (length (q .xs)) (q .grid) (length (q .cxs)) (a .lengths .hues-in) on) .done j h)
+      (reached 0 (hueAtOf (q .bits) (q .layout .hues) (length (q .xs)) (q .cxs) (q .cys)) (q .drawn) e
+      (hues-long (length (q .drawn)) (q .layout) (length (q .xs)) (length (q .cxs)) (a .lengths .hues-in) on) .done j h)
 
   pub drawn-done : drawOf q .answer ≡ Done → IsDrawn q
   drawn-done h =

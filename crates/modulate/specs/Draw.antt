@@ -1,15 +1,16 @@
 -- Drawing (document 01, "Drawing, reading, margin"): the level of each module and the hue of each cell, from a card's bits. Definitions only.
-use mathlib.Core.Bool.{Bool, true, false, not, cond, xor, _||_}
-use mathlib.Core.List.{List, [], _∷_}
+use mathlib.Core.Bool.{Bool, false, not, cond, xor, _||_}
+use mathlib.Core.List.{List, [], _∷_, _++_}
 use Prim.Native.Nat.{ℕ, _+_, _*_}
 use lib.Dec.{ltb, eqb}
 use lib.IntN.{ℤ}
 use lib.ListN.{length, getD}
 use Rattle.loops.specs.Loops.{forUp}
 use Rattle.sentences.specs.Sentences.{Sentence, _when_, refusal, decided}
-use Rattle.places.specs.Places.{badPlaces}
-use Rattle.limits.specs.Limits.{badSide, badHues, badCellSize, badCounts, badCells}
+use Rattle.limits.specs.Limits.{badHues}
 use Rattle.limits.specs.Chroma.{log2, chromaOn, symbolBits, ringModules, chromaEntries, chromaLength}
+use Rattle.layout.specs.declared.Layout.{Layout}
+use Rattle.layout.specs.Groups.{shape, placement}
 use Rattle.answers.specs.declared.Outcome.{Outcome}
 use Rattle.answers.specs.declared.Outcome.the-variants.{Refused, Done}
 use Rattle.answers.specs.Answers.{outcomeNumber}
@@ -77,59 +78,54 @@ hueAt bits k m cxs cys j =
 abbrev pub hueAtOf : List ℕ → ℕ → ℕ → List ℕ → List ℕ → ℕ → ℕ → ℕ
 hueAtOf bits k m cxs cys j h = hueAt bits k m cxs cys j
 
--- the places of a card's chroma list
-abbrev pub entriesOf : ℕ → ℕ → ℕ → ℕ → ℕ
-entriesOf m g c size = chromaEntries c (ringModules m g) size
+-- the places of a card's chroma list, of m modules and c cells
+abbrev pub entriesOf : Layout → ℕ → ℕ → ℕ
+entriesOf l m c = chromaEntries c (ringModules m (l .grid)) (l .size)
 
 -- with chroma off nothing
-unfoldable pub drawnHues : List ℕ → ℕ → ℕ → ℕ → ℕ → List ℕ → List ℕ → List ℕ → List ℕ
-drawnHues bits k size m g cxs cys hues =
-    cond (chromaOn k) (replaced 0 (entriesOf m g (length cxs) size) (hueAtOf bits k m cxs cys) hues) hues
+unfoldable pub drawnHues : List ℕ → Layout → ℕ → List ℕ → List ℕ → List ℕ → List ℕ
+drawnHues bits l m cxs cys hues =
+    cond (chromaOn (l .hues)) (replaced 0 (entriesOf l m (length cxs)) (hueAtOf bits (l .hues) m cxs cys) hues) hues
 
 -- ---- the call
 
+-- what it is handed
 pub record Card : Type 0 where
   pub bits : List ℕ
-  pub side : ℕ
-  pub hues : ℕ
-  pub size : ℕ
+  pub layout : Layout
   pub xs : List ℤ
   pub ys : List ℤ
-  pub grid : ℕ
   pub cxs : List ℕ
   pub cys : List ℕ
   pub mask : ℕ
   pub levels : List ℕ
   pub drawn : List ℕ
 
-abbrev pub card : List ℕ → ℕ → ℕ → ℕ → List ℤ → List ℤ → ℕ → List ℕ → List ℕ → ℕ → List ℕ → List ℕ → Card
-card bits side hues size xs ys grid cxs cys mask levels drawn =
-    record { bits = bits; side = side; hues = hues; size = size; xs = xs; ys = ys; grid = grid; cxs = cxs; cys = cys; mask = mask; levels = levels; drawn = drawn }
+abbrev pub card : List ℕ → Layout → List ℤ → List ℤ → List ℕ → List ℕ → ℕ → List ℕ → List ℕ → Card
+card bits layout xs ys cxs cys mask levels drawn =
+    record { bits = bits; layout = layout; xs = xs; ys = ys; cxs = cxs; cys = cys; mask = mask; levels = levels; drawn = drawn }
 
--- 5, of lengths: x and y, cx and cy run in pairs; a bit a module and those of the chroma list; a level a module; with chroma on, a hue a place of the chroma list
-unfoldable pub shortBits : ℕ → ℕ → ℕ → ℕ → ℕ → ℕ → Bool
-shortBits bits k size m g c = ltb bits (m + chromaLength k c (ringModules m g) size)
+-- 5, of m modules and c cells: fewer bits than one a module and those of the chroma list; with chroma on, fewer hues than one a place of the chroma list
+unfoldable pub shortBits : ℕ → Layout → ℕ → ℕ → Bool
+shortBits bits l m c = ltb bits (m + chromaLength (l .hues) c (ringModules m (l .grid)) (l .size))
 
-unfoldable pub shortHues : ℕ → ℕ → ℕ → ℕ → ℕ → ℕ → Bool
-shortHues hues k size m g c = cond (chromaOn k) (ltb hues (entriesOf m g c size)) false
+unfoldable pub shortHues : ℕ → Layout → ℕ → ℕ → Bool
+shortHues hues l m c = cond (chromaOn (l .hues)) (ltb hues (entriesOf l m c)) false
 
-unfoldable pub badDrawLengths : ℕ → ℕ → ℕ → ℕ → ℕ → ℕ → ℕ → ℕ → ℕ → ℕ → Bool
-badDrawLengths bits k size xs ys g cxs cys levels hues =
-    not (eqb xs ys) || (not (eqb cxs cys) || (shortBits bits k size xs g cxs || (ltb levels xs || shortHues hues k size xs g cxs)))
+-- 5: x and y, cx and cy run in pairs; the bits; a level a module; the hues
+unfoldable pub badDrawLengths : List ℕ → Layout → List ℤ → List ℤ → List ℕ → List ℕ → List ℕ → List ℕ → Bool
+badDrawLengths bits l xs ys cxs cys levels hues =
+    not (eqb (length xs) (length ys))
+    || (not (eqb (length cxs) (length cys))
+    || (shortBits (length bits) l (length xs) (length cxs)
+    || (ltb (length levels) (length xs) || shortHues (length hues) l (length xs) (length cxs))))
 
--- 7, of modules and cells
-unfoldable pub badPositions : ℕ → ℕ → List ℤ → List ℤ → List ℕ → List ℕ → Bool
-badPositions side g xs ys cxs cys = badPlaces side g xs ys || badCells cxs cys
-
+-- in checking order: 2, 3, 4 of the layout, 5, then 6, 7 of what is placed on it
 unfoldable pub drawSentences : Card → List Sentence
 drawSentences q =
-    (2 when badSide (q .side)) ∷
-    (3 when badHues (q .hues)) ∷
-    (4 when badCellSize (q .size)) ∷
-    (5 when badDrawLengths (length (q .bits)) (q .hues) (q .size) (length (q .xs)) (length (q .ys)) (q .grid) (length (q .cxs)) (length (q .cys)) (length (q .levels)) (length (q .drawn))) ∷
-    (6 when badCounts (length (q .xs)) (q .grid) (length (q .cxs))) ∷
-    (7 when badPositions (q .side) (q .grid) (q .xs) (q .ys) (q .cxs) (q .cys)) ∷
-    []
+    shape (q .layout) ++
+    ((5 when badDrawLengths (q .bits) (q .layout) (q .xs) (q .ys) (q .cxs) (q .cys) (q .levels) (q .drawn)) ∷
+    placement (q .layout) (q .xs) (q .ys) (q .cxs) (q .cys))
 
 -- what it gives back: document 01's number, its answer, the levels and the hues
 pub record Drawn : Type 0 where
@@ -146,10 +142,10 @@ abbrev pub notDrawn : Card → ℕ → Drawn
 notDrawn q n = drawn (Refused n) (q .levels) (q .drawn)
 
 abbrev pub levelsOf : Card → List ℕ
-levelsOf q = drawnLevels (q .bits) (q .xs) (q .ys) (q .grid) (q .mask) (q .levels)
+levelsOf q = drawnLevels (q .bits) (q .xs) (q .ys) (q .layout .grid) (q .mask) (q .levels)
 
 abbrev pub huesOf : Card → List ℕ
-huesOf q = drawnHues (q .bits) (q .hues) (q .size) (length (q .xs)) (q .grid) (q .cxs) (q .cys) (q .drawn)
+huesOf q = drawnHues (q .bits) (q .layout) (length (q .xs)) (q .cxs) (q .cys) (q .drawn)
 
 unfoldable pub drawOf : Card → Drawn
 drawOf q = decided (refusal (drawSentences q)) (notDrawn q) (drawn Done (levelsOf q) (huesOf q))

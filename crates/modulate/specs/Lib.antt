@@ -1,3 +1,4 @@
+pub mod Ready
 pub mod Gray
 pub mod Mask
 pub mod Score

@@ -1,18 +1,18 @@
 -- Bit scores from hue log-likelihoods (the Rust's `chroma_bit_llrs`), and the scores of grid modules unmasked (`unmask_luma`). Definitions only.
 use mathlib.Core.Bool.{Bool, true, false, not, cond, _||_}
 use mathlib.Core.List.{List, [], _∷_}
-use Prim.Native.Nat.{ℕ, zero, suc, _+_, _-_, _/_, _%_, _^_}
+use Prim.Native.Nat.{ℕ, zero, suc, _-_, _/_, _%_, _^_}
 use lib.Dec.{ltb, eqb}
 use lib.IntN.{ℤ, pos, natAbs}
-use lib.ListN.{length, getD, set}
+use lib.ListN.{length, getD}
 use lib.Ieee.{Float, nan, inf, neg, binary32, sub}
 use Rattle.float.specs.Select.{max}
 use Rattle.loops.specs.Loops.{forUp}
 use Rattle.lists.specs.Lists.{replaced}
-use Rattle.sentences.specs.Sentences.{Sentence, _when_, refusal, decided}
-use Rattle.places.specs.Places.{badPlaces}
-use Rattle.limits.specs.Limits.{badSide, badHues, badModules, badCell}
+use Rattle.sentences.specs.Sentences.{Sentence, _when_}
+use Rattle.limits.specs.Limits.{badSide, badHues, badCell}
 use Rattle.limits.specs.Chroma.{log2}
+use Rattle.layout.specs.Groups.{modulePlacement}
 use Rattle.modulate.specs.declared.Cell.{Cell}
 use Rattle.modulate.specs.declared.Cell.the-variants.{Unmasked, At}
 use Rattle.modulate.specs.declared.Best.{Best}
@@ -98,13 +98,12 @@ unmasked id xs ys g luma = replaced nan g (unmaskAt id xs ys) luma
 unfoldable pub badLumaLengths : ℕ → ℕ → ℕ → Bool
 badLumaLengths xs ys luma = not (eqb xs ys) || ltb luma xs
 
+-- in checking order: 2, 5, then 6, 7 of the modules
 unfoldable pub unmaskSentences : List Float → ℕ → List ℤ → List ℤ → ℕ → List Sentence
 unmaskSentences luma side xs ys g =
     (2 when badSide side) ∷
     (5 when badLumaLengths (length xs) (length ys) (length luma)) ∷
-    (6 when badModules (length xs) g) ∷
-    (7 when badPlaces side g xs ys) ∷
-    []
+    modulePlacement side g xs ys
 
 unfoldable pub unmaskLumaOf : List Float → ℕ → List ℤ → List ℤ → ℕ → ℕ → Ended Float
 unmaskLumaOf luma side xs ys g mask = writtenOr (unmaskSentences luma side xs ys g) luma (unmasked mask xs ys g luma)

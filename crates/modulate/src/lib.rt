@@ -5,24 +5,25 @@
 // `chroma_bit_llrs` turns hue likelihoods into bit scores, `unmask_luma` takes the mask off the luma scores, and
 // `read_list` makes bits of scores.
 ghost use mathlib.Core.Path.{_≡_};
-ghost use mathlib.Core.Bool.{false, true};
+ghost use mathlib.Core.Bool.{false};
 ghost use Prim.Native.Nat.{_+_, _*_, _%_, _≤_, _<_};
-ghost use lib.IntN.{pos};
-ghost use lib.ListN.{length, getD};
-ghost use lib.Ieee.{inf, nan};
+ghost use lib.ListN.{length};
+ghost use lib.Ieee.{nan};
 ghost use Rattle.sentences.specs.Sentences.{refusal};
 ghost use Rattle.lists.specs.Lists.{replaceAt, replaced};
-ghost use Rattle.places.specs.Places.{misplacedAt, badPlaces};
-ghost use Rattle.limits.specs.Limits.{badHues, badCell};
-ghost use Rattle.limits.specs.Chroma.{log2, symbolBits, chromaEntries};
+ghost use Rattle.limits.specs.Limits.{badHues};
+ghost use Rattle.limits.specs.Chroma.{log2, symbolBits};
+ghost use Rattle.layout.specs.Groups.{Shaped, Positions, PositionAt};
+ghost use Rattle.answers.specs.Answers.{said, answered, huesOnly, huesAndCell, ended};
+ghost use Rattle.modulate.specs.Ready.{HueCount};
 ghost use Rattle.modulate.specs.Gray as gray_code;
 ghost use Rattle.modulate.specs.Mask as masks;
-ghost use Rattle.answers.specs.Answers.{said, answered, huesOnly, huesAndCell, ended};
 ghost use Rattle.modulate.specs.Score as scores;
 ghost use Rattle.modulate.specs.Read as reading;
 ghost use Rattle.modulate.specs.Draw as drawing;
 use answers::Number;
 use answers::Outcome;
+use layout::Layout;
 
 // Where a chroma entry is drawn: a ring module, on which no mask lies, or a cell of the grid, by its coordinates.
 pub enum Cell {
@@ -32,14 +33,14 @@ pub enum Cell {
 
 // ---- Gray code
 
-// The reflected binary code of n: the codes of n and n + 1 differ in one bit.
+// The reflected binary code of n: the codes of n and n + 1 differ in one bit. Refuses nothing.
 pub fn gray(n: usize) -> usize
     ensures { λ r. ⌜ r ≡ gray_code.gray n ⌝ }
 {
     n ^ (n / 2)
 }
 
-// The number whose reflected binary code is g.
+// The number whose reflected binary code is g. Refuses nothing.
 pub fn gray_inverse(g: usize) -> usize
     ensures { λ r. ⌜ r ≡ gray_code.grayInverse g ⌝ }
 {
@@ -86,7 +87,7 @@ fn hue_symbol(hue: usize, hues: usize) -> usize
     remainder(gray(remainder(hue, hues)), hues)
 }
 
-// The hue state of a chroma symbol: neighbours on the colour wheel differ in one bit of the symbol.
+// The hue state of a chroma symbol: neighbours on the colour wheel differ in one bit of the symbol. Refused: 3.
 pub fn chroma_symbol_to_hue(symbol: usize, hues: usize) -> Number
     ensures { λ r. ⌜ said r ≡ answered (huesOnly hues) (gray_code.chromaSymbolToHue symbol hues) ⌝ }
 {
@@ -96,7 +97,7 @@ pub fn chroma_symbol_to_hue(symbol: usize, hues: usize) -> Number
     Number::Is(symbol_hue(symbol, hues))
 }
 
-// The chroma symbol of a hue state.
+// The chroma symbol of a hue state. Refused: 3.
 pub fn hue_to_chroma_symbol(hue: usize, hues: usize) -> Number
     ensures { λ r. ⌜ said r ≡ answered (huesOnly hues) (gray_code.hueToChromaSymbol hue hues) ⌝ }
 {
@@ -108,7 +109,7 @@ pub fn hue_to_chroma_symbol(hue: usize, hues: usize) -> Number
 
 // ---- masks
 
-// Whether mask `id`, of which the low three bits count, turns the luma bit of the module at (x, y).
+// Whether mask `id`, of which the low three bits count, turns the luma bit of the module at (x, y). Refuses nothing.
 pub fn luma_mask(id: u8, x: u16, y: u16) -> bool
     ensures { λ r. ⌜ r ≡ masks.lumaMask id x y ⌝ }
 {
@@ -147,14 +148,14 @@ fn rotation(cx: u16, cy: u16, hues: usize) -> usize
 }
 
 fn apply(hue: usize, cx: u16, cy: u16, hues: usize) -> usize
-    requires { ⌜ (0 < hues) × (hues ≤ 16) ⌝ }
+    requires { ⌜ HueCount hues ⌝ }
     ensures { λ r. ⌜ r ≡ masks.chromaMaskApply hue cx cy hues ⌝ }
 {
     remainder(remainder(hue, hues) + rotation(cx, cy, hues), hues)
 }
 
 fn remove(hue: usize, cx: u16, cy: u16, hues: usize) -> usize
-    requires { ⌜ (0 < hues) × (hues ≤ 16) ⌝ }
+    requires { ⌜ HueCount hues ⌝ }
     ensures { λ r. ⌜ r ≡ masks.chromaMaskRemove hue cx cy hues ⌝ }
 {
     remainder(remainder(hue, hues) + hues - rotation(cx, cy, hues), hues)
@@ -173,7 +174,7 @@ fn refused_cell(hues: usize, cx: u16, cy: u16) -> u32
     0
 }
 
-// By how many hues the cell (cx, cy) is rotated.
+// By how many hues the cell (cx, cy) is rotated. Refused: 3, 7.
 pub fn chroma_rotation(cx: u16, cy: u16, hues: usize) -> Number
     ensures { λ r. ⌜ said r ≡ answered (huesAndCell hues cx cy) (masks.chromaRotation cx cy hues) ⌝ }
 {
@@ -184,7 +185,7 @@ pub fn chroma_rotation(cx: u16, cy: u16, hues: usize) -> Number
     Number::Is(rotation(cx, cy, hues))
 }
 
-// The hue that the cell (cx, cy) draws for `hue`, of which the remainder by `hues` counts.
+// The hue that the cell (cx, cy) draws for `hue`, of which the remainder by `hues` counts. Refused: 3, 7.
 pub fn chroma_mask_apply(hue: usize, cx: u16, cy: u16, hues: usize) -> Number
     ensures { λ r. ⌜ said r ≡ answered (huesAndCell hues cx cy) (masks.chromaMaskApply hue cx cy hues) ⌝ }
 {
@@ -195,7 +196,7 @@ pub fn chroma_mask_apply(hue: usize, cx: u16, cy: u16, hues: usize) -> Number
     Number::Is(apply(hue, cx, cy, hues))
 }
 
-// The hue that the cell (cx, cy) drew as `hue`, of which the remainder by `hues` counts.
+// The hue that the cell (cx, cy) drew as `hue`, of which the remainder by `hues` counts. Refused: 3, 7.
 pub fn chroma_mask_remove(hue: usize, cx: u16, cy: u16, hues: usize) -> Number
     ensures { λ r. ⌜ said r ≡ answered (huesAndCell hues cx cy) (masks.chromaMaskRemove hue cx cy hues) ⌝ }
 {
@@ -232,7 +233,7 @@ impl Best {
 }
 
 fn unmasked_hue(cell: Cell, hues: usize, h: usize) -> usize
-    requires { ⌜ (0 < hues) × (hues ≤ 16) ⌝ }
+    requires { ⌜ HueCount hues ⌝ }
     ensures { λ r. ⌜ r ≡ scores.unmaskedHue cell hues h ⌝ }
 {
     match cell {
@@ -243,7 +244,7 @@ fn unmasked_hue(cell: Cell, hues: usize, h: usize) -> usize
 
 // Bit b, from the high end, of the symbol of `bits` bits behind hue h.
 fn bit_of_hue(cell: Cell, hues: usize, bits: usize, b: usize, h: usize) -> usize
-    requires { ⌜ (0 < hues) × (hues ≤ 16) × (bits ≡ log2 hues) × (bits ≤ 4) × (b < bits) ⌝ }
+    requires { ⌜ HueCount hues × (bits ≡ log2 hues) × (bits ≤ 4) × (b < bits) ⌝ }
     ensures { λ r. ⌜ r ≡ scores.bitOfHue cell hues b h ⌝ }
 {
     let symbol = hue_symbol(unmasked_hue(cell, hues, h), hues);
@@ -252,7 +253,7 @@ fn bit_of_hue(cell: Cell, hues: usize, bits: usize, b: usize, h: usize) -> usize
 
 // The score of bit b: the best likelihood where it is 0 less the best where it is 1.
 fn bit_llr(ll: &[f32], cell: Cell, hues: usize, bits: usize, b: usize) -> f32
-    requires { ⌜ (0 < hues) × (hues ≤ 16) × (bits ≡ log2 hues) × (bits ≤ 4) × (b < bits) × (hues ≤ length (now ll)) ⌝ }
+    requires { ⌜ HueCount hues × (bits ≡ log2 hues) × (bits ≤ 4) × (b < bits) × (hues ≤ length (now ll)) ⌝ }
     ensures { λ r. ⌜ r ≡ scores.bitLlr (now (ll .entry)) cell hues b ⌝ }
 {
     let lowest = -1.0f32 / 0.0f32;
@@ -312,6 +313,7 @@ fn refused_llrs(ll: &[f32], cell: Cell, hues: usize, out: &[f32]) -> u32
 
 // The log2(hues) bit scores of a chroma entry from its hue likelihoods `ll`, as drawn, high bit first and positive for a
 // 0: for each bit, the best likelihood of the hues whose symbol has a 0 there less the best of those that have a 1.
+// Refused: 3, 5, 7; nothing is written then.
 pub fn chroma_bit_llrs(ll: &[f32], cell: Cell, hues: usize, out: &mut [f32]) -> Outcome
     ensures { λ r. ⌜ ended r (now (out .exit)) ≡ scores.chromaBitLlrsOf (now (ll .entry)) cell hues (now (out .entry)) ⌝ }
 {
@@ -327,7 +329,7 @@ pub fn chroma_bit_llrs(ll: &[f32], cell: Cell, hues: usize, out: &mut [f32]) -> 
 
 // Whether the mask turns grid module i.
 fn masked_at(mask: u8, side: usize, xs: &[i32], ys: &[i32], grid: usize, i: usize) -> bool
-    requires { ⌜ (side ≤ 1024) × (i < grid) × (i < length (now xs)) × (length (now xs) ≡ length (now ys)) × (misplacedAt side grid (now xs) (now ys) i ≡ false) ⌝ }
+    requires { ⌜ PositionAt side grid (now xs) (now ys) i × (i < grid) ⌝ }
     ensures { λ r. ⌜ r ≡ scores.maskedAt mask (now (xs .entry)) (now (ys .entry)) i ⌝ }
 {
     let x = places::coordinate_at(side, xs, i);
@@ -336,7 +338,7 @@ fn masked_at(mask: u8, side: usize, xs: &[i32], ys: &[i32], grid: usize, i: usiz
 }
 
 fn unmask_at(mask: u8, side: usize, xs: &[i32], ys: &[i32], grid: usize, i: usize, luma: &mut [f32])
-    requires { ⌜ (side ≤ 1024) × (i < grid) × (i < length (now xs)) × (length (now xs) ≡ length (now ys)) × (misplacedAt side grid (now xs) (now ys) i ≡ false) × (i < length (now luma)) ⌝ }
+    requires { ⌜ PositionAt side grid (now xs) (now ys) i × (i < grid) × (i < length (now luma)) ⌝ }
     ensures { λ _. ⌜ now (luma .exit) ≡ replaceAt nan (scores.unmaskAt mask (now (xs .entry)) (now (ys .entry))) i (now (luma .entry)) ⌝ }
 {
     if masked_at(mask, side, xs, ys, grid, i) {
@@ -345,7 +347,7 @@ fn unmask_at(mask: u8, side: usize, xs: &[i32], ys: &[i32], grid: usize, i: usiz
 }
 
 fn unmask_grid(mask: u8, side: usize, xs: &[i32], ys: &[i32], grid: usize, luma: &mut [f32])
-    requires { ⌜ (side ≤ 1024) × (grid ≤ length (now xs)) × (length (now xs) ≡ length (now ys)) × (badPlaces side grid (now xs) (now ys) ≡ false) × (length (now xs) ≤ length (now luma)) ⌝ }
+    requires { ⌜ Positions side grid (now xs) (now ys) × (grid ≤ length (now xs)) × (length (now xs) ≤ length (now luma)) ⌝ }
     ensures { λ _. ⌜ now (luma .exit) ≡ scores.unmasked mask (now (xs .entry)) (now (ys .entry)) grid (now (luma .entry)) ⌝ }
 {
     for i in 0..grid {
@@ -353,6 +355,7 @@ fn unmask_grid(mask: u8, side: usize, xs: &[i32], ys: &[i32], grid: usize, luma:
     }
 }
 
+// Sentence 5.
 fn bad_luma_lengths(xs: &[i32], ys: &[i32], luma: &[f32]) -> bool
     ensures { λ r. ⌜ r ≡ scores.badLumaLengths (length (now (xs .entry))) (length (now (ys .entry))) (length (now (luma .entry))) ⌝ }
 {
@@ -362,6 +365,7 @@ fn bad_luma_lengths(xs: &[i32], ys: &[i32], luma: &[f32]) -> bool
     luma.len() < xs.len()
 }
 
+// The number of the first sentence that holds, or 0: 6, 7 by the modules' group.
 fn refused_unmask(luma: &[f32], side: usize, xs: &[i32], ys: &[i32], grid: usize) -> u32
     ensures { λ r. ⌜ r ≡ refusal (scores.unmaskSentences (now (luma .entry)) side (now (xs .entry)) (now (ys .entry)) grid) ⌝ }
 {
@@ -371,16 +375,11 @@ fn refused_unmask(luma: &[f32], side: usize, xs: &[i32], ys: &[i32], grid: usize
     if bad_luma_lengths(xs, ys, luma) {
         return 5;
     }
-    if limits::bad_modules(xs.len(), grid) {
-        return 6;
-    }
-    if places::bad_places(side, grid, xs, ys) {
-        return 7;
-    }
-    0
+    layout::refused_modules(side, grid, xs, ys)
 }
 
 // Turns the sign of the luma score of every grid module, the first `grid` of those listed, whose bit the mask turned.
+// Refused: 2, 5, 6, 7; nothing is written then.
 pub fn unmask_luma(
     luma: &mut [f32],
     side: usize,
@@ -401,7 +400,7 @@ pub fn unmask_luma(
 
 // ---- reading
 
-// The bit that a score stands for: 1 below zero, and else, NaN included, 0.
+// The bit that a score stands for: 1 below zero, and else, NaN included, 0. Refuses nothing.
 pub fn read(score: f32) -> u8
     ensures { λ r. ⌜ r ≡ reading.reads score ⌝ }
 {
@@ -420,7 +419,7 @@ fn read_all(scores: &[f32], bits: &mut [u8])
     }
 }
 
-// The bits of a list of scores, one a score.
+// The bits of a list of scores, one a score. Refused: 5; nothing is written then.
 pub fn read_list(scores: &[f32], bits: &mut [u8]) -> Outcome
     ensures { λ r. ⌜ ended r (now (bits .exit)) ≡ reading.readListOf (now (scores .entry)) (now (bits .entry)) ⌝ }
 {
@@ -440,7 +439,8 @@ fn is_one(bit: u8) -> bool
     bit != 0
 }
 
-// The level of a grid module, 1 for light: its bit, other than 0 for 1, turned where the mask turns it.
+// The level of a grid module, 1 for light: its bit, other than 0 for 1, turned where the mask turns it. Refuses
+// nothing.
 pub fn grid_level(bit: u8, mask: u8, x: u16, y: u16) -> u8
     ensures { λ r. ⌜ r ≡ drawing.gridLevel bit mask x y ⌝ }
 {
@@ -457,7 +457,7 @@ pub fn grid_level(bit: u8, mask: u8, x: u16, y: u16) -> u8
     0
 }
 
-// The level of a ring module, 1 for light: its bit, other than 0 for 1.
+// The level of a ring module, 1 for light: its bit, other than 0 for 1. Refuses nothing.
 pub fn ring_level(bit: u8) -> u8
     ensures { λ r. ⌜ r ≡ drawing.ringLevel bit ⌝ }
 {
@@ -500,7 +500,7 @@ fn refused_symbol(bits: &[u8], hues: usize) -> u32
     0
 }
 
-// The symbol of the first log2(hues) bits, high bit first.
+// The symbol of the first log2(hues) bits, high bit first. Refused: 3, 5.
 pub fn symbol_of_bits(bits: &[u8], hues: usize) -> Number
     ensures { λ r. ⌜ said r ≡ answered (drawing.symbolSentences (now (bits .entry)) hues) (drawing.symbolAt (now (bits .entry)) 0 (log2 hues)) ⌝ }
 {
@@ -511,7 +511,7 @@ pub fn symbol_of_bits(bits: &[u8], hues: usize) -> Number
     Number::Is(symbol_at(bits, 0, limits::log2(hues)))
 }
 
-// The hue that the cell (cx, cy) is drawn in for its symbol.
+// The hue that the cell (cx, cy) is drawn in for its symbol. Refused: 3, 7.
 pub fn cell_hue(symbol: usize, cx: u16, cy: u16, hues: usize) -> Number
     ensures { λ r. ⌜ said r ≡ answered (huesAndCell hues cx cy) (drawing.cellHue symbol cx cy hues) ⌝ }
 {
@@ -522,7 +522,7 @@ pub fn cell_hue(symbol: usize, cx: u16, cy: u16, hues: usize) -> Number
     Number::Is(apply(symbol_hue(symbol, hues), cx, cy, hues))
 }
 
-// The hue that a ring module is drawn in for its symbol: no mask lies on it.
+// The hue that a ring module is drawn in for its symbol: no mask lies on it. Refused: 3.
 pub fn ring_hue(symbol: usize, hues: usize) -> Number
     ensures { λ r. ⌜ said r ≡ answered (huesOnly hues) (drawing.ringHue symbol hues) ⌝ }
 {
@@ -532,7 +532,7 @@ pub fn ring_hue(symbol: usize, hues: usize) -> Number
 // ---- drawing: the whole list
 
 fn level_at(bits: &[u8], side: usize, xs: &[i32], ys: &[i32], grid: usize, mask: u8, i: usize) -> u8
-    requires { ⌜ (side ≤ 1024) × (i < length (now bits)) × (i < length (now xs)) × (length (now xs) ≡ length (now ys)) × (misplacedAt side grid (now xs) (now ys) i ≡ false) ⌝ }
+    requires { ⌜ PositionAt side grid (now xs) (now ys) i × (i < length (now bits)) ⌝ }
     ensures { λ r. ⌜ r ≡ drawing.levelAt (now (bits .entry)) (now (xs .entry)) (now (ys .entry)) grid mask i ⌝ }
 {
     let bit = bits[i];
@@ -553,7 +553,7 @@ fn draw_levels(
     mask: u8,
     levels: &mut [u8],
 )
-    requires { ⌜ (side ≤ 1024) × (length (now xs) ≤ length (now bits)) × (length (now xs) ≡ length (now ys)) × (badPlaces side grid (now xs) (now ys) ≡ false) × (length (now xs) ≤ length (now levels)) ⌝ }
+    requires { ⌜ Positions side grid (now xs) (now ys) × (length (now xs) ≤ length (now bits)) × (length (now xs) ≤ length (now levels)) ⌝ }
     ensures { λ _. ⌜ now (levels .exit) ≡ drawing.drawnLevels (now (bits .entry)) (now (xs .entry)) (now (ys .entry)) grid mask (now (levels .entry)) ⌝ }
 {
     for i in 0..xs.len() {
@@ -562,7 +562,7 @@ fn draw_levels(
 }
 
 fn hue_at(bits: &[u8], hues: usize, modules: usize, cxs: &[u16], cys: &[u16], j: usize) -> usize
-    requires { ⌜ (0 < hues) × (hues ≤ 16) × (symbolBits hues ≤ 4) × (modules + symbolBits hues * j + symbolBits hues ≤ length (now bits)) × (length (now cxs) ≡ length (now cys)) ⌝ }
+    requires { ⌜ HueCount hues × (symbolBits hues ≤ 4) × (modules + symbolBits hues * j + symbolBits hues ≤ length (now bits)) × (length (now cxs) ≡ length (now cys)) ⌝ }
     ensures { λ r. ⌜ r ≡ drawing.hueAt (now (bits .entry)) hues modules (now (cxs .entry)) (now (cys .entry)) j ⌝ }
 {
     let q = limits::symbol_bits(hues);
@@ -582,7 +582,7 @@ fn draw_entries(
     count: usize,
     drawn: &mut [usize],
 )
-    requires { ⌜ (0 < hues) × (hues ≤ 16) × (symbolBits hues ≤ 4) × (modules + symbolBits hues * count ≤ length (now bits)) × (length (now cxs) ≡ length (now cys)) × (count ≤ length (now drawn)) ⌝ }
+    requires { ⌜ HueCount hues × (symbolBits hues ≤ 4) × (modules + symbolBits hues * count ≤ length (now bits)) × (length (now cxs) ≡ length (now cys)) × (count ≤ length (now drawn)) ⌝ }
     ensures { λ _. ⌜ now (drawn .exit) ≡ replaced 0 count (drawing.hueAtOf (now (bits .entry)) hues modules (now (cxs .entry)) (now (cys .entry))) (now (drawn .entry)) ⌝ }
 {
     for j in 0..count {
@@ -592,71 +592,56 @@ fn draw_entries(
 
 fn draw_hues(
     bits: &[u8],
-    hues: usize,
-    size: usize,
+    layout: Layout,
     modules: usize,
-    grid: usize,
     cxs: &[u16],
     cys: &[u16],
     drawn: &mut [usize],
 )
-    requires { ⌜ (badHues hues ≡ false) × (modules ≤ 1048576) × (length (now cxs) ≤ 1048576) × (length (now cxs) ≡ length (now cys)) × (drawing.shortBits (length (now bits)) hues size modules grid (length (now cxs)) ≡ false) × (drawing.shortHues (length (now drawn)) hues size modules grid (length (now cxs)) ≡ false) ⌝ }
-    ensures { λ _. ⌜ now (drawn .exit) ≡ drawing.drawnHues (now (bits .entry)) hues size modules grid (now (cxs .entry)) (now (cys .entry)) (now (drawn .entry)) ⌝ }
+    requires { ⌜ Shaped layout × (modules ≤ 1048576) × (length (now cxs) ≤ 1048576) × (length (now cxs) ≡ length (now cys)) × (drawing.shortBits (length (now bits)) layout modules (length (now cxs)) ≡ false) × (drawing.shortHues (length (now drawn)) layout modules (length (now cxs)) ≡ false) ⌝ }
+    ensures { λ _. ⌜ now (drawn .exit) ≡ drawing.drawnHues (now (bits .entry)) layout modules (now (cxs .entry)) (now (cys .entry)) (now (drawn .entry)) ⌝ }
 {
-    if limits::chroma_on(hues) {
-        let ring = limits::ring_modules(modules, grid);
-        let count = limits::chroma_entries(cxs.len(), ring, size);
-        draw_entries(bits, hues, modules, cxs, cys, count, drawn);
+    if limits::chroma_on(layout.hues) {
+        let ring = limits::ring_modules(modules, layout.grid);
+        let count = limits::chroma_entries(cxs.len(), ring, layout.size);
+        draw_entries(bits, layout.hues, modules, cxs, cys, count, drawn);
     }
 }
 
-fn short_bits(
-    bits: usize,
-    hues: usize,
-    size: usize,
-    modules: usize,
-    grid: usize,
-    cells: usize,
-) -> bool
-    ensures { λ r. ⌜ r ≡ drawing.shortBits bits hues size modules grid cells ⌝ }
+// Sentence 5, of the bits.
+fn short_bits(bits: usize, layout: Layout, modules: usize, cells: usize) -> bool
+    ensures { λ r. ⌜ r ≡ drawing.shortBits bits layout modules cells ⌝ }
 {
     if bits < modules {
         return true;
     }
-    let ring = limits::ring_modules(modules, grid);
-    limits::below_chroma(bits - modules, hues, cells, ring, size)
+    let ring = limits::ring_modules(modules, layout.grid);
+    limits::below_chroma(bits - modules, layout.hues, cells, ring, layout.size)
 }
 
-fn short_hues(
-    drawn: usize,
-    hues: usize,
-    size: usize,
-    modules: usize,
-    grid: usize,
-    cells: usize,
-) -> bool
-    ensures { λ r. ⌜ r ≡ drawing.shortHues drawn hues size modules grid cells ⌝ }
+// Sentence 5, of the hues.
+fn short_hues(drawn: usize, layout: Layout, modules: usize, cells: usize) -> bool
+    ensures { λ r. ⌜ r ≡ drawing.shortHues drawn layout modules cells ⌝ }
 {
-    if limits::chroma_on(hues) {
-        let ring = limits::ring_modules(modules, grid);
-        return limits::below_entries(drawn, cells, ring, size);
+    if limits::chroma_on(layout.hues) {
+        let ring = limits::ring_modules(modules, layout.grid);
+        return limits::below_entries(drawn, cells, ring, layout.size);
     }
     false
 }
 
+// Sentence 5.
 fn bad_draw_lengths(
     bits: &[u8],
-    hues: usize,
-    size: usize,
+    layout: Layout,
     xs: &[i32],
     ys: &[i32],
-    grid: usize,
     cxs: &[u16],
     cys: &[u16],
     levels: &[u8],
     drawn: &[usize],
 ) -> bool
-    ensures { λ r. ⌜ r ≡ drawing.badDrawLengths (length (now (bits .entry))) hues size (length (now (xs .entry))) (length (now (ys .entry))) grid (length (now (cxs .entry))) (length (now (cys .entry))) (length (now (levels .entry))) (length (now (drawn .entry))) ⌝ }
+    ensures { λ r. ⌜ r ≡ drawing.badDrawLengths (now (bits .entry)) layout (now (xs .entry)) (now (ys .entry)) (now (cxs .entry)) (now (cys .entry)) (now (levels .entry)) (now (drawn .entry)) ⌝ }
 {
     if xs.len() != ys.len() {
         return true;
@@ -664,99 +649,60 @@ fn bad_draw_lengths(
     if cxs.len() != cys.len() {
         return true;
     }
-    if short_bits(bits.len(), hues, size, xs.len(), grid, cxs.len()) {
+    if short_bits(bits.len(), layout, xs.len(), cxs.len()) {
         return true;
     }
     if levels.len() < xs.len() {
         return true;
     }
-    short_hues(drawn.len(), hues, size, xs.len(), grid, cxs.len())
+    short_hues(drawn.len(), layout, xs.len(), cxs.len())
 }
 
-// Sentence 7, of modules and cells.
-fn bad_positions(side: usize, xs: &[i32], ys: &[i32], grid: usize, cxs: &[u16], cys: &[u16]) -> bool
-    requires { ⌜ (side ≤ 1024) × (length (now xs) ≡ length (now ys)) × (length (now cxs) ≡ length (now cys)) ⌝ }
-    ensures { λ r. ⌜ r ≡ drawing.badPositions side grid (now (xs .entry)) (now (ys .entry)) (now (cxs .entry)) (now (cys .entry)) ⌝ }
-{
-    if places::bad_places(side, grid, xs, ys) {
-        return true;
-    }
-    limits::bad_cells(cxs, cys)
-}
-
+// The number of the first sentence that holds, or 0: 2, 3, 4 by the layout's group, 6, 7 by that of what is placed on it.
 fn refused_draw(
     bits: &[u8],
-    side: usize,
-    hues: usize,
-    size: usize,
+    layout: Layout,
     xs: &[i32],
     ys: &[i32],
-    grid: usize,
     cxs: &[u16],
     cys: &[u16],
     mask: u8,
     levels: &[u8],
     drawn: &[usize],
 ) -> u32
-    ensures { λ r. ⌜ r ≡ refusal (drawing.drawSentences (drawing.card (now (bits .entry)) side hues size (now (xs .entry)) (now (ys .entry)) grid (now (cxs .entry)) (now (cys .entry)) mask (now (levels .entry)) (now (drawn .entry)))) ⌝ }
+    ensures { λ r. ⌜ r ≡ refusal (drawing.drawSentences (drawing.card (now (bits .entry)) layout (now (xs .entry)) (now (ys .entry)) (now (cxs .entry)) (now (cys .entry)) mask (now (levels .entry)) (now (drawn .entry)))) ⌝ }
 {
-    if limits::bad_side(side) {
-        return 2;
+    let shape = layout::refused_shape(layout);
+    if shape != 0 {
+        return shape;
     }
-    if limits::bad_hues(hues) {
-        return 3;
-    }
-    if limits::bad_cell_size(size) {
-        return 4;
-    }
-    if bad_draw_lengths(bits, hues, size, xs, ys, grid, cxs, cys, levels, drawn) {
+    if bad_draw_lengths(bits, layout, xs, ys, cxs, cys, levels, drawn) {
         return 5;
     }
-    if limits::bad_counts(xs.len(), grid, cxs.len()) {
-        return 6;
-    }
-    if bad_positions(side, xs, ys, grid, cxs, cys) {
-        return 7;
-    }
-    0
+    layout::refused_placement(layout, xs, ys, cxs, cys)
 }
 
 // Draws a card: the level of each listed module, 1 for light, and, with chroma on, the hue of each cell and, at cell size
 // 1, of each ring module. `bits` has one bit a module, then log2(hues) for each place of the chroma list.
+// Refused: 2, 3, 4, 5, 6, 7; nothing is written then.
 pub fn draw(
     bits: &[u8],
-    side: usize,
-    hues: usize,
-    size: usize,
+    layout: Layout,
     xs: &[i32],
     ys: &[i32],
-    grid: usize,
     cxs: &[u16],
     cys: &[u16],
     mask: u8,
     levels: &mut [u8],
     drawn: &mut [usize],
 ) -> Outcome
-    ensures { λ r. ⌜ drawing.drawn r (now (levels .exit)) (now (drawn .exit)) ≡ drawing.drawOf (drawing.card (now (bits .entry)) side hues size (now (xs .entry)) (now (ys .entry)) grid (now (cxs .entry)) (now (cys .entry)) mask (now (levels .entry)) (now (drawn .entry))) ⌝ }
+    ensures { λ r. ⌜ drawing.drawn r (now (levels .exit)) (now (drawn .exit)) ≡ drawing.drawOf (drawing.card (now (bits .entry)) layout (now (xs .entry)) (now (ys .entry)) (now (cxs .entry)) (now (cys .entry)) mask (now (levels .entry)) (now (drawn .entry))) ⌝ }
 {
-    let n = refused_draw(
-        bits,
-        side,
-        hues,
-        size,
-        xs,
-        ys,
-        grid,
-        cxs,
-        cys,
-        mask,
-        levels,
-        drawn,
-    );
+    let n = refused_draw(bits, layout, xs, ys, cxs, cys, mask, levels, drawn);
     if n != 0 {
         return Outcome::Refused(n);
     }
-    draw_levels(bits, side, xs, ys, grid, mask, levels);
-    draw_hues(bits, hues, size, xs.len(), grid, cxs, cys, drawn);
+    draw_levels(bits, layout.side, xs, ys, layout.grid, mask, levels);
+    draw_hues(bits, layout, xs.len(), cxs, cys, drawn);
     Outcome::Done
 }

@@ -2,6 +2,7 @@
 // every bit.
 use answers::Number;
 use answers::outcome_number;
+use layout::Layout;
 use modulate::Cell;
 use vectors::Compared;
 use vectors::Tally;
@@ -186,40 +187,19 @@ fn read_list(row: &[u64], got: &mut [u64]) -> usize {
     read_list_in(&scores[..n], &mut bits[..bn], got)
 }
 
-// What a card is drawn from, but for its slices.
-struct Card {
-    side: usize,
-    hues: usize,
-    size: usize,
-    grid: usize,
-    mask: u8,
-}
-
 fn draw_in(
-    card: Card,
     bits: &[u8],
+    layout: Layout,
     xs: &[i32],
     ys: &[i32],
     cxs: &[u16],
     cys: &[u16],
+    mask: u8,
     levels: &mut [u8],
     drawn: &mut [usize],
     got: &mut [u64],
 ) -> usize {
-    let outcome = modulate::draw(
-        bits,
-        card.side,
-        card.hues,
-        card.size,
-        xs,
-        ys,
-        card.grid,
-        cxs,
-        cys,
-        card.mask,
-        levels,
-        drawn,
-    );
+    let outcome = modulate::draw(bits, layout, xs, ys, cxs, cys, mask, levels, drawn);
     let to_levels = vectors::put(got, 0, outcome_number(outcome) as u64);
     let to_drawn = vectors::store_u8(levels, got, to_levels);
     vectors::store_usize(drawn, got, to_drawn)
@@ -229,12 +209,13 @@ fn draw_in(
 fn draw_out(
     row: &[u64],
     at_levels: usize,
-    card: Card,
     bits: &[u8],
+    layout: Layout,
     xs: &[i32],
     ys: &[i32],
     cxs: &[u16],
     cys: &[u16],
+    mask: u8,
     got: &mut [u64],
 ) -> usize {
     let mut levels = [0u8; 64];
@@ -243,12 +224,13 @@ fn draw_out(
     let at_drawn = vectors::past_slice(row, at_levels);
     let dn = vectors::load_usize(row, at_drawn, &mut drawn);
     draw_in(
-        card,
         bits,
+        layout,
         xs,
         ys,
         cxs,
         cys,
+        mask,
         &mut levels[..ln],
         &mut drawn[..dn],
         got,
@@ -272,23 +254,23 @@ fn draw_cells(
     let at_cys = vectors::past_slice(row, at_cxs);
     let cyn = vectors::load_u16(row, at_cys, &mut cys);
     let at_mask = vectors::past_slice(row, at_cys);
-    let card = Card {
+    let layout = Layout {
         side: count(row, at_side),
         hues: vectors::usize_of(vectors::word_at(row, at_side, 1)),
         size: vectors::usize_of(vectors::word_at(row, at_side, 2)),
         grid: count(row, at_grid),
-        mask: byte(row, at_mask),
     };
     let at_levels = std::num::wrapping_add_usize(at_mask, 1);
     draw_out(
         row,
         at_levels,
-        card,
         bits,
+        layout,
         xs,
         ys,
         &cxs[..cxn],
         &cys[..cyn],
+        byte(row, at_mask),
         got,
     )
 }

@@ -4,6 +4,7 @@ use mathlib.Core.List.{List, [], _∷_}
 use Prim.Native.Nat.{ℕ, zero, suc, _+_, _*_, _≤_}
 use lib.IntN.{ℤ}
 use lib.Ieee.{Float}
+use lib.ListN.{length}
 use Rattle.card.specs.declared.Card.{Card}
 use Rattle.card.specs.Sections.{floatAt, positionAt, coordinateAt, componentAt}
 use Rattle.readout.specs.Sheet.{Sheet, sheet}
@@ -69,3 +70,14 @@ pub record Fits (c : Card) : Type 0 where
   pub modules : c .modules .at ≤ 16384
   pub cells : c .cells .at ≤ 16384
   pub whole : 32 * c .settings .hues + 32 * c .references .count + 16 * c .modules .count + 16 * c .cells .count ≤ 16328
+
+-- lists as long as the card's sections
+pub record Rooms (c : Card) (palette references : List Float) (xs ys : List ℤ) (raw : List Float) (cxs cys : List ℕ) (craw : List Float) : Type 0 where
+  pub palette-is : length palette ≡ 2 + 8 * c .settings .hues
+  pub references-are : length references ≡ 8 * c .references .count
+  pub xs-are : length xs ≡ c .modules .count
+  pub ys-are : length ys ≡ length xs
+  pub raw-are : length raw ≡ 3 * length xs
+  pub cxs-are : length cxs ≡ c .cells .count
+  pub cys-are : length cys ≡ length cxs
+  pub craw-are : length craw ≡ 3 * length cxs

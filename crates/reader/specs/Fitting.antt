@@ -1,9 +1,11 @@
 -- Document 01: the program "fits, measures, scores, refines and prints". The first two calls, and what follows them. Definitions only.
+use mathlib.Core.Path.{_≡_}
 use mathlib.Core.List.{List}
 use Prim.Native.Nat.{ℕ, _*_, _/_, _^_, _<_}
 use lib.ListN.{length}
 use lib.Ieee.{Float}
 use Rattle.sentences.specs.Sentences.{decided}
+use Rattle.listing.specs.Text.{text, written}
 use Rattle.listing.specs.Listing.{refusedLine}
 use Rattle.illum.specs.declared.IlluminationModel.{IlluminationModel}
 use Rattle.illum.specs.declared.Modelled.{Modelled}
@@ -49,3 +51,8 @@ afterFitting c references r = decided (r .number) refusedLine (measureText c ref
 -- the text of a card and its references
 unfoldable pub fitText : Sheet → List Float → List ℕ
 fitText c references = afterFitting c references (fitted c references)
+
+-- what reading it leaves: its text, from the slice's beginning; and the numbers of its fit are of the code's types
+pub record Listed (c : Sheet) (references : List Float) (r : ℕ) (before after : List ℕ) : Type 0 where
+  pub listed : text r after ≡ written (fitText c references) (text 0 before)
+  pub typed : Typed (fitted c references)

@@ -13,7 +13,7 @@ ghost use Prim.Native.Nat.{_+_, _*_, _≤_};
 ghost use lib.ListN.{length};
 ghost use Rattle.listing.specs.Text.{text, written};
 ghost use Rattle.readout.specs.Sheet.{sheet, Few};
-ghost use Rattle.reader.specs.File.{floatsOf, Modules, Cells, sheetOf, referencesOf, Fits};
+ghost use Rattle.reader.specs.File.{floatsOf, Modules, Cells, sheetOf, referencesOf, Fits, Rooms};
 ghost use Rattle.reader.specs.Fitting as spec;
 ghost use Rattle.reader.specs.Text.{cardText, listingRoom};
 use card::Card;
@@ -82,7 +82,7 @@ fn fit_card(
     out: &mut [u8],
 ) -> usize
     requires { ⌜ (Few settings (length (now xs)) (length (now cxs))) × (length (now ys) ≡ length (now xs)) × (length (now references) ≤ 4080) ⌝ }
-    ensures { λ r. ⌜ (text r (now (out .exit)) ≡ written (spec.fitText (sheet settings (now (palette .entry)) (now (xs .entry)) (now (ys .entry)) (now (raw .entry)) (now (cxs .entry)) (now (cys .entry)) (now (craw .entry))) (now (references .entry))) (text 0 (now (out .entry)))) × (spec.Typed (spec.fitted (sheet settings (now (palette .entry)) (now (xs .entry)) (now (ys .entry)) (now (raw .entry)) (now (cxs .entry)) (now (cys .entry)) (now (craw .entry))) (now (references .entry)))) ⌝ }
+    ensures { λ r. ⌜ spec.Listed (sheet settings (now (palette .entry)) (now (xs .entry)) (now (ys .entry)) (now (raw .entry)) (now (cxs .entry)) (now (cys .entry)) (now (craw .entry))) (now (references .entry)) r (now (out .entry)) (now (out .exit)) ⌝ }
 {
     let mut scratch = [0.0f32; 2040];
     let n = references.len() / 8;
@@ -157,7 +157,7 @@ fn decode_card(
     craw: &mut [f32],
     out: &mut [u8],
 ) -> usize
-    requires { ⌜ (Fits card) × (length (now palette) ≡ 2 + 8 * card .settings .hues) × (length (now references) ≡ 8 * card .references .count) × (length (now xs) ≡ card .modules .count) × (length (now ys) ≡ length (now xs)) × (length (now raw) ≡ 3 * length (now xs)) × (length (now cxs) ≡ card .cells .count) × (length (now cys) ≡ length (now cxs)) × (length (now craw) ≡ 3 * length (now cxs)) ⌝ }
+    requires { ⌜ Fits card × Rooms card (now palette) (now references) (now xs) (now ys) (now raw) (now cxs) (now cys) (now craw) ⌝ }
     ensures { λ r. ⌜ (text r (now (out .exit)) ≡ written (spec.fitText (sheetOf (now (file .entry)) card) (referencesOf (now (file .entry)) card)) (text 0 (now (out .entry)))) × (length (spec.fitText (sheetOf (now (file .entry)) card) (referencesOf (now (file .entry)) card)) ≤ listingRoom) ⌝ }
 {
     decode_floats(file, card.palette, palette);

@@ -2,6 +2,7 @@
 // gives in one piece, its last call included. Every luma score, corrected colour, chroma score and bit is compared.
 use answers::outcome_number;
 use illum::IlluminationModel;
+use layout::Layout;
 use stage_words::count;
 use stats::ChannelStats;
 use vectors::Compared;
@@ -11,23 +12,23 @@ use vectors::Tally;
 
 // What a card is read from, but for its slices.
 struct Card {
-    side: usize,
-    hues: usize,
-    size: usize,
+    layout: Layout,
     mask: u8,
-    grid: usize,
     model: IlluminationModel,
     noise: ChannelStats,
 }
 
 // The card of a record whose grid count and model stand at these places.
 fn card_at(row: &[u64], at_grid: usize, at_model: usize) -> Card {
-    Card {
+    let layout = Layout {
         side: count(row, 0, 0),
         hues: count(row, 1, 0),
         size: count(row, 2, 0),
-        mask: vectors::u8_of(vectors::word_at(row, 3, 0)),
         grid: count(row, at_grid, 0),
+    };
+    Card {
+        layout,
+        mask: vectors::u8_of(vectors::word_at(row, 3, 0)),
         model: stage_words::model(row, at_model),
         noise: stage_words::noise(row, stage_words::past_model(row, at_model)),
     }
@@ -47,15 +48,13 @@ fn demodulate(
     colours: &mut [f32],
     chroma: &mut [f32],
 ) -> u32 {
+    let layout = card.layout;
     let model = card.model;
     let noise = card.noise;
     let scored = outcome_number(demod::score(
-        card.side,
-        card.hues,
-        card.size,
+        layout,
         xs,
         ys,
-        card.grid,
         raw,
         cxs,
         cys,
@@ -73,11 +72,11 @@ fn demodulate(
     let mut scratch = [0.0f32; 2048];
     outcome_number(refine::add_local_luma(
         luma,
-        card.side,
-        card.hues,
+        layout.side,
+        layout.hues,
         xs,
         ys,
-        card.grid,
+        layout.grid,
         colours,
         palette,
         noise,
@@ -113,7 +112,15 @@ fn put_card_bits(
     luma: &mut [f32],
     chroma: &[f32],
 ) -> usize {
-    let n = outcome_number(modulate::unmask_luma(luma, card.side, xs, ys, card.grid, card.mask));
+    let layout = card.layout;
+    let n = outcome_number(modulate::unmask_luma(
+        luma,
+        layout.side,
+        xs,
+        ys,
+        layout.grid,
+        card.mask,
+    ));
     if n != 0 {
         return vectors::put(got, at, n as u64);
     }

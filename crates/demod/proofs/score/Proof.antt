@@ -1,21 +1,18 @@
--- `score` meets its contract: a refused call gives its number and writes nothing; an accepted one writes the modules and then the chroma list. Assumes nothing.
-use mathlib.Core.Path.{_≡_, ap, _∙_}
+-- `score` meets its contract: a refused call gives its number and writes nothing; an accepted one writes every score. Assumes nothing.
+use mathlib.Core.Path.{_≡_, _∙_}
 use borrow.Author.Needs.{needs}
 use mathlib.Core.List.{List}
 use Prim.Native.Nat.{ℕ}
-use native.Mathlib.Omega.{arith}
-use lib.ListN.{length}
+use lib.IntN.{ℤ}
 use lib.Ieee.{Float}
 use Rattle.sentences.specs.Sentences.{refusal}
+use Rattle.layout.specs.declared.Layout.{Layout}
 use Rattle.answers.specs.declared.Outcome.the-variants.{Refused, Done}
-use Rattle.color.specs.Palette.{linearAt}
-use Rattle.stats.proofs.Given.{are-sigmas}
-use Rattle.demod.specs.Score.{Sheet, sheet, chromaWritten}
-use Rattle.demod.specs.Call.{Request, moduleColours, cellColours, sentencesOf, scoredOf, final, writtenModules, writtenChroma}
+use Rattle.illum.specs.declared.IlluminationModel.{IlluminationModel}
+use Rattle.stats.specs.declared.ChannelStats.{ChannelStats}
+use Rattle.demod.specs.Ready.{Scorable}
+use Rattle.demod.specs.Call.{Request, request, sentencesOf, final, done, scoredOf}
 use Rattle.demod.proofs.Accepted.{turned-away, taken, accepted}
-use Rattle.demod.proofs.Chroma.{few-colours}
-use Rattle.demod.proofs.Written.{modules-are}
-use Rattle.demod.proofs.Apart.{chroma-same}
 use Rattle.demod.proofs.score.Statement.{statement}
 use Rattle.demod.proofs.score.Tie as tie
 
@@ -23,50 +20,37 @@ module _ (q : Request) (n : ℕ) (luma colours chroma : List Float) (e : n ≡ r
   away : (n ≡ 0 → ⊥) → luma ≡ q .luma → colours ≡ q .colours → chroma ≡ q .chroma → final (Refused n) luma colours chroma ≡ scoredOf q
   away z el ec eh = rw (el, ec, eh) (turned-away q n e z)
 
-  wrote : n ≡ 0 → sheet luma colours ≡ writtenModules q → chroma ≡ chromaWritten (q .layout) (q .noise) (q .palette) (linearAt colours) (length (q .xs)) (q .cxs) (q .cys) (cellColours q) (q .chroma) →
-      final Done luma colours chroma ≡ scoredOf q
-  wrote z h k =
-      let l = accepted q n e z .lengths in
-      let m = modules-are (q .noise) (q .palette) (q .layout .hues) (moduleColours q) (q .luma) (q .colours) (length (q .xs)) (l .scores) (l .places) in
-      let same : chroma ≡ writtenChroma q =
-      k ∙ chroma-same (q .layout) (q .noise) (q .palette) (linearAt colours) (moduleColours q) (length (q .xs)) (q .cxs) (q .cys) (cellColours q) (q .chroma)
-      (λ j i. ap (λ (s : Sheet). linearAt (s .colours) j) h ∙ m .coloured j i) in
-      ap (λ (s : Sheet). final Done (s .luma) (s .colours) chroma) h ∙ ap (final Done (writtenModules q .luma) (writtenModules q .colours)) same ∙ taken q n e z
+  wrote : n ≡ 0 → final Done luma colours chroma ≡ done q → final Done luma colours chroma ≡ scoredOf q
+  wrote z h = h ∙ taken q n e z
+
+-- an accepted call hands over what can be scored
+scorable : (layout : Layout) (xs ys : List ℤ) (raw : List Float) (cxs cys : List ℕ) (craw palette : List Float) (model : IlluminationModel) (noise : ChannelStats) (luma colours chroma : List Float) (n : ℕ) →
+    n ≡ refusal (sentencesOf (request layout xs ys raw cxs cys craw palette model noise luma colours chroma)) → n ≡ 0 → Scorable layout xs ys raw cxs cys craw palette luma colours chroma
+scorable layout xs ys raw cxs cys craw palette model noise luma colours chroma n e z =
+    let a = accepted (request layout xs ys raw cxs cys craw palette model noise luma colours chroma) n e z in
+    let l = a .lengths in
+    record {
+      shaped = a .shaped;
+      sampled = a .sampled;
+      modules = record { grid-most = a .placed .grid-most; most = a .placed .modules-most; colours-three = l .places };
+      cells = record { pairs = l .pairs .cells; most = a .placed .cells-most };
+      craw-three = l .craw-three;
+      palette-long = l .palette-long;
+      luma-long = l .scores;
+      chroma-long = l .chroma-long;
+    }
 
 returns : tie.Need-returns
 returns c = search (away)
 
+write-scores-requires : tie.Need-write-scores-requires
+write-scores-requires c κs = scorable _ _ _ _ _ _ _ _ _ _ _ _ _ _ (c .before .before .before .before .refused .ensures) (c .before .before .before .if1 .left)
+
 returns-2 : tie.Need-returns-2
 returns-2 c = search (wrote)
-
-palette-sigmas-requires : tie.Need-palette-sigmas-requires
-palette-sigmas-requires c κs =
-    let a = accepted _ _ (c .before .before .refused .ensures) (c .before .if1 .left) in
-    (a .lengths .palette-long, few-colours _ (a .shaped .hues-good))
-
-write-modules-requires : tie.Need-write-modules-requires
-write-modules-requires c κs =
-    let a = accepted _ _ (c .before .before .before .before .before .before .before .refused .ensures) (c .before .before .before .before .before .before .if1 .left) in
-    let l = a .lengths in
-    let s = are-sigmas _ _ _ _ (few-colours _ (a .shaped .hues-good)) _ (c .before .before .before .before .palette-sigmas .ensures) in
-    (record { palette-long = l .palette-long; sigmas-are = s }, a .sampled, l .scores, l .places)
-
-write-chroma-requires : tie.Need-write-chroma-requires
-write-chroma-requires c κs =
-    let a = accepted _ _ (c .before .before .before .before .before .before .before .before .before .before .before .before .before .before .before .refused .ensures) (c .before .before .before .before .before .before .before .before .before .before .before .before .before .before .if1 .left) in
-    let l = a .lengths in
-    let s = are-sigmas _ _ _ _ (few-colours _ (a .shaped .hues-good)) _ (c .before .before .before .before .before .before .before .before .before .before .before .before .palette-sigmas .ensures) in (
-      a .shaped,
-      record { palette-long = l .palette-long; sigmas-are = s },
-      record { grid-most = a .placed .grid-most; most = a .placed .modules-most; colours-three = omega (arith, l .places) },
-      record { pairs = l .pairs .cells; most = a .placed .cells-most },
-      l .craw-three,
-      l .chroma-long,
-    )
 
 pub score-spec : {M : Type 1} → statement M
 score-spec =
     tie.close
-    (tie.spec (λ c κs. search needs) (λ c. search needs) (λ c. search needs) (λ c. search needs) returns (λ c. search needs) palette-sigmas-requires
-    (λ c. search needs) write-modules-requires (λ c. search needs) write-chroma-requires (λ c. search needs) (λ c. search needs) (λ c. search needs)
-    returns-2)
+    (tie.spec (λ c κs. search needs) (λ c. search needs) (λ c. search needs) (λ c. search needs) returns write-scores-requires (λ c. search needs)
+    (λ c. search needs) (λ c. search needs) returns-2)

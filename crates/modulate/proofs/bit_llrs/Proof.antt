@@ -1,18 +1,19 @@
 -- `modulate::bit_llrs` meets its contract: what is left of the bits gives the list. Assumes nothing.
-use mathlib.Core.Path.{_≡_, refl, sym, ap, _∙_}
+use mathlib.Core.Path.{_≡_, ap, _∙_}
 use borrow.Author.Needs.{needs}
+use mathlib.Core.Bool.{false}
 use mathlib.Core.List.{List}
-use Prim.Native.Nat.{ℕ, _-_, _≤_, _<_}
+use Prim.Native.Nat.{ℕ, _-_, _≤_}
 use lib.ListN.{length, set}
 use lib.Ieee.{Float, nan}
 use Rattle.loops.proofs.Laws.{Left, loops}
 use Rattle.limits.specs.Chroma.{log2}
 use Rattle.limits.specs.Limits.{badHues}
 use Rattle.limits.proofs.Laws.{hues-in}
-use mathlib.Core.Bool.{false}
 use Rattle.modulate.specs.declared.Cell.{Cell}
 use Rattle.lists.specs.Lists.{replaceAt, replaced}
 use Rattle.modulate.specs.Score.{bitLlr, bitLlrAt, chromaBitLlrs}
+use Rattle.modulate.proofs.Ready.{hue-count}
 use Rattle.modulate.proofs.bit_llrs.Statement.{statement}
 use Rattle.modulate.proofs.bit_llrs.Tie as tie
 
@@ -24,15 +25,8 @@ Inv ll cell hues out₀ bits b₀ out b =
 abbrev μ : tie.MeasureT-loop
 μ ll cell hues out₀ bits b₀ out b = bits - b
 
-module _ (k : ℕ) (h : badHues k ≡ false) where
-  some : 0 < k
-  some = hues-in k h .least
-
-  few : k ≤ 16
-  few = hues-in k h .most
-
-  short : (bits : ℕ) → bits ≡ log2 k → bits ≤ 4
-  short bits e = rw e (hues-in k h .bits)
+short : (k bits : ℕ) → badHues k ≡ false → bits ≡ log2 k → bits ≤ 4
+short k bits h e = rw e (hues-in k h .bits)
 
 module _ (ll : List Float) (cell : Cell) (k : ℕ) where
   put : (out : List Float) (b : ℕ) (v : Float) → v ≡ bitLlr ll cell k b → set out b v ≡ replaceAt nan (bitLlrAt ll cell k) b out
@@ -42,7 +36,7 @@ module _ (ll : List Float) (cell : Cell) (k : ℕ) where
   whole out out₀ n e h = h ∙ ap (λ (m : ℕ). replaced nan m (bitLlrAt ll cell k) out₀) e
 
 bit-llr-requires : tie.Need-bit-llr-requires Inv μ
-bit-llr-requires c κs = (search (some), search (few), search needs, search (short), search needs, search needs)
+bit-llr-requires c κs = (search (hue-count), search needs, search (short), search needs, search needs)
 
 loop-again : tie.Need-loop-again Inv μ
 loop-again c = search (put, loops, needs)

@@ -1,11 +1,8 @@
 -- `modulate::draw` meets its contract: refused by the first sentence that holds, or drawn. Assumes nothing.
-use mathlib.Core.Path.{_≡_, refl, sym, ap, _∙_}
+use mathlib.Core.Path.{_≡_}
 use borrow.Author.Needs.{needs}
-use mathlib.Core.Bool.{Bool, true, false}
 use mathlib.Core.List.{List}
-use Prim.Native.Nat.{ℕ, _+_, _≤_}
-use native.Mathlib.Omega.{arith}
-use lib.ListN.{length}
+use Prim.Native.Nat.{ℕ}
 use Rattle.sentences.specs.Sentences.{refusal}
 use Rattle.answers.specs.declared.Outcome.the-variants.{Refused, Done}
 use Rattle.modulate.specs.Draw.{Card, drawn, levelsOf, huesOf, drawSentences, drawOf}
@@ -26,12 +23,12 @@ returns c = search (away)
 draw-levels-requires : tie.Need-draw-levels-requires
 draw-levels-requires c κs =
     let a = accepted _ _ (c .before .before .refused-draw .ensures) (c .before .if1 .left) in
-    (a .side-most, a .modules-bits, a .lengths .modules, a .placed, a .lengths .levels-in)
+    (record { side-most = a .shaped .side-most; pairs = a .lengths .pairs .modules; places-good = a .placed .places-good }, a .modules-bits, a .lengths .levels-in)
 
 draw-hues-requires : tie.Need-draw-hues-requires
 draw-hues-requires c κs =
     let a = accepted _ _ (c .before .before .before .before .before .before .refused-draw .ensures) (c .before .before .before .before .before .if1 .left) in
-    (a .hues-good, a .counts .0, a .counts .2, a .lengths .cells, a .lengths .bits-in, a .lengths .hues-in)
+    (a .shaped, a .placed .modules-most, a .placed .cells-most, a .lengths .pairs .cells, a .lengths .bits-in, a .lengths .hues-in)
 
 returns-2 : tie.Need-returns-2
 returns-2 c = search (wrote)

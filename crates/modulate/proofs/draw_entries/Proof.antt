@@ -1,8 +1,8 @@
 -- `modulate::draw_entries` meets its contract: what is left of the places gives the list. Assumes nothing.
-use mathlib.Core.Path.{_≡_, refl, sym, ap, _∙_}
+use mathlib.Core.Path.{_≡_, ap}
 use borrow.Author.Needs.{needs}
 use mathlib.Core.List.{List}
-use Prim.Native.Nat.{ℕ, suc, _+_, _*_, _-_, _≤_, _<_}
+use Prim.Native.Nat.{ℕ, _+_, _*_, _-_, _≤_, _<_}
 use native.Mathlib.Nat.{mul-le-mul-left, mul-suc}
 use native.Mathlib.Omega.{arith}
 use lib.ListN.{length, set}
@@ -28,7 +28,7 @@ put : (bits : List ℕ) (k m : ℕ) (cxs cys drawn : List ℕ) (j v : ℕ) → v
 put bits k m cxs cys drawn j v e = ap (set drawn j) e
 
 hue-at-requires : tie.Need-hue-at-requires Inv μ
-hue-at-requires c κs = (search needs, search needs, search needs, search (room), search needs)
+hue-at-requires c κs = (search needs, search needs, search (room), search needs)
 
 loop-again : tie.Need-loop-again Inv μ
 loop-again c = search (put, loops, needs)

@@ -1,45 +1,36 @@
 -- `modulate::draw_hues` meets its contract: with chroma on every place is drawn, with chroma off none. Assumes nothing.
-use mathlib.Core.Path.{_≡_, refl, sym, ap, _∙_}
+use mathlib.Core.Path.{_≡_, sym, ap, _∙_}
 use borrow.Author.Needs.{needs}
 use mathlib.Core.Bool.{Bool, true, false}
 use mathlib.Core.List.{List}
 use Prim.Native.Nat.{ℕ, _+_, _*_, _≤_, _<_}
 use native.Mathlib.Omega.{arith}
 use lib.ListN.{length}
-use Rattle.limits.specs.Limits.{badHues}
 use Rattle.limits.specs.Chroma.{chromaOn, symbolBits, ringModules, chromaEntries, chromaLength}
-use Rattle.limits.proofs.Laws.{hues-in, symbol-bits-few}
+use Rattle.limits.proofs.Laws.{symbol-bits-few}
+use Rattle.layout.specs.declared.Layout.{Layout}
 use Rattle.lists.specs.Lists.{replaced}
 use Rattle.modulate.specs.Draw.{hueAtOf, shortBits, shortHues, drawnHues}
 use Rattle.modulate.proofs.Lengths.{bits-long, hues-long}
+use Rattle.modulate.proofs.Ready.{hue-count}
 use Rattle.modulate.proofs.draw_hues.Statement.{statement}
 use Rattle.modulate.proofs.draw_hues.Tie as tie
 
-module _ (k : ℕ) (h : badHues k ≡ false) where
-  some : 0 < k
-  some = hues-in k h .least
-
-  few : k ≤ 16
-  few = hues-in k h .most
-
-  short : symbolBits k ≤ 4
-  short = symbol-bits-few k h
-
-module _ (bits k size m g c ring count : ℕ) (d : ring ≡ ringModules m g) (e : count ≡ chromaEntries c ring size) where
-  bits-in : shortBits bits k size m g c ≡ false → m + symbolBits k * count ≤ bits
+module _ (bits : ℕ) (l : Layout) (m c ring count : ℕ) (d : ring ≡ ringModules m (l .grid)) (e : count ≡ chromaEntries c ring (l .size)) where
+  bits-in : shortBits bits l m c ≡ false → m + symbolBits (l .hues) * count ≤ bits
   unfolding chromaLength
-  bits-in h = rw (e, d) (bits-long bits k size m g c h)
+  bits-in h = rw (e, d) (bits-long bits l m c h)
 
-  hues-in-room : (hues : ℕ) (on : Bool) → shortHues hues k size m g c ≡ false → on ≡ chromaOn k → on ≡ true → count ≤ hues
-  hues-in-room hues on h f t = rw (e, d) (hues-long hues k size m g c h (sym f ∙ t))
+  hues-in-room : (hues : ℕ) (on : Bool) → shortHues hues l m c ≡ false → on ≡ chromaOn (l .hues) → on ≡ true → count ≤ hues
+  hues-in-room hues on h f t = rw (e, d) (hues-long hues l m c h (sym f ∙ t))
 
-module _ (bits : List ℕ) (k size m g : ℕ) (cxs cys hues : List ℕ) (on : Bool) (f : on ≡ chromaOn k) where
-  drawn : (l : List ℕ) (ring count : ℕ) → on ≡ true → ring ≡ ringModules m g → count ≡ chromaEntries (length cxs) ring size →
-      l ≡ replaced 0 count (hueAtOf bits k m cxs cys) hues → l ≡ drawnHues bits k size m g cxs cys hues
+module _ (bits : List ℕ) (l : Layout) (m : ℕ) (cxs cys hues : List ℕ) (on : Bool) (f : on ≡ chromaOn (l .hues)) where
+  drawn : (after : List ℕ) (ring count : ℕ) → on ≡ true → ring ≡ ringModules m (l .grid) → count ≡ chromaEntries (length cxs) ring (l .size) →
+      after ≡ replaced 0 count (hueAtOf bits (l .hues) m cxs cys) hues → after ≡ drawnHues bits l m cxs cys hues
   unfolding drawnHues
-  drawn l ring count t d e h = rw (← f, t) (h ∙ ap (λ (n : ℕ). replaced 0 n (hueAtOf bits k m cxs cys) hues) (e ∙ ap (λ (r : ℕ). chromaEntries (length cxs) r size) d))
+  drawn after ring count t d e h = rw (← f, t) (h ∙ ap (λ (n : ℕ). replaced 0 n (hueAtOf bits (l .hues) m cxs cys) hues) (e ∙ ap (λ (r : ℕ). chromaEntries (length cxs) r (l .size)) d))
 
-  left-alone : on ≡ false → hues ≡ drawnHues bits k size m g cxs cys hues
+  left-alone : on ≡ false → hues ≡ drawnHues bits l m cxs cys hues
   unfolding drawnHues
   left-alone t = rw (← f, t)
 
@@ -50,7 +41,7 @@ chroma-entries-requires : tie.Need-chroma-entries-requires
 chroma-entries-requires c κs = search (few-ring)
 
 draw-entries-requires : tie.Need-draw-entries-requires
-draw-entries-requires c κs = (search (some), search (few), search (short), search (bits-in), search needs, search (hues-in-room))
+draw-entries-requires c κs = (search (hue-count), search (symbol-bits-few), search (bits-in), search needs, search (hues-in-room))
 
 returns : tie.Need-returns
 returns c = search (drawn)

@@ -1,13 +1,12 @@
 -- `modulate::draw_levels` meets its contract: what is left of the modules gives the list. Assumes nothing.
-use mathlib.Core.Path.{_≡_, refl, sym, ap, _∙_}
+use mathlib.Core.Path.{_≡_, ap}
 use borrow.Author.Needs.{needs}
-use mathlib.Core.Bool.{false}
 use mathlib.Core.List.{List}
-use Prim.Native.Nat.{ℕ, _-_, _<_}
+use Prim.Native.Nat.{ℕ, _-_}
 use lib.IntN.{ℤ}
 use lib.ListN.{length, set}
-use Rattle.loops.proofs.Laws.{Left, anyUp-false, loops}
-use Rattle.places.specs.Places.{misplacedAt, badPlaces}
+use Rattle.loops.proofs.Laws.{Left, loops}
+use Rattle.layout.proofs.Laws.{position-at}
 use Rattle.lists.specs.Lists.{replaceAt}
 use Rattle.modulate.specs.Draw.{levelAt, levelAtOf, drawnLevels}
 use Rattle.modulate.proofs.draw_levels.Statement.{statement}
@@ -21,15 +20,12 @@ Inv bits side xs ys grid mask levels₀ i₀ n levels i =
 abbrev μ : tie.MeasureT-loop
 μ bits side xs ys grid mask levels₀ i₀ n levels i = n - i
 
-placed : (side g i n : ℕ) (xs ys : List ℤ) → badPlaces side g xs ys ≡ false → i < n → n ≡ length xs → misplacedAt side g xs ys i ≡ false
-placed side g i n xs ys h l e = anyUp-false (misplacedAt side g xs ys) (length xs) h i (rw (← e) l)
-
 put : (bits : List ℕ) (xs ys : List ℤ) (g mask : ℕ) (levels : List ℕ) (i v : ℕ) → v ≡ levelAt bits xs ys g mask i →
     set levels i v ≡ replaceAt 0 (levelAtOf bits xs ys g mask) i levels
 put bits xs ys g mask levels i v e = ap (set levels i) e
 
 level-at-requires : tie.Need-level-at-requires Inv μ
-level-at-requires c κs = (search needs, search needs, search needs, search needs, search (placed))
+level-at-requires c κs = (search (position-at, needs), search needs)
 
 loop-again : tie.Need-loop-again Inv μ
 loop-again c = search (put, loops, needs)

@@ -1,5 +1,5 @@
 -- `modulate::hue_at` meets its contract: the steps are the definition; a cell by the mask, a ring module without. Assumes nothing.
-use mathlib.Core.Path.{_≡_, refl, sym, ap, _∙_}
+use mathlib.Core.Path.{_≡_}
 use borrow.Author.Needs.{needs}
 use mathlib.Core.List.{List}
 use Prim.Native.Nat.{ℕ, _+_, _*_, _^_, _≤_, _<_}
@@ -35,13 +35,13 @@ module _ (bits : List ℕ) (k m : ℕ) (cxs cys : List ℕ) (j q s h : ℕ) (d :
   a-ring-module l = rw (le-ltb j (length cxs) l, ← d, ← e) f
 
 mul-symbol-at : tie.Need-mul-symbol-at
-mul-symbol-at c = product _ _ _ _ _ (c .symbol-bits .ensures) (c .before .before .before .before .pre .3) (omega arith)
+mul-symbol-at c = search (product, needs)
 
 add-symbol-at : tie.Need-add-symbol-at
-add-symbol-at c = sum _ _ _ _ _ (c .symbol-bits .ensures) (c .before .before .before .before .pre .3) (omega arith)
+add-symbol-at c = search (sum, needs)
 
 symbol-at-requires : tie.Need-symbol-at-requires
-symbol-at-requires c κs = (inside _ _ _ _ _ (c .symbol-bits .ensures) (c .before .before .before .before .pre .3), search needs)
+symbol-at-requires c κs = (search (inside), search needs)
 
 returns : tie.Need-returns
 returns c = search (a-cell)

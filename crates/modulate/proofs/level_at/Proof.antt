@@ -1,25 +1,16 @@
 -- `modulate::level_at` meets its contract: a grid module by the mask at its coordinates, a ring module without. Assumes nothing.
-use mathlib.Core.Path.{_≡_, refl, sym, ap, _∙_}
+use mathlib.Core.Path.{_≡_, ap}
 use borrow.Author.Needs.{needs}
-use mathlib.Core.Bool.{Bool, true, false}
 use mathlib.Core.List.{List}
 use Prim.Native.Nat.{ℕ, _≤_, _<_}
 use borrow.Author.Tests.{lt-ltb, le-ltb}
 use lib.IntN.{ℤ, pos, natAbs}
-use lib.ListN.{length, getD}
-use Rattle.places.specs.Places.{outside, misplacedAt}
-use Rattle.places.proofs.Placed.{in-grid}
+use lib.ListN.{getD}
 use Rattle.modulate.specs.Score.{coordinate}
 use Rattle.modulate.specs.Draw.{gridLevel, ringLevel, levelAt}
+use Rattle.modulate.proofs.Ready.{column-in-grid, row-in-grid}
 use Rattle.modulate.proofs.level_at.Statement.{statement}
 use Rattle.modulate.proofs.level_at.Tie as tie
-
-module _ (side g i : ℕ) (xs ys : List ℤ) (h : misplacedAt side g xs ys i ≡ false) (l : i < g) where
-  column : outside side 0 (getD xs i (pos 0)) ≡ false
-  column = in-grid side g i (getD xs i (pos 0)) (getD ys i (pos 0)) h l .0
-
-  row : outside side 0 (getD ys i (pos 0)) ≡ false
-  row = in-grid side g i (getD xs i (pos 0)) (getD ys i (pos 0)) h l .1
 
 module _ (bits : List ℕ) (xs ys : List ℤ) (g mask i r : ℕ) where
   in-the-grid : (x y : ℕ) → i < g → pos x ≡ getD xs i (pos 0) → pos y ≡ getD ys i (pos 0) → r ≡ gridLevel (getD bits i 0) mask x y → r ≡ levelAt bits xs ys g mask i
@@ -34,10 +25,10 @@ module _ (bits : List ℕ) (xs ys : List ℤ) (g mask i r : ℕ) where
   in-the-ring h e = rw (le-ltb i g h) e
 
 coordinate-at-requires : tie.Need-coordinate-at-requires
-coordinate-at-requires c κs = (search needs, search needs, search (column))
+coordinate-at-requires c κs = (search needs, search needs, search (column-in-grid))
 
 coordinate-at-requires-2 : tie.Need-coordinate-at-requires-2
-coordinate-at-requires-2 c κs = (search needs, search needs, search (row))
+coordinate-at-requires-2 c κs = (search needs, search needs, search (row-in-grid))
 
 returns : tie.Need-returns
 returns c = search (in-the-grid)

@@ -1,24 +1,16 @@
 -- `modulate::masked_at` meets its contract: a grid module is inside the grid, and its coordinates are read as they stand. Assumes nothing.
-use mathlib.Core.Path.{_≡_, refl, sym, ap, _∙_}
+use mathlib.Core.Path.{_≡_, ap}
 use borrow.Author.Needs.{needs}
-use mathlib.Core.Bool.{Bool, false}
+use mathlib.Core.Bool.{Bool}
 use mathlib.Core.List.{List}
-use Prim.Native.Nat.{ℕ, _<_}
+use Prim.Native.Nat.{ℕ}
 use lib.IntN.{ℤ, pos, natAbs}
-use lib.ListN.{length, getD}
-use Rattle.places.specs.Places.{outside, misplacedAt}
-use Rattle.places.proofs.Placed.{in-grid}
+use lib.ListN.{getD}
 use Rattle.modulate.specs.Mask.{lumaMask}
 use Rattle.modulate.specs.Score.{coordinate, maskedAt}
+use Rattle.modulate.proofs.Ready.{column-in-grid, row-in-grid}
 use Rattle.modulate.proofs.masked_at.Statement.{statement}
 use Rattle.modulate.proofs.masked_at.Tie as tie
-
-module _ (side g i : ℕ) (xs ys : List ℤ) (h : misplacedAt side g xs ys i ≡ false) (l : i < g) where
-  column : outside side 0 (getD xs i (pos 0)) ≡ false
-  column = in-grid side g i (getD xs i (pos 0)) (getD ys i (pos 0)) h l .0
-
-  row : outside side 0 (getD ys i (pos 0)) ≡ false
-  row = in-grid side g i (getD xs i (pos 0)) (getD ys i (pos 0)) h l .1
 
 steps : (id : ℕ) (xs ys : List ℤ) (i x y : ℕ) (r : Bool) → pos x ≡ getD xs i (pos 0) → pos y ≡ getD ys i (pos 0) → r ≡ lumaMask id x y → r ≡ maskedAt id xs ys i
 unfolding maskedAt
@@ -28,10 +20,10 @@ steps id xs ys i x y r ex ey e =
     cc
 
 coordinate-at-requires : tie.Need-coordinate-at-requires
-coordinate-at-requires c κs = (search needs, search needs, search (column))
+coordinate-at-requires c κs = (search needs, search needs, search (column-in-grid))
 
 coordinate-at-requires-2 : tie.Need-coordinate-at-requires-2
-coordinate-at-requires-2 c κs = (search needs, search needs, search (row))
+coordinate-at-requires-2 c κs = (search needs, search needs, search (row-in-grid))
 
 returns : tie.Need-returns
 returns c = search (steps)

@@ -7,6 +7,7 @@ use native.Mathlib.Omega.{arith}
 use borrow.Author.Tests.{lt-ltb, le-ltb, ltb-true, ltb-false}
 use lib.Dec.{ltb}
 use Rattle.limits.specs.Chroma.{ringModules, chromaLength}
+use Rattle.layout.specs.declared.Layout.{Layout}
 use Rattle.modulate.specs.Draw.{shortBits}
 use Rattle.modulate.proofs.short_bits.Statement.{statement}
 use Rattle.modulate.proofs.short_bits.Tie as tie
@@ -15,16 +16,16 @@ rest-below : (n c r : ℕ) (b : Bool) → c ≤ n → ltb (n - c) r ≡ b → lt
 rest-below n c r true h e = e ∙ sym (lt-ltb n (c + r) (omega (arith, ltb-true (n - c) r e)))
 rest-below n c r false h e = e ∙ sym (le-ltb n (c + r) (omega (arith, ltb-false (n - c) r e)))
 
-module _ (bits k size m g c : ℕ) where
-  for-modules : bits < m → true ≡ shortBits bits k size m g c
+module _ (bits : ℕ) (l : Layout) (m c : ℕ) where
+  for-modules : bits < m → true ≡ shortBits bits l m c
   unfolding shortBits
-  for-modules h = sym (lt-ltb bits (m + chromaLength k c (ringModules m g) size) (omega arith))
+  for-modules h = sym (lt-ltb bits (m + chromaLength (l .hues) c (ringModules m (l .grid)) (l .size)) (omega arith))
 
-  for-chroma : (ring : ℕ) (r : Bool) → m ≤ bits → ring ≡ ringModules m g → r ≡ ltb (bits - m) (chromaLength k c ring size) → r ≡ shortBits bits k size m g c
+  for-chroma : (ring : ℕ) (r : Bool) → m ≤ bits → ring ≡ ringModules m (l .grid) → r ≡ ltb (bits - m) (chromaLength (l .hues) c ring (l .size)) → r ≡ shortBits bits l m c
   unfolding shortBits
   for-chroma ring r h d e =
-      e ∙ ap (λ (x : ℕ). ltb (bits - m) (chromaLength k c x size)) d ∙
-      rest-below bits m (chromaLength k c (ringModules m g) size) (ltb (bits - m) (chromaLength k c (ringModules m g) size)) h refl
+      let listed = chromaLength (l .hues) c (ringModules m (l .grid)) (l .size) in
+      e ∙ ap (λ (x : ℕ). ltb (bits - m) (chromaLength (l .hues) c x (l .size))) d ∙ rest-below bits m listed (ltb (bits - m) listed) h refl
 
 returns : tie.Need-returns
 returns c = search (for-modules)

@@ -1,15 +1,11 @@
 -- `modulate::unmask_grid` meets its contract: what is left of the grid modules gives the list. Assumes nothing.
-use mathlib.Core.Path.{_≡_, refl, sym, ap, _∙_}
+use mathlib.Core.Path.{_≡_}
 use borrow.Author.Needs.{needs}
-use mathlib.Core.Bool.{false}
-use mathlib.Core.List.{List}
-use Prim.Native.Nat.{ℕ, _-_, _≤_, _<_}
-use native.Mathlib.Omega.{arith}
-use lib.IntN.{ℤ}
+use Prim.Native.Nat.{_-_}
 use lib.ListN.{length}
 use lib.Ieee.{nan}
-use Rattle.loops.proofs.Laws.{Left, anyUp-false, loops}
-use Rattle.places.specs.Places.{misplacedAt, badPlaces}
+use Rattle.loops.proofs.Laws.{Left, loops}
+use Rattle.layout.proofs.Laws.{position-at}
 use Rattle.lists.specs.Lists.{replaceAt}
 use Rattle.modulate.specs.Score.{unmaskAt, unmasked}
 use Rattle.modulate.proofs.unmask_grid.Statement.{statement}
@@ -22,11 +18,8 @@ Inv mask side xs ys grid luma₀ i₀ luma i =
 abbrev μ : tie.MeasureT-loop
 μ mask side xs ys grid luma₀ i₀ luma i = grid - i
 
-placed : (side g i : ℕ) (xs ys : List ℤ) → badPlaces side g xs ys ≡ false → i < g → g ≤ length xs → misplacedAt side g xs ys i ≡ false
-placed side g i xs ys h l m = anyUp-false (misplacedAt side g xs ys) (length xs) h i (omega arith)
-
 unmask-at-requires : tie.Need-unmask-at-requires Inv μ
-unmask-at-requires c κs = (search needs, search needs, search needs, search needs, search (placed), search needs)
+unmask-at-requires c κs = (position-at _ _ _ _ _ (search needs) (search needs), search needs, search needs)
 
 pub unmask-grid-spec : {M : Type 1} → statement M
 unmask-grid-spec =

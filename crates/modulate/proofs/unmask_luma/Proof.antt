@@ -1,15 +1,17 @@
 -- `modulate::unmask_luma` meets its contract: refused by the first sentence that holds, or written. Assumes nothing.
-use mathlib.Core.Path.{_≡_, refl, sym, ap, _∙_}
+use mathlib.Core.Path.{_≡_, refl, sym, _∙_}
 use borrow.Author.Needs.{needs}
-use mathlib.Core.Bool.{Bool, true, false}
-use mathlib.Core.List.{List}
+use mathlib.Core.Bool.{false}
+use mathlib.Core.List.{List, [], _∷_}
 use Prim.Native.Nat.{ℕ, _≤_}
 use lib.IntN.{ℤ}
 use lib.ListN.{length}
 use lib.Ieee.{Float}
 use Rattle.sentences.specs.Sentences.{refusal, at, sound, fresh}
-use Rattle.places.specs.Places.{badPlaces}
-use Rattle.limits.proofs.Laws.{side-in, modules-in}
+use Rattle.sentences.proofs.Laws.{split}
+use Rattle.limits.proofs.Laws.{side-in}
+use Rattle.layout.specs.Groups.{modulePlacement, ModulesPlaced, Positions}
+use Rattle.layout.proofs.Laws.{modules-placed}
 use Rattle.answers.specs.declared.Outcome.the-variants.{Refused, Done}
 use Rattle.answers.specs.Answers.{ended}
 use Rattle.modulate.specs.Score.{unmasked, unmaskSentences, unmaskLumaOf}
@@ -28,24 +30,24 @@ module _ (luma : List Float) (side : ℕ) (xs ys : List ℤ) (g mask n : ℕ) (e
   wrote l z h = list-written (unmaskSentences luma side xs ys g) luma (unmasked mask xs ys g luma) n e l z h
 
 module _ (luma : List Float) (side : ℕ) (xs ys : List ℤ) (g n : ℕ) (e : n ≡ refusal (unmaskSentences luma side xs ys g)) (z : n ≡ 0) where
-  small : side ≤ 1024
-  unfolding unmaskSentences at sound fresh
-  small = side-in side (none-of (unmaskSentences luma side xs ys g) refl n e z 2) .1
+  none : (m : ℕ) → at m (unmaskSentences luma side xs ys g) ≡ false
+  unfolding unmaskSentences modulePlacement sound fresh
+  none = none-of (unmaskSentences luma side xs ys g) refl n e z
+
+  on-card : ModulesPlaced side g xs ys
+  unfolding unmaskSentences sound fresh
+  on-card = modules-placed side g xs ys 0 (split (_ ∷ _ ∷ []) _ refl (sym z ∙ e) .1) refl
 
   long : (length xs ≡ length ys) × (length xs ≤ length luma)
-  unfolding unmaskSentences at sound fresh
-  long = luma-lengths (length xs) (length ys) (length luma) (none-of (unmaskSentences luma side xs ys g) refl n e z 5)
+  unfolding unmaskSentences at
+  long = luma-lengths (length xs) (length ys) (length luma) (none 5)
 
-  grid : g ≤ length xs
-  unfolding unmaskSentences at sound fresh
-  grid = modules-in (length xs) g (none-of (unmaskSentences luma side xs ys g) refl n e z 6) .1
+  positions : Positions side g xs ys
+  unfolding unmaskSentences at
+  positions = record { side-most = side-in side (none 2) .1; pairs = long .0; places-good = on-card .places-good }
 
-  placed : badPlaces side g xs ys ≡ false
-  unfolding unmaskSentences at sound fresh
-  placed = none-of (unmaskSentences luma side xs ys g) refl n e z 7
-
-  pairs : length xs ≡ length ys
-  pairs = long .0
+  grid-most : g ≤ length xs
+  grid-most = on-card .grid-most
 
   scores : length xs ≤ length luma
   scores = long .1
@@ -54,7 +56,7 @@ returns : tie.Need-returns
 returns c = search (away)
 
 unmask-grid-requires : tie.Need-unmask-grid-requires
-unmask-grid-requires c κs = (search (small), search (grid, needs), search (pairs), search (placed), search (scores))
+unmask-grid-requires c κs = (search (positions), search (grid-most, needs), search (scores))
 
 returns-2 : tie.Need-returns-2
 returns-2 c = search (wrote)

@@ -12,7 +12,7 @@ fit-card-requires c κs =
     let m = c .before .before .before .before .before .before .before .before .before .before .before .before .before .before .before .before .before .before .before .before .before .before .before .decode-modules .ensures in
     let n = c .before .before .before .before .before .before .before .before .before .before .before .before .before .before .before .decode-cells .ensures in
     let r = c .before .before .before .before .before .before .before .before .before .before .before .before .before .before .before .before .before .before .before .before .before .before .before .before .before .before .before .before .before .decode-floats2 .ensures in
-    (decoded-few _ _ (p .0) _ _ _ _ _ _ _ _ _ _ m n (p .3) (p .6), in-pairs _ _ _ _ _ _ m, few-references _ _ (p .0) _ _ _ r (p .2))
+    (decoded-few _ _ (p .0) _ _ _ _ _ _ _ _ _ _ m n (p .1 .xs-are) (p .1 .cxs-are), in-pairs _ _ _ _ _ _ m, few-references _ _ (p .0) _ _ _ r (p .1 .references-are))
 
 returns : tie.Need-returns
 returns c =
@@ -23,8 +23,8 @@ returns c =
     let r = c .before .before .before .before .before .before .before .before .before .before .before .before .before .before .before .before .before .before .before .before .before .before .before .before .before .before .before .before .before .before .before .before .decode-floats2 .ensures in
     let m = c .before .before .before .before .before .before .before .before .before .before .before .before .before .before .before .before .before .before .before .before .before .before .before .before .before .before .decode-modules .ensures in
     let n = c .before .before .before .before .before .before .before .before .before .before .before .before .before .before .before .before .before .before .decode-cells .ensures in (
-      decoded _ _ _ _ _ _ _ _ _ _ _ _ _ _ a r m n (p .1) (p .2) (p .3) (p .6) _ _ (f .0),
-      card-in (start .args .file .now) (start .args .card) (p .0) (decoded-typed _ _ _ _ _ _ _ _ _ _ _ _ _ _ a r m n (p .1) (p .2) (p .3) (p .6) (f .1)),
+      decoded _ _ _ _ _ _ _ _ _ _ _ _ _ _ a r m n (p .1 .palette-is) (p .1 .references-are) (p .1 .xs-are) (p .1 .cxs-are) _ _ (f .listed),
+      card-in (start .args .file .now) (start .args .card) (p .0) (decoded-typed _ _ _ _ _ _ _ _ _ _ _ _ _ _ a r m n (p .1 .palette-is) (p .1 .references-are) (p .1 .xs-are) (p .1 .cxs-are) (f .typed)),
     )
 
 pub decode-card-spec : {M : Type 1} → statement M

@@ -15,26 +15,30 @@ returns c =
     let start = c .before .before .before .before .before .before .before .before .before .before .before .before .before .before .before .before in
     let a = start .args in
     let e = c .before .before .before .before .before .before .before .fit-flat .ensures in
-    let p = start .pre .2 in (
-      search (not-fitted, scratch-first),
-      (let g = c .before .before .before .before .before .struct-known .given in
+    let p = start .pre .2 in
+    record {
+      listed = search (not-fitted, scratch-first);
+      typed =
+          (let g = c .before .before .before .before .before .struct-known .given in
           let h = g .1 .0 .1 .1 .1 .1 .1 .1 .1 .1 .1 in
           typed (a .settings) (a .palette .now) (a .xs .now) (a .ys .now) (a .raw .now) (a .cxs .now) (a .cys .now) (a .craw .now) (a .references .now) _ _ _ e (scratch-first (a .references .now) p)
-          (record { number = omega (arith, g .0); terms = omega (arith, h .0); kept = omega (arith, h .1 .1 .1 .1 .0); rejected = omega (arith, h .1 .1 .1 .0) })),
-    )
+          (record { number = omega (arith, g .0); terms = omega (arith, h .0); kept = omega (arith, h .1 .1 .1 .1 .0); rejected = omega (arith, h .1 .1 .1 .0) }));
+    }
 
 returns-2 : tie.Need-returns-2
 returns-2 c =
     let start = c .before .before .before .before .before .before .before .before .before .before .before .before .before .before .before .before .before in
     let a = start .args in
     let e = c .before .before .before .before .before .before .before .before .fit-flat .ensures in
-    let p = start .pre .2 in (
-      search (has-fitted, scratch-first),
-      (let g = c .before .before .before .before .before .before .struct-known .given in
+    let p = start .pre .2 in
+    record {
+      listed = search (has-fitted, scratch-first);
+      typed =
+          (let g = c .before .before .before .before .before .before .struct-known .given in
           let h = g .1 .0 .1 .1 .1 .1 .1 .1 .1 .1 .1 in
           typed (a .settings) (a .palette .now) (a .xs .now) (a .ys .now) (a .raw .now) (a .cxs .now) (a .cys .now) (a .craw .now) (a .references .now) _ _ _ e (scratch-first (a .references .now) p)
-          (record { number = omega (arith, g .0); terms = omega (arith, h .0); kept = omega (arith, h .1 .1 .1 .1 .0); rejected = omega (arith, h .1 .1 .1 .0) })),
-    )
+          (record { number = omega (arith, g .0); terms = omega (arith, h .0); kept = omega (arith, h .1 .1 .1 .1 .0); rejected = omega (arith, h .1 .1 .1 .0) }));
+    }
 
 pub fit-card-spec : {M : Type 1} → statement M
 fit-card-spec =

@@ -39,14 +39,16 @@ decode-card-requires c κs =
     let m = card .modules .count in
     let n = card .cells .count in (
       f,
-      sym (same-long (2 + 8 * card .settings .hues) 4082 _ (omega arith)),
-      sym (same-long (8 * card .references .count) 4080 _ (omega arith)),
-      sym (same-long m 1020 _ (omega arith)),
-      both-long m 1020 _ _ (omega arith),
-      thrice-long m 1020 3060 _ _ (omega arith) (omega arith),
-      sym (same-long n 1020 _ (omega arith)),
-      both-long n 1020 _ _ (omega arith),
-      thrice-long n 1020 3060 _ _ (omega arith) (omega arith),
+      record {
+        palette-is = sym (same-long (2 + 8 * card .settings .hues) 4082 _ (omega arith));
+        references-are = sym (same-long (8 * card .references .count) 4080 _ (omega arith));
+        xs-are = sym (same-long m 1020 _ (omega arith));
+        ys-are = both-long m 1020 _ _ (omega arith);
+        raw-are = thrice-long m 1020 3060 _ _ (omega arith) (omega arith);
+        cxs-are = sym (same-long n 1020 _ (omega arith));
+        cys-are = both-long n 1020 _ _ (omega arith);
+        craw-are = thrice-long n 1020 3060 _ _ (omega arith) (omega arith);
+      },
     )
 
 pub read-opened-spec : {M : Type 1} → statement M
