@@ -575,11 +575,9 @@ fn refused(
     if too_short(palette, hues, lent, n) {
         return 5;
     }
-    if references::too_many(n) {
-        return 6;
-    }
-    if references::bad_positions(side, flat, n) {
-        return 7;
+    let placed = references::refused_references(side, flat, n);
+    if placed != 0 {
+        return placed;
     }
     if wild_numbers(flat, n, palette, hues) {
         return 8;
