@@ -75,7 +75,14 @@ mul-clear c =
     omega (arith, accepted _ _ _ _ _ _ _ _ _ (k .before .refused .ensures) (k .if1 .left) .few)
 
 clear-requires : tie.Need-clear-requires
-clear-requires c κs = search (long)
+clear-requires c κs =
+    let l = c .before .before .before in
+    let k = l .before .before .before in
+    let a = k .before .before .before .before .args in
+    let w =
+    long (a .flat .now) (a .palette .now) (a .scratch .now) (a .n) (a .side) (a .hues) _ (a .model) (k .refused .ensures) (l .before .before .if1 .left)
+    (l .measured .last .1 .1 .1 .1 .0) (l .measured .kept .1 .1 .1 .1 .0) in
+    omega (arith, w)
 
 returns-2 : tie.Need-returns-2
 returns-2 c = search (ends)
