@@ -14,8 +14,8 @@ use Rattle.illum.specs.declared.IlluminationModel.{IlluminationModel}
 use Rattle.stats.specs.declared.ChannelStats.{ChannelStats}
 use Rattle.stats.specs.declared.Noise.the-variants.{Record, Refused}
 use Rattle.references.specs.References.{wildColours}
-use Rattle.references.specs.Ready.{Lent}
 use Rattle.measure.specs.Measure.{badCorrected, measured, final, request, sentencesFor, measureOf}
+use Rattle.measure.specs.Ready.{Given}
 use Rattle.measure.proofs.Accepted.{accepted, turned-away, taken}
 use borrow.Author.Needs.{needs}
 use Rattle.measure.proofs.measure_counted.Statement.{statement}
@@ -29,10 +29,10 @@ module _ (flat palette s : List Float) (n side hues k : ℕ) (m : IlluminationMo
   four : 4 * n ≡ length (take (4 * n) s)
   four = sym (length-take-le (4 * n) s room)
 
-  ready : (n ≤ 16384 → 8 * n ≤ length flat) → Lent n flat (take (4 * n) s) × (2 ≤ length palette) × (wildColours flat n ≡ false) × (badCorrected m flat n ≡ false)
+  ready : (n ≤ 16384 → 8 * n ≤ length flat) → Given palette n flat (take (4 * n) s) × (wildColours flat n ≡ false) × (badCorrected m flat n ≡ false)
   ready h =
       let a = accepted flat false n side m palette hues (length s) k e z in
-      (record { stand = h (a .few); most = a .few; four = sym four }, a .levels, a .colours, a .corrected)
+      (record { levels = a .levels; lent = record { stand = h (a .few); most = a .few; four = sym four } }, a .colours, a .corrected)
 
   -- u is the first 4 × n numbers of s as the core left them
   module _ (u : List Float) (lu : length u ≡ length (take (4 * n) s)) where
@@ -75,7 +75,14 @@ mul-clear c =
     omega (arith, accepted _ _ _ _ _ _ _ _ _ (k .before .refused .ensures) (k .if1 .left) .few)
 
 clear-requires : tie.Need-clear-requires
-clear-requires c κs = search (long)
+clear-requires c κs =
+    let l = c .before .before .before in
+    let k = l .before .before .before in
+    let a = k .before .before .before .before .args in
+    let w =
+    long (a .flat .now) (a .palette .now) (a .scratch .now) (a .n) (a .side) (a .hues) _ (a .model) (k .refused .ensures) (l .before .before .if1 .left)
+    (l .measured .last .1 .1 .1 .1 .0) (l .measured .kept .1 .1 .1 .1 .0) in
+    omega (arith, w)
 
 returns-2 : tie.Need-returns-2
 returns-2 c = search (ends)

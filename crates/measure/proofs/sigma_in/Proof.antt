@@ -5,7 +5,12 @@ use Rattle.measure.proofs.sigma_in.Statement.{statement}
 use Rattle.measure.proofs.sigma_in.Tie as tie
 
 returns : tie.Need-returns
-returns c = search (in-place)
+returns c =
+    let two = c .before .before .before in
+    let less = two .before .before .before .before in
+    let one = less .before .before .before .before in
+    let start = one .before .before .before in
+    in-place (start .args .values .now) _ _ (one .median .ensures) _ _ _ _ (c .max .ensures) (two .median2 .ensures) (less .deviate-in .ensures) (start .pre)
 
 pub sigma-in-spec : {M : Type 1} → statement M
 sigma-in-spec =
