@@ -11,7 +11,7 @@ ghost use Prim.Native.Nat.{_+_, _*_, _≤_};
 ghost use lib.ListN.{length};
 ghost use Rattle.modulate.specs.Read.{readListOf};
 ghost use Rattle.listing.specs.Text.{text, written};
-ghost use Rattle.readout.specs.Sheet.{sheet, Few};
+ghost use Rattle.readout.specs.Sheet.{sheet, Few, Scored};
 ghost use Rattle.readout.specs.Reading as spec;
 use answers::Outcome;
 use card::Settings;
@@ -32,7 +32,7 @@ fn list_card(
     symbols: &mut [u8],
     out: &mut [u8],
 ) -> usize
-    requires { ⌜ (length (now ys) ≡ length (now xs)) × (length (now luma) ≡ length (now xs)) × (length (now bits) ≡ length (now xs)) × (length (now symbols) ≡ length (now chroma)) ⌝ }
+    requires { ⌜ Scored (now xs) (now ys) (now luma) × (length (now bits) ≡ length (now xs)) × (length (now symbols) ≡ length (now chroma)) ⌝ }
     ensures { λ r. ⌜ text r (now (out .exit)) ≡ written (spec.afterSymbols model (now (xs .entry)) (now (ys .entry)) (now (luma .entry)) (now (bits .entry)) (now (chroma .entry)) (readListOf (now (chroma .entry)) (now (symbols .entry)))) (text 0 (now (out .entry))) ⌝ }
 {
     match modulate::read_list(chroma, symbols) {
@@ -66,7 +66,7 @@ fn read_bits(
     symbols: &mut [u8],
     out: &mut [u8],
 ) -> usize
-    requires { ⌜ (length (now ys) ≡ length (now xs)) × (length (now luma) ≡ length (now xs)) × (length (now bits) ≡ length (now xs)) × (now symbols ≡ spec.noBits (length (now chroma))) ⌝ }
+    requires { ⌜ Scored (now xs) (now ys) (now luma) × (length (now bits) ≡ length (now xs)) × (now symbols ≡ spec.noBits (length (now chroma))) ⌝ }
     ensures { λ r. ⌜ text r (now (out .exit)) ≡ written (spec.afterBits model (now (xs .entry)) (now (ys .entry)) (now (luma .entry)) (now (chroma .entry)) (readListOf (now (unmasked .entry)) (now (bits .entry)))) (text 0 (now (out .entry))) ⌝ }
 {
     match modulate::read_list(unmasked, bits) {
@@ -98,7 +98,7 @@ fn unmask_card(
     symbols: &mut [u8],
     out: &mut [u8],
 ) -> usize
-    requires { ⌜ (length (now ys) ≡ length (now xs)) × (length (now luma) ≡ length (now xs)) × (length (now unmasked) ≡ length (now luma)) × (now bits ≡ spec.noBits (length (now luma))) × (now symbols ≡ spec.noBits (length (now chroma))) ⌝ }
+    requires { ⌜ Scored (now xs) (now ys) (now luma) × (length (now unmasked) ≡ length (now luma)) × (now bits ≡ spec.noBits (length (now luma))) × (now symbols ≡ spec.noBits (length (now chroma))) ⌝ }
     ensures { λ r. ⌜ text r (now (out .exit)) ≡ written (spec.readText settings (now (xs .entry)) (now (ys .entry)) model (now (luma .entry)) (now (chroma .entry))) (text 0 (now (out .entry))) ⌝ }
 {
     copy(luma, unmasked);
@@ -125,7 +125,7 @@ fn read_scores(
     chroma: &[f32],
     out: &mut [u8],
 ) -> usize
-    requires { ⌜ (length (now ys) ≡ length (now xs)) × (length (now luma) ≡ length (now xs)) × (length (now luma) ≤ 1020) × (length (now chroma) ≤ 8160) ⌝ }
+    requires { ⌜ Scored (now xs) (now ys) (now luma) × (length (now luma) ≤ 1020) × (length (now chroma) ≤ 8160) ⌝ }
     ensures { λ r. ⌜ text r (now (out .exit)) ≡ written (spec.readText settings (now (xs .entry)) (now (ys .entry)) model (now (luma .entry)) (now (chroma .entry))) (text 0 (now (out .entry))) ⌝ }
 {
     let mut unmasked = [0.0f32; 1020];
@@ -162,7 +162,7 @@ fn refine_card(
     chroma: &[f32],
     out: &mut [u8],
 ) -> usize
-    requires { ⌜ (settings .side ≤ 64) × (length (now ys) ≡ length (now xs)) × (length (now luma) ≡ length (now xs)) × (length (now xs) ≤ 1020) × (length (now chroma) ≤ 8160) ⌝ }
+    requires { ⌜ (settings .side ≤ 64) × Scored (now xs) (now ys) (now luma) × (length (now xs) ≤ 1020) × (length (now chroma) ≤ 8160) ⌝ }
     ensures { λ r. ⌜ text r (now (out .exit)) ≡ written (spec.refineText settings (now (palette .entry)) (now (xs .entry)) (now (ys .entry)) model noise (now (luma .entry)) (now (colours .entry)) (now (chroma .entry))) (text 0 (now (out .entry))) ⌝ }
 {
     let mut scratch = [0.0f32; 5776];

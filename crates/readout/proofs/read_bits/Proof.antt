@@ -7,7 +7,7 @@ use Rattle.readout.proofs.read_bits.Statement.{statement}
 use Rattle.readout.proofs.read_bits.Tie as tie
 
 list-card-requires : tie.Need-list-card-requires
-list-card-requires c κs = (search needs, search needs, search needs, search (replicate-long, needs))
+list-card-requires c κs = (search needs, search needs, search (replicate-long, needs))
 
 returns : tie.Need-returns
 unfolding afterBits

@@ -15,7 +15,7 @@ slice-aggregate-unmask-card-3 : tie.Need-slice-aggregate-unmask-card-3
 slice-aggregate-unmask-card-3 c = same-long _ 8160 _ (search needs)
 
 unmask-card-requires : tie.Need-unmask-card-requires
-unmask-card-requires c κs = (search needs, search needs, sym (same-long _ 1020 _ (search needs)), search (first-same), search (first-same))
+unmask-card-requires c κs = (search needs, sym (same-long _ 1020 _ (search needs)), search (first-same), search (first-same))
 
 pub read-scores-spec : {M : Type 1} → statement M
 read-scores-spec =

@@ -6,7 +6,7 @@ use Rattle.readout.proofs.score_card.Statement.{statement}
 use Rattle.readout.proofs.score_card.Tie as tie
 
 refine-card-requires : tie.Need-refine-card-requires
-refine-card-requires c κs = (search needs, search needs, search (still-long), search needs, search needs)
+refine-card-requires c κs = (search needs, record { ys-are = search needs; luma-is = search (still-long) }, search needs, search needs)
 
 returns : tie.Need-returns
 returns c = search (not-scored)

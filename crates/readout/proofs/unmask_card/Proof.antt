@@ -6,7 +6,7 @@ use Rattle.readout.proofs.unmask_card.Statement.{statement}
 use Rattle.readout.proofs.unmask_card.Tie as tie
 
 read-bits-requires : tie.Need-read-bits-requires
-read-bits-requires c κs = (search needs, search needs, search (as-long, needs), search needs)
+read-bits-requires c κs = (search needs, search (as-long, needs), search needs)
 
 returns : tie.Need-returns
 returns c = search (not-unmasked)
