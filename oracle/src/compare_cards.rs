@@ -17,7 +17,7 @@ unsafe extern "C" {
 /// What a group of cards came to: how many were listed (at 0) and refused by each number, and how many differ.
 #[derive(Clone, Copy, Default)]
 struct Count {
-    answers: [usize; 13],
+    answers: [usize; 32],
     differ: usize,
 }
 
@@ -40,7 +40,7 @@ impl Count {
 
     fn print(&self, name: &str) {
         let met = |i: &usize| self.answers[*i] > 0;
-        let refused: Vec<String> = (1..13).filter(met).map(|i| format!("{i} x {}", self.answers[i])).collect();
+        let refused: Vec<String> = (1..self.answers.len()).filter(met).map(|i| format!("{i} x {}", self.answers[i])).collect();
         let all: usize = self.answers.iter().sum();
         println!(
             "{name}: {all} compared, {} differ; {} listed, refused {}",

@@ -9,16 +9,17 @@ ghost use mathlib.Core.Path.{_≡_};
 ghost use mathlib.Core.Bool.{true, false};
 ghost use mathlib.Core.List.{_++_, map};
 ghost use Prim.Native.Nat.{_+_, _*_, _<_, _≤_};
-ghost use lib.ListN.{length, getD, take, drop};
-ghost use lib.Ieee.{nan};
+ghost use lib.ListN.{length, take, drop};
 ghost use Rattle.sentences.specs.Sentences.{refusal};
-ghost use Rattle.color.specs.Color.{whole, linearToLab};
+ghost use Rattle.color.specs.Color.{linearToLab};
 ghost use Rattle.color.specs.Palette.{paletteLen};
 ghost use Rattle.order.specs.Median.{medianOf};
 ghost use Rattle.references.specs.References.{wildColours};
+ghost use Rattle.references.specs.Ready.{Scratch, Lent};
 ghost use Rattle.measure.specs.Measure as spec;
 ghost use Rattle.measure.specs.Measure.{final, request, flatRequest};
 ghost use Rattle.measure.specs.Columns as column;
+ghost use Rattle.measure.specs.Ready.{Middle, Levels};
 use color::Lab;
 use color::Linear;
 use color::palette::level_l;
@@ -113,7 +114,7 @@ fn mark_of(near: bool, light: bool, colourful: bool) -> f32
 
 // The mark of a reference with this nominal colour, mid being the lightness between the palette's two levels.
 fn mark_for(palette: &[f32], mid: f32, nominal: Lab) -> f32
-    requires { ⌜ (2 ≤ length (now palette)) × (mid ≡ spec.middle (now palette)) ⌝ }
+    requires { ⌜ Middle (now palette) mid ⌝ }
     ensures { λ r. ⌜ r ≡ column.markFor (now (palette .entry)) nominal ⌝ }
 {
     let light = nominal.l >= mid;
@@ -134,7 +135,7 @@ struct Known {
 
 // Finds it out; mid as in `mark_for`.
 fn known_of(palette: &[f32], mid: f32, c: Linear) -> Known
-    requires { ⌜ (2 ≤ length (now palette)) × (mid ≡ spec.middle (now palette)) ⌝ }
+    requires { ⌜ Middle (now palette) mid ⌝ }
     ensures { λ r. ⌜ r ≡ column.knownOf (now (palette .entry)) c ⌝ }
 {
     let nominal = color::linear_to_lab(c);
@@ -201,7 +202,7 @@ fn keep(memo: &mut [f32; 1536], j: usize, c: Linear, known: Known)
 
 // What is known of a nominal colour: from its slot, or found out and kept there; mid as in `mark_for`.
 fn recall(palette: &[f32], mid: f32, c: Linear, memo: &mut [f32; 1536]) -> Known
-    requires { ⌜ (2 ≤ length (now palette)) × (mid ≡ spec.middle (now palette)) × column.Remembered (now palette) (now memo) ⌝ }
+    requires { ⌜ Middle (now palette) mid × column.Remembered (now palette) (now memo) ⌝ }
     ensures { λ r. ⌜ (r ≡ column.knownOf (now (palette .entry)) c) × column.Remembered (now (palette .entry)) (now (memo .exit)) ⌝ }
 {
     let j = slot_of(c);
@@ -221,7 +222,7 @@ fn recall(palette: &[f32], mid: f32, c: Linear, memo: &mut [f32; 1536]) -> Known
 
 // Writes three numbers of reference i of n, each into its column.
 fn place(n: usize, i: usize, a: f32, b: f32, c: f32, s: &mut [f32])
-    requires { ⌜ (n ≤ 16384) × (i < n) × (length (now s) ≡ 4 * n) ⌝ }
+    requires { ⌜ (i < n) × Scratch n (now s) ⌝ }
     ensures { λ _. ⌜ now (s .exit) ≡ column.placed n i a b c (now (s .entry)) ⌝ }
 {
     s[n + i] = a;
@@ -231,7 +232,7 @@ fn place(n: usize, i: usize, a: f32, b: f32, c: f32, s: &mut [f32])
 
 // Writes the corrected colours of all n, a component in each column.
 fn correct(model: IlluminationModel, flat: &[f32], n: usize, s: &mut [f32])
-    requires { ⌜ (n ≤ 16384) × (8 * n ≤ length (now flat)) × (length (now s) ≡ 4 * n) ⌝ }
+    requires { ⌜ Lent n (now flat) (now s) ⌝ }
     ensures { λ _. ⌜ column.Corrected model (now (flat .entry)) n 0 n (now (s .exit)) ⌝ }
 {
     for i in 0..n {
@@ -254,7 +255,7 @@ fn note_at(
     s: &mut [f32],
     memo: &mut [f32; 1536],
 )
-    requires { ⌜ (n ≤ 16384) × (i < n) × (8 * n ≤ length (now flat)) × (2 ≤ length (now palette)) × (mid ≡ spec.middle (now palette)) × (length (now s) ≡ 4 * n) × column.Remembered (now palette) (now memo) ⌝ }
+    requires { ⌜ (i < n) × Lent n (now flat) (now s) × Middle (now palette) mid × column.Remembered (now palette) (now memo) ⌝ }
     ensures { λ _. ⌜ (now (s .exit) ≡ column.noted (linearToLab (column.colourAt n i (now (s .entry)))) (now (palette .entry)) (now (flat .entry)) n i (now (s .entry))) × column.Remembered (now (palette .entry)) (now (memo .exit)) ⌝ }
 {
     let nominal = recall(palette, mid, references::nominal_at(flat, i), memo);
@@ -274,7 +275,7 @@ fn note_at(
 
 // Writes them of all n over the corrected colours.
 fn convert(palette: &[f32], flat: &[f32], n: usize, s: &mut [f32])
-    requires { ⌜ (n ≤ 16384) × (8 * n ≤ length (now flat)) × (2 ≤ length (now palette)) × (length (now s) ≡ 4 * n) ⌝ }
+    requires { ⌜ Lent n (now flat) (now s) × (2 ≤ length (now palette)) ⌝ }
     ensures { λ _. ⌜ column.Converted (now (palette .entry)) (now (flat .entry)) n n (now (s .entry)) (now (s .exit)) ⌝ }
 {
     let mid = middle(palette);
@@ -287,7 +288,7 @@ fn convert(palette: &[f32], flat: &[f32], n: usize, s: &mut [f32])
 
 // Takes the roots of the squared chroma errors.
 fn roots(n: usize, s: &mut [f32])
-    requires { ⌜ (n ≤ 16384) × (length (now s) ≡ 4 * n) ⌝ }
+    requires { ⌜ Scratch n (now s) ⌝ }
     ensures { λ _. ⌜ column.Rooted n n (now (s .entry)) (now (s .exit)) ⌝ }
 {
     for i in 0..n {
@@ -298,7 +299,7 @@ fn roots(n: usize, s: &mut [f32])
 // Writes them of all n: all are corrected, then converted, and then the roots are taken, which takes less time than one loop that
 // does it all.
 fn note(model: IlluminationModel, palette: &[f32], flat: &[f32], n: usize, s: &mut [f32])
-    requires { ⌜ (n ≤ 16384) × (8 * n ≤ length (now flat)) × (2 ≤ length (now palette)) × (length (now s) ≡ 4 * n) ⌝ }
+    requires { ⌜ Lent n (now flat) (now s) × (2 ≤ length (now palette)) ⌝ }
     ensures { λ _. ⌜ column.Noted model (now (palette .entry)) (now (flat .entry)) n n (spec.errorAt model (now (flat .entry))) (now (s .exit)) ⌝ }
 {
     correct(model, flat, n, s);
@@ -346,7 +347,7 @@ fn list_at(
     i: usize,
     k: usize,
 ) -> usize
-    requires { ⌜ (n ≤ 16384) × (i < n) × (at ≤ n) × (length (now s) ≡ 4 * n) ⌝ }
+    requires { ⌜ (i < n) × (at ≤ n) × Scratch n (now s) ⌝ }
     ensures { λ r. ⌜ column.listed (now (s .exit)) r ≡ column.listAt n at lo hi form i k (now (s .entry)) ⌝ }
 {
     let counts = marked(lo, hi, s[3 * n + i]);
@@ -361,7 +362,7 @@ fn list_at(
 
 // Lists the numbers of a column whose mark is from lo to hi after the first k of s, and says how many are listed then.
 fn list(s: &mut [f32], n: usize, at: usize, lo: f32, hi: f32, form: Form, k: usize) -> usize
-    requires { ⌜ (n ≤ 16384) × (at ≤ n) × (length (now s) ≡ 4 * n) × (k + length (column.pickedIn n at lo hi (drop n (now s))) ≤ n) ⌝ }
+    requires { ⌜ (at ≤ n) × Scratch n (now s) × (k + length (column.pickedIn n at lo hi (drop n (now s))) ≤ n) ⌝ }
     ensures { λ r. ⌜ (take r (now (s .exit)) ≡ take k (now (s .entry)) ++ map (column.formed form) (column.pickedIn n at lo hi (drop n (now (s .entry))))) × (r ≡ k + length (column.pickedIn n at lo hi (drop n (now (s .entry))))) × (r ≤ n) × (drop n (now (s .exit)) ≡ drop n (now (s .entry))) ⌝ }
 {
     let mut r = k;
@@ -381,7 +382,7 @@ fn median_of(s: &mut [f32], n: usize, k: usize) -> f32
 
 // Lists the lightnesses of the dark level less l0, then those of the light level less l1, and says how many they are.
 fn list_levels(s: &mut [f32], n: usize, l0: f32, l1: f32) -> usize
-    requires { ⌜ (n ≤ 16384) × (length (now s) ≡ 4 * n) × (length (column.levelIn false n (drop n (now s))) + length (column.levelIn true n (drop n (now s))) ≤ n) ⌝ }
+    requires { ⌜ Levels n (now s) ⌝ }
     ensures { λ r. ⌜ (take r (now (s .exit)) ≡ column.spreadIn n l0 l1 (drop n (now (s .entry)))) × (r ≤ n) × (drop n (now (s .exit)) ≡ drop n (now (s .entry))) ⌝ }
 {
     let k = list(s, n, 0, 1.0, 2.0, Form::Less(l0), 0);
@@ -409,7 +410,7 @@ fn sigma_of(s: &mut [f32], n: usize, k: usize) -> f32
 
 // The luma noise about the levels' medians l0 and l1.
 fn luma_sigma(s: &mut [f32], n: usize, l0: f32, l1: f32) -> f32
-    requires { ⌜ (n ≤ 16384) × (length (now s) ≡ 4 * n) × (length (column.levelIn false n (drop n (now s))) + length (column.levelIn true n (drop n (now s))) ≤ n) × column.RealDistances (column.spreadIn n l0 l1 (drop n (now s))) ⌝ }
+    requires { ⌜ Levels n (now s) × column.RealDistances (column.spreadIn n l0 l1 (drop n (now s))) ⌝ }
     ensures { λ r. ⌜ (r ≡ spec.lumaSigma l0 l1 (column.levelIn false n (drop n (now (s .entry)))) (column.levelIn true n (drop n (now (s .entry))))) × (drop n (now (s .exit)) ≡ drop n (now (s .entry))) ⌝ }
 {
     let k = list_levels(s, n, l0, l1);
@@ -418,7 +419,7 @@ fn luma_sigma(s: &mut [f32], n: usize, l0: f32, l1: f32) -> f32
 
 // The chroma noise of the references whose mark is from lo to hi; `other` where there are fewer than `least`.
 fn chroma_sigma(s: &mut [f32], n: usize, lo: f32, hi: f32, least: usize, other: f32) -> f32
-    requires { ⌜ (n ≤ 16384) × (length (now s) ≡ 4 * n) × column.RealDistances (column.pickedIn n n lo hi (drop n (now s))) ⌝ }
+    requires { ⌜ Scratch n (now s) × column.RealDistances (column.pickedIn n n lo hi (drop n (now s))) ⌝ }
     ensures { λ r. ⌜ (r ≡ spec.chromaSigma least other (column.pickedIn n n lo hi (drop n (now (s .entry))))) × (drop n (now (s .exit)) ≡ drop n (now (s .entry))) ⌝ }
 {
     let k = list(s, n, n, lo, hi, Form::Plain, 0);
@@ -438,7 +439,7 @@ struct Level {
 
 // The level whose references are marked from lo to hi.
 fn level_of(s: &mut [f32], n: usize, lo: f32, hi: f32) -> Level
-    requires { ⌜ (n ≤ 16384) × (length (now s) ≡ 4 * n) ⌝ }
+    requires { ⌜ Scratch n (now s) ⌝ }
     ensures { λ r. ⌜ (r ≡ column.levelled (column.pickedIn n 0 lo hi (drop n (now (s .entry))))) × (drop n (now (s .exit)) ≡ drop n (now (s .entry))) ⌝ }
 {
     let count = list(s, n, 0, lo, hi, Form::Plain, 0);
@@ -448,7 +449,7 @@ fn level_of(s: &mut [f32], n: usize, lo: f32, hi: f32) -> Level
 
 // The record of the levels' medians and the columns.
 fn figures_of(s: &mut [f32], n: usize, l0: f32, l1: f32) -> ChannelStats
-    requires { ⌜ (n ≤ 16384) × (length (now s) ≡ 4 * n) × (length (column.levelIn false n (drop n (now s))) + length (column.levelIn true n (drop n (now s))) ≤ n) × column.RealSpreads n l0 l1 (drop n (now s)) ⌝ }
+    requires { ⌜ Levels n (now s) × column.RealSpreads n l0 l1 (drop n (now s)) ⌝ }
     ensures { λ r. ⌜ r ≡ column.figuresIn n l0 l1 (drop n (now (s .entry))) ⌝ }
 {
     let sigma_l = luma_sigma(s, n, l0, l1);
@@ -468,7 +469,7 @@ fn figures_of(s: &mut [f32], n: usize, l0: f32, l1: f32) -> ChannelStats
 
 // The record of the columns; `nominal` with fewer than 3 of a level.
 fn record_of(palette: &[f32], n: usize, s: &mut [f32]) -> ChannelStats
-    requires { ⌜ (n ≤ 16384) × (2 ≤ length (now palette)) × (length (now s) ≡ 4 * n) × (length (column.levelIn false n (drop n (now s))) + length (column.levelIn true n (drop n (now s))) ≤ n) × column.RealSpreads n (medianOf (column.levelIn false n (drop n (now s)))) (medianOf (column.levelIn true n (drop n (now s)))) (drop n (now s)) ⌝ }
+    requires { ⌜ Levels n (now s) × (2 ≤ length (now palette)) × column.RealSpreads n (medianOf (column.levelIn false n (drop n (now s)))) (medianOf (column.levelIn true n (drop n (now s)))) (drop n (now s)) ⌝ }
     ensures { λ r. ⌜ r ≡ column.recordIn (now (palette .entry)) n (drop n (now (s .entry))) ⌝ }
 {
     let dark = level_of(s, n, 1.0, 2.0);
@@ -490,7 +491,7 @@ fn measured(
     n: usize,
     s: &mut [f32],
 ) -> ChannelStats
-    requires { ⌜ (n ≤ 16384) × (8 * n ≤ length (now flat)) × (2 ≤ length (now palette)) × (length (now s) ≡ 4 * n) × (wildColours (now flat) n ≡ false) × (spec.badCorrected model (now flat) n ≡ false) ⌝ }
+    requires { ⌜ Lent n (now flat) (now s) × (2 ≤ length (now palette)) × (wildColours (now flat) n ≡ false) × (spec.badCorrected model (now flat) n ≡ false) ⌝ }
     ensures { λ r. ⌜ r ≡ spec.measured model (now (palette .entry)) (now (flat .entry)) n ⌝ }
 {
     if n < 8 {

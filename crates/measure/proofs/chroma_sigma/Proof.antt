@@ -6,7 +6,7 @@ use Rattle.measure.proofs.chroma_sigma.Statement.{statement}
 use Rattle.measure.proofs.chroma_sigma.Tie as tie
 
 list-requires : tie.Need-list-requires
-list-requires c κs = (search needs, search needs, search needs, search (few-in))
+list-requires c κs = (search needs, search needs, search (few-in))
 
 returns : tie.Need-returns
 returns c =
@@ -19,7 +19,7 @@ sigma-of-requires : tie.Need-sigma-of-requires
 sigma-of-requires c κs =
     let start = c .before .before .before .before .before .before .before in
     let n = start .args .n in
-    (search needs, search needs, chroma-real n (start .args .lo) (start .args .hi) (drop n (start .args .s .now)) _ (c .before .before .before .before .list .ensures .0) (start .pre .2))
+    (search needs, search needs, chroma-real n (start .args .lo) (start .args .hi) (drop n (start .args .s .now)) _ (c .before .before .before .before .list .ensures .0) (start .pre .1))
 
 returns-2 : tie.Need-returns-2
 returns-2 c =

@@ -8,25 +8,25 @@ use Rattle.measure.proofs.figures_of.Statement.{statement}
 use Rattle.measure.proofs.figures_of.Tie as tie
 
 luma-sigma-requires : tie.Need-luma-sigma-requires
-luma-sigma-requires c κs = (search needs, search needs, search needs, c .before .before .pre .3 .luma)
+luma-sigma-requires c κs = (search needs, c .before .before .pre .1 .luma)
 
 chroma-sigma-requires : tie.Need-chroma-sigma-requires
 chroma-sigma-requires c κs =
     let start = c .before .before .before .before .before .before in
     let n = start .args .n in
-    (search needs, search needs, still-real n m2 m5 (drop n (start .args .s .now)) _ (c .before .before .before .luma-sigma .ensures .1) (start .pre .3 .chroma))
+    (search needs, still-real n m2 m5 (drop n (start .args .s .now)) _ (c .before .before .before .luma-sigma .ensures .1) (start .pre .1 .chroma))
 
 chroma-sigma-requires-2 : tie.Need-chroma-sigma-requires-2
 chroma-sigma-requires-2 c κs =
     let start = c .before .before .before .before .before .before .before .before .before .before in
     let n = start .args .n in
-    (search needs, search needs, still-real n m2 m3 (drop n (start .args .s .now)) _ (c .before .before .before .chroma-sigma .ensures .1 ∙ c .before .before .before .before .before .before .before .luma-sigma .ensures .1) (start .pre .3 .dark))
+    (search needs, still-real n m2 m3 (drop n (start .args .s .now)) _ (c .before .before .before .chroma-sigma .ensures .1 ∙ c .before .before .before .before .before .before .before .luma-sigma .ensures .1) (start .pre .1 .dark))
 
 chroma-sigma-requires-3 : tie.Need-chroma-sigma-requires-3
 chroma-sigma-requires-3 c κs =
     let start = c .before .before .before .before .before .before .before .before .before .before .before .before .before .before in
     let n = start .args .n in
-    (search needs, search needs, still-real n m4 m5 (drop n (start .args .s .now)) _ (c .before .before .before .chroma-sigma2 .ensures .1 ∙ c .before .before .before .before .before .before .before .chroma-sigma .ensures .1 ∙ c .before .before .before .before .before .before .before .before .before .before .before .luma-sigma .ensures .1) (start .pre .3 .light))
+    (search needs, still-real n m4 m5 (drop n (start .args .s .now)) _ (c .before .before .before .chroma-sigma2 .ensures .1 ∙ c .before .before .before .before .before .before .before .chroma-sigma .ensures .1 ∙ c .before .before .before .before .before .before .before .before .before .before .before .luma-sigma .ensures .1) (start .pre .1 .light))
 
 returns : tie.Need-returns
 returns c =

@@ -6,7 +6,7 @@ use Rattle.measure.proofs.level_of.Statement.{statement}
 use Rattle.measure.proofs.level_of.Tie as tie
 
 list-requires : tie.Need-list-requires
-list-requires c κs = (search needs, search needs, search needs, search (few-in))
+list-requires c κs = (search needs, search needs, search (few-in))
 
 median-of-requires : tie.Need-median-of-requires
 median-of-requires c κs = (search needs, search needs)

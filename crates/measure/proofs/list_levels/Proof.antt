@@ -5,10 +5,10 @@ use Rattle.measure.proofs.list_levels.Statement.{statement}
 use Rattle.measure.proofs.list_levels.Tie as tie
 
 list-requires : tie.Need-list-requires
-list-requires c κs = (search needs, search needs, search needs, search needs)
+list-requires c κs = (search needs, search needs, search needs)
 
 list-requires-2 : tie.Need-list-requires-2
-list-requires-2 c κs = (search needs, search needs, search needs, search (second-fits))
+list-requires-2 c κs = (search needs, search needs, search (second-fits))
 
 returns : tie.Need-returns
 returns c = (search (both-lists), search needs, search (kept-2))

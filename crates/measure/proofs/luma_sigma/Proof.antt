@@ -6,13 +6,13 @@ use Rattle.measure.proofs.luma_sigma.Statement.{statement}
 use Rattle.measure.proofs.luma_sigma.Tie as tie
 
 list-levels-requires : tie.Need-list-levels-requires
-list-levels-requires c κs = (search needs, search needs, search needs)
+list-levels-requires c κs = search needs
 
 sigma-of-requires : tie.Need-sigma-of-requires
 sigma-of-requires c κs =
     let start = c .before .before .before .before .before .before in
     let n = start .args .n in
-    (search needs, search needs, luma-real n (start .args .l0) (start .args .l1) (drop n (start .args .s .now)) _ (c .before .before .before .list-levels .ensures .0) (start .pre .3))
+    (search needs, search needs, luma-real n (start .args .l0) (start .args .l1) (drop n (start .args .s .now)) _ (c .before .before .before .list-levels .ensures .0) (start .pre .1))
 
 returns : tie.Need-returns
 returns c =

@@ -57,7 +57,8 @@ slice-aggregate-measured c = sym (length-take-le _ _ (accepted _ _ _ _ _ _ _ _ _
 measured-requires : tie.Need-measured-requires
 measured-requires c κs =
     let a = accepted _ _ _ _ _ _ _ _ _ (c .before .before .refused .ensures) (c .before .if1 .left) in
-    (a .few, c .before .before .before .before .before .before .pre (a .few), a .levels, length-take-le _ _ (a .room), a .colours, a .corrected)
+    let stand = c .before .before .before .before .before .before .pre (a .few) in
+    (record { stand = stand; most = a .few; four = length-take-le _ _ (a .room) }, a .levels, a .colours, a .corrected)
 
 mul-clear : tie.Need-mul-clear
 mul-clear c = let a = accepted _ _ _ _ _ _ _ _ _ (c .before .before .before .before .before .before .refused .ensures) (c .before .before .before .before .before .if1 .left) in omega (arith, a .few)

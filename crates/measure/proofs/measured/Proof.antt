@@ -11,7 +11,7 @@ record-of-requires : tie.Need-record-of-requires
 record-of-requires c κs =
     let start = c .before .before .before .before .before .before .before .before .before in
     let noted = c .before .before .before .note .ensures in
-    (search needs, search needs, search needs, levels-fit noted, spreads-real noted (c .before .before .before .before .before .if1 .left) (c .before .before .before .before .before .before .before .shared-slice-known2 .given) (start .pre .4) (start .pre .5))
+    (record { scratch = search needs; fit = levels-fit noted }, search needs, spreads-real noted (c .before .before .before .before .before .if1 .left) (c .before .before .before .before .before .before .before .shared-slice-known2 .given) (start .pre .2) (start .pre .3))
 
 returns-2 : tie.Need-returns-2
 returns-2 c = search (enough)

@@ -9,12 +9,12 @@ returns : tie.Need-returns
 unfolding knownIn
 returns c =
     let start = c .before .before .before .before .before .before .before .before in
-    (recalled (start .pre .2) (c .before .before .before .before .before .before .slot-of .ensures) _ (c .before .before .before .before .holds .ensures (c .before .before .before .if1 .taken)), start .pre .2)
+    (recalled (start .pre .1) (c .before .before .before .before .before .before .slot-of .ensures) _ (c .before .before .before .before .holds .ensures (c .before .before .before .if1 .taken)), start .pre .1)
 
 returns-2 : tie.Need-returns-2
 returns-2 c =
     let start = c .before .before .before .before .before .before .before .before in
-    (c .before .before .known-of .ensures, remembered (start .pre .2) (c .before .before .before .before .before .before .slot-of .ensures) _ _ (c .keep .ensures) (c .before .before .known-of .ensures))
+    (c .before .before .known-of .ensures, remembered (start .pre .1) (c .before .before .before .before .before .before .slot-of .ensures) _ _ (c .keep .ensures) (c .before .before .known-of .ensures))
 
 pub recall-spec : {M : Type 1} → statement M
 recall-spec =

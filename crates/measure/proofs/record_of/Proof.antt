@@ -24,10 +24,8 @@ figures-of-requires c κs =
     let n = start .args .n in
     let dark = c .before .before .before .before .before .before .before .before .before .before .before .level-of in
     let light = c .before .before .before .before .before .before .before .level-of2 in (
-      search needs,
-      search needs,
-      still-fit n (drop n (start .args .s .now)) _ _ (light .ensures .1) (dark .ensures .1) (start .pre .3),
-      spreads-still (start .args .palette .now) n (drop n (start .args .s .now)) _ (dark .ensures .0) _ _ (light .ensures .0) (dark .ensures .1) (c .before .before .before .if1 .left) _ (light .ensures .1) (start .pre .4),
+      record { scratch = search needs; fit = still-fit n (drop n (start .args .s .now)) _ _ (light .ensures .1) (dark .ensures .1) (start .pre .0 .fit) },
+      spreads-still (start .args .palette .now) n (drop n (start .args .s .now)) _ (dark .ensures .0) _ _ (light .ensures .0) (dark .ensures .1) (c .before .before .before .if1 .left) _ (light .ensures .1) (start .pre .2),
     )
 
 returns-3 : tie.Need-returns-3
