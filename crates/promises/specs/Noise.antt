@@ -1,19 +1,22 @@
--- The noise record (crate `stats`): the ranges of its scores, and what the margin check says. Definitions only.
+-- The noise record (crates `stats` and `measure`): the ranges of its scores, what the margin check says, and what a measured one is. Definitions only.
 use mathlib.Core.Path.{_≡_}
 use mathlib.Core.Bool.{true, false}
 use mathlib.Core.List.{List}
 use Prim.Native.Nat.{ℕ, _+_, _*_, _^_, _<_}
 use lib.Dec.{T}
-use lib.Ieee.{Float, binary32, fits, neg, lt}
+use lib.ListN.{getD}
+use lib.Ieee.{Float, nan, binary32, fits, neg, lt}
 use Rattle.floatlaws.specs.Interval.{In}
 use Rattle.limits.specs.Chroma.{chromaOn}
 use Rattle.color.specs.declared.Lab.{Lab}
 use Rattle.color.specs.Color.{whole}
 use Rattle.color.specs.Palette.{paletteLab}
 use Rattle.stats.specs.declared.ChannelStats.{ChannelStats}
+use Rattle.stats.specs.declared.Noise.the-variants as noise
 use Rattle.stats.specs.Noise.{sigmaAbAt, lumaLlr, reliability}
 use Rattle.stats.specs.Calls.{badNoiseNumbers, badSigmas}
 use Rattle.stats.specs.Margin.{levelFits, sigmasFit, darkClear, lightClear, near, far, inMargin}
+use Rattle.measure.specs.Measure.{Request, measureOf}
 
 -- the record's figures are f32 values, as the code's are
 pub record HeldAsSingles (n : ChannelStats) : Type 0 where
@@ -53,3 +56,16 @@ pub record Clear (threshold : Float) (n : ChannelStats) (palette : List Float) (
 
 abbrev pub MarginClauses : Type 0
 MarginClauses = (threshold : Float) (n : ChannelStats) (palette : List Float) (hues : ℕ) → inMargin threshold n palette hues ≡ true → Clear threshold n palette hues
+
+-- a list of f32 values, as a slice of the code's is
+abbrev pub AllSingles : List Float → Type 0
+AllSingles l = (i : ℕ) → T (fits binary32 (getD l i nan))
+
+-- a record that passes sentences 8 and 9
+pub record Passing (r : ChannelStats) : Type 0 where
+  pub eight : badNoiseNumbers r ≡ false
+  pub nine : badSigmas r ≡ false
+  pub singles : HeldAsSingles r
+
+abbrev pub MeasuredRecords : Type 0
+MeasuredRecords = (q : Request) → AllSingles (q .flat) → AllSingles (q .palette) → (r : ChannelStats) → measureOf q .answer ≡ noise.Record r → Passing r

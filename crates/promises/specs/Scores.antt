@@ -1,7 +1,6 @@
 -- Scoring (crate `demod`): what an accepted call leaves, number by number, and in what range; what a refused one leaves. Definitions only.
 use mathlib.Core.Path.{_≡_}
 use mathlib.Core.Bool.{true, false}
-use mathlib.Core.List.{List}
 use Prim.Native.Nat.{ℕ, _+_, _-_, _*_, _≤_, _<_}
 use lib.ListN.{length, getD}
 use lib.Ieee.{Float, nan, binary32, neg}

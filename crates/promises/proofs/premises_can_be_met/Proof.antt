@@ -7,7 +7,7 @@ use Rattle.limits.specs.Chroma.{chromaOn}
 use Rattle.guarantee.specs.Card.{carriesChroma}
 use Rattle.guarantee.proofs.Guarantee.{read-as-drawn}
 use Rattle.guarantee.proofs.Satisfiable.{plain, plainCard, plain-singles, plain-meets, plain-read, coloured, colouredCard, coloured-singles, coloured-meets, coloured-read}
-use Rattle.promises.specs.Card.{MetBy, Met}
+use Rattle.promises.specs.Card.{MetBy}
 use Rattle.promises.proofs.premises_can_be_met.Statement.{statement}
 use Rattle.promises.proofs.premises_can_be_met.Tie as tie
 
