@@ -28,11 +28,9 @@ pub record MetBy (chroma : Bool) (bits : List ℕ) : Type 0 where
   pub drawn : bitsDrawn setting card ≡ bits
   pub read : bitsRead setting card ≡ bits
 
--- with chroma on the card has a cell, and a ring module that carries chroma
+-- two cards: with chroma off, of two modules, and with chroma on, of a grid module, a ring module that carries chroma, and a cell
 pub record Met : Type 0 where
-  -- two modules, both of bit 1
   pub plain : MetBy false (1 ∷ 1 ∷ [])
-  -- two modules, a cell and a ring module that carries chroma
   pub coloured : MetBy true (1 ∷ 0 ∷ 1 ∷ 0 ∷ [])
   pub has-cell : 0 < length (coloured .setting .cxs)
   pub has-ring : carriesChroma (coloured .setting) 1 ≡ true
