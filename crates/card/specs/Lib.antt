@@ -1,3 +1,4 @@
 pub mod Number
 pub mod File
 pub mod Sections
+pub mod Ready

@@ -4,11 +4,12 @@
 // A first use: `open` a file; where it answers `Accepted(card)`, decode the palette and the references by `floats`, the
 // modules by `positions` and `colours`, the cells by `coordinates` and `colours`, each at the offset that `card` names.
 ghost use mathlib.Core.Path.{_≡_};
-ghost use Prim.Native.Nat.{_+_, _*_, _%_, _^_, _≤_, _<_};
-ghost use lib.ListN.{length, getD};
+ghost use Prim.Native.Nat.{_*_, _^_, _≤_, _<_};
+ghost use lib.ListN.{getD};
 ghost use Rattle.card.specs.Number.{u16At, u32At, f32Of, f32At, i16Of, i16At};
 ghost use Rattle.card.specs.File as layout;
 ghost use Rattle.card.specs.Sections as sections;
+ghost use Rattle.card.specs.Ready.{Room};
 
 // The pairs of the directory: settings, palette, references, modules, cells.
 const PAIRS: usize = 5;
@@ -285,7 +286,7 @@ pub fn open(file: &[u8]) -> Opened
 
 // Core: `count` f32 that stand one after the other from `at` on: a palette of 2 + 8 × hues, or references of eight.
 pub fn floats(file: &[u8], at: usize, count: usize, out: &mut [f32])
-    requires { ⌜ (at < 2 ^ 32) × (count < 2 ^ 32) × (count ≤ length (now out)) ⌝ }
+    requires { ⌜ Room at count count (now out) ⌝ }
     ensures { λ _. ⌜ now (out .exit) ≡ sections.floats (now (file .entry)) at count (now (out .entry)) ⌝ }
 {
     for i in 0..count {
@@ -295,7 +296,7 @@ pub fn floats(file: &[u8], at: usize, count: usize, out: &mut [f32])
 
 // Core: the i16 at `at` and every 16 bytes on, one a module: at a section's start the x, 2 bytes on the y.
 pub fn positions(file: &[u8], at: usize, count: usize, out: &mut [i32])
-    requires { ⌜ (at < 2 ^ 32) × (count < 2 ^ 32) × (count ≤ length (now out)) ⌝ }
+    requires { ⌜ Room at count count (now out) ⌝ }
     ensures { λ _. ⌜ now (out .exit) ≡ sections.positions (now (file .entry)) at count (now (out .entry)) ⌝ }
 {
     for i in 0..count {
@@ -305,7 +306,7 @@ pub fn positions(file: &[u8], at: usize, count: usize, out: &mut [i32])
 
 // Core: the u16 at `at` and every 16 bytes on, one a cell: at a section's start the cx, 2 bytes on the cy.
 pub fn coordinates(file: &[u8], at: usize, count: usize, out: &mut [u16])
-    requires { ⌜ (at < 2 ^ 32) × (count < 2 ^ 32) × (count ≤ length (now out)) ⌝ }
+    requires { ⌜ Room at count count (now out) ⌝ }
     ensures { λ _. ⌜ now (out .exit) ≡ sections.coordinates (now (file .entry)) at count (now (out .entry)) ⌝ }
 {
     for i in 0..count {
@@ -315,7 +316,7 @@ pub fn coordinates(file: &[u8], at: usize, count: usize, out: &mut [u16])
 
 // Core: the colours of `count` modules or cells, three f32 each, that stand 4 bytes behind each record's start.
 pub fn colours(file: &[u8], at: usize, count: usize, out: &mut [f32])
-    requires { ⌜ (at < 2 ^ 32) × (count < 2 ^ 32) × (3 * count ≤ length (now out)) ⌝ }
+    requires { ⌜ Room at count (3 * count) (now out) ⌝ }
     ensures { λ _. ⌜ now (out .exit) ≡ sections.colours (now (file .entry)) at count (now (out .entry)) ⌝ }
 {
     for i in 0..3 * count {

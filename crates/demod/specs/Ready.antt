@@ -30,6 +30,12 @@ pub record Cells (cxs cys : List ℕ) : Type 0 where
   pub pairs : length cxs ≡ length cys
   pub most : length cxs ≤ 1048576
 
+-- what chroma scores are worked out by: the layout passes 2, 3 and 4, and the palette, its sigmas and the cells are there
+pub record ChromaCard (l : Layout) (n : ChannelStats) (palette sigmas : List Float) (cxs cys : List ℕ) : Type 0 where
+  pub shaped : Shaped l
+  pub tables : Tables n palette (l .hues) sigmas
+  pub cells : Cells cxs cys
+
 -- the modules' positions run in pairs and are f32 values, and each module has a raw colour
 pub record Sampled (xs ys : List ℤ) (raw : List Float) : Type 0 where
   pub pairs : length xs ≡ length ys

@@ -17,7 +17,7 @@ ghost use Rattle.color.specs.Color.{linearToLab};
 ghost use Rattle.color.specs.Palette.{paletteLen, linearAt};
 ghost use Rattle.illum.specs.Correct.{rounded};
 ghost use Rattle.demod.specs.Score as spec;
-ghost use Rattle.demod.specs.Ready.{Palette, Tables, Cells, Sampled, Modules, Scorable};
+ghost use Rattle.demod.specs.Ready.{Palette, Tables, ChromaCard, Sampled, Modules, Scorable};
 ghost use Rattle.demod.specs.Samples.{Block, labAt, numberAt, onwards};
 ghost use Rattle.demod.specs.Score.{sheet};
 ghost use Rattle.demod.specs.Call as call;
@@ -431,7 +431,7 @@ fn cell_block(
     n: usize,
     chroma: &mut [f32],
 )
-    requires { ⌜ Shaped layout × Tables noise (now palette) (layout .hues) (now sigmas) × Cells (now cxs) (now cys) × (n ≤ 16) × (from + n ≤ length (now cxs)) × (3 * (from + n) ≤ length (now raw)) × ((from + n) * symbolBits (layout .hues) ≤ length (now chroma)) ⌝ }
+    requires { ⌜ ChromaCard layout noise (now palette) (now sigmas) (now cxs) (now cys) × (n ≤ 16) × (from + n ≤ length (now cxs)) × (3 * (from + n) ≤ length (now raw)) × ((from + n) * symbolBits (layout .hues) ≤ length (now chroma)) ⌝ }
     ensures { λ _. ⌜ now (chroma .exit) ≡ spec.cellBlock noise (now (palette .entry)) (layout .hues) (now (cxs .entry)) (now (cys .entry)) (spec.cellColour model (layout .size) (now (cxs .entry)) (now (cys .entry)) (now (raw .entry))) from n (now (chroma .entry)) ⌝ }
 {
     let mut room = [0.0f32; 48];
@@ -475,7 +475,7 @@ fn write_cells(
     raw: &[f32],
     chroma: &mut [f32],
 )
-    requires { ⌜ Shaped layout × Tables noise (now palette) (layout .hues) (now sigmas) × Cells (now cxs) (now cys) × (3 * length (now cxs) ≤ length (now raw)) × (length (now cxs) * symbolBits (layout .hues) ≤ length (now chroma)) ⌝ }
+    requires { ⌜ ChromaCard layout noise (now palette) (now sigmas) (now cxs) (now cys) × (3 * length (now cxs) ≤ length (now raw)) × (length (now cxs) * symbolBits (layout .hues) ≤ length (now chroma)) ⌝ }
     ensures { λ _. ⌜ now (chroma .exit) ≡ spec.writeCells noise (now (palette .entry)) (layout .hues) (now (cxs .entry)) (now (cys .entry)) (spec.cellColour model (layout .size) (now (cxs .entry)) (now (cys .entry)) (now (raw .entry))) (length (now (cxs .entry))) (now (chroma .entry)) ⌝ }
 {
     let mut from = 0;
@@ -511,7 +511,7 @@ fn ring_block(
     n: usize,
     chroma: &mut [f32],
 )
-    requires { ⌜ Shaped layout × Tables noise (now palette) (layout .hues) (now sigmas) × Cells (now cxs) (now cys) × (n ≤ 16) × (layout .grid ≤ from) × (from + n ≤ 1048576) × (3 * (from + n) ≤ length (now colours)) × ((length (now cxs) + (from + n - layout .grid)) * symbolBits (layout .hues) ≤ length (now chroma)) ⌝ }
+    requires { ⌜ ChromaCard layout noise (now palette) (now sigmas) (now cxs) (now cys) × (n ≤ 16) × (layout .grid ≤ from) × (from + n ≤ 1048576) × (3 * (from + n) ≤ length (now colours)) × ((length (now cxs) + (from + n - layout .grid)) * symbolBits (layout .hues) ≤ length (now chroma)) ⌝ }
     ensures { λ _. ⌜ now (chroma .exit) ≡ spec.ringBlock noise (now (palette .entry)) (layout .hues) (length (now (cxs .entry))) (layout .grid) (linearAt (now (colours .entry))) from n (now (chroma .entry)) ⌝ }
 {
     let mut labs = [0.0f32; 48];
@@ -554,7 +554,7 @@ fn write_rings(
     m: usize,
     chroma: &mut [f32],
 )
-    requires { ⌜ Shaped layout × Tables noise (now palette) (layout .hues) (now sigmas) × Cells (now cxs) (now cys) × Modules layout m (now colours) × ((length (now cxs) + (m - layout .grid)) * symbolBits (layout .hues) ≤ length (now chroma)) ⌝ }
+    requires { ⌜ ChromaCard layout noise (now palette) (now sigmas) (now cxs) (now cys) × Modules layout m (now colours) × ((length (now cxs) + (m - layout .grid)) * symbolBits (layout .hues) ≤ length (now chroma)) ⌝ }
     ensures { λ _. ⌜ now (chroma .exit) ≡ spec.writeRings noise (now (palette .entry)) (layout .hues) (length (now (cxs .entry))) (layout .grid) (linearAt (now (colours .entry))) m (now (chroma .entry)) ⌝ }
 {
     let mut from = layout.grid;
@@ -588,7 +588,7 @@ fn ring_chroma(
     m: usize,
     chroma: &mut [f32],
 )
-    requires { ⌜ Shaped layout × Tables noise (now palette) (layout .hues) (now sigmas) × Cells (now cxs) (now cys) × Modules layout m (now colours) × (chromaLength (layout .hues) (length (now cxs)) (ringModules m (layout .grid)) (layout .size) ≤ length (now chroma)) ⌝ }
+    requires { ⌜ ChromaCard layout noise (now palette) (now sigmas) (now cxs) (now cys) × Modules layout m (now colours) × (chromaLength (layout .hues) (length (now cxs)) (ringModules m (layout .grid)) (layout .size) ≤ length (now chroma)) ⌝ }
     ensures { λ _. ⌜ now (chroma .exit) ≡ spec.ringChroma layout noise (now (palette .entry)) (length (now (cxs .entry))) (linearAt (now (colours .entry))) m (now (chroma .entry)) ⌝ }
 {
     if layout.size == 1 {
@@ -610,7 +610,7 @@ fn write_chroma(
     craw: &[f32],
     chroma: &mut [f32],
 )
-    requires { ⌜ Shaped layout × Tables noise (now palette) (layout .hues) (now sigmas) × Modules layout m (now colours) × Cells (now cxs) (now cys) × (3 * length (now cxs) ≤ length (now craw)) × (chromaLength (layout .hues) (length (now cxs)) (ringModules m (layout .grid)) (layout .size) ≤ length (now chroma)) ⌝ }
+    requires { ⌜ ChromaCard layout noise (now palette) (now sigmas) (now cxs) (now cys) × Modules layout m (now colours) × (3 * length (now cxs) ≤ length (now craw)) × (chromaLength (layout .hues) (length (now cxs)) (ringModules m (layout .grid)) (layout .size) ≤ length (now chroma)) ⌝ }
     ensures { λ _. ⌜ now (chroma .exit) ≡ spec.chromaWritten layout noise (now (palette .entry)) (linearAt (now (colours .entry))) m (now (cxs .entry)) (now (cys .entry)) (spec.cellColour model (layout .size) (now (cxs .entry)) (now (cys .entry)) (now (craw .entry))) (now (chroma .entry)) ⌝ }
 {
     if limits::chroma_on(layout.hues) {

@@ -207,15 +207,5 @@ pub extern "C" fn purdolve_draw(
         size,
         grid,
     };
-    answers::outcome_number(modulate::draw(
-        bits,
-        layout,
-        xs,
-        ys,
-        cxs,
-        cys,
-        mask,
-        levels,
-        drawn,
-    ))
+    answers::outcome_number(modulate::draw(bits, layout, xs, ys, cxs, cys, mask, levels, drawn))
 }

@@ -7,7 +7,7 @@ use lib.Ieee.{Float}
 use Rattle.sentences.specs.Sentences.{refusal, at, fresh, sound}
 use Rattle.sentences.proofs.Laws.{none-holds, neither, refuses, accepts}
 use Rattle.limits.proofs.Laws.{side-in}
-use Rattle.references.specs.References.{badPositions, badColours, shortScratch}
+use Rattle.references.specs.References.{badPositions, badColours, shortScratch, referencePlacement}
 use Rattle.references.proofs.Laws.{room-in, few-in}
 use Rattle.illum.specs.declared.IlluminationModel.{IlluminationModel}
 use Rattle.illum.specs.Correct.{noModel}
@@ -24,7 +24,7 @@ pub record Accepted (flat : List Float) (n side lent : ℕ) : Type 0 where
 
 module _ (flat : List Float) (cut : Bool) (n side lent : ℕ) where
   numbered : sound (fitSentences flat cut n side lent) ≡ true
-  unfolding fitSentences sound fresh
+  unfolding fitSentences referencePlacement sound fresh
   numbered = refl
 
   module _ (k : ℕ) (e : k ≡ refusal (fitSentences flat cut n side lent)) (z : k ≡ 0) where
@@ -32,7 +32,7 @@ module _ (flat : List Float) (cut : Bool) (n side lent : ℕ) where
     none m = none-holds (fitSentences flat cut n side lent) numbered m (sym z ∙ e)
 
     pub accepted : Accepted flat n side lent
-    unfolding fitSentences at
+    unfolding fitSentences referencePlacement at
     accepted =
         record {
           side-least = side-in side (none 2) .0;

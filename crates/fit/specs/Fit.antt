@@ -1,6 +1,6 @@
 -- The fit: two passes with a rejection between them, and the refusals of `fit_flat` and `fit_counted`. Definitions only.
 use mathlib.Core.Bool.{Bool, true, false, cond, not, _||_}
-use mathlib.Core.List.{List, [], _∷_}
+use mathlib.Core.List.{List, [], _∷_, _++_}
 use Prim.Native.Nat.{ℕ, _*_, _/_, _%_}
 use lib.Dec.{ltb, eqb}
 use lib.ListN.{length}
@@ -14,7 +14,7 @@ use Rattle.illum.specs.declared.Modelled.{Modelled}
 use Rattle.illum.specs.Correct.{unitModel}
 use Rattle.illum.specs.Refusals.{notFiniteAt, notFiniteModel, modelled, refusedModel}
 use Rattle.fit.specs.declared.Pass.{Pass}
-use Rattle.references.specs.References.{badPositions, badColours, shortScratch, tooMany}
+use Rattle.references.specs.References.{badColours, shortScratch, referencePlacement}
 use Rattle.equations.specs.Live.{allLive, liveCount}
 use Rattle.equations.specs.Once.{fitOnce}
 use Rattle.fit.specs.Residual.{residualsOf, rmsOf, limitOf, Rejection, rejectAbove}
@@ -155,10 +155,7 @@ unfoldable pub fitSentences : List Float → Bool → ℕ → ℕ → ℕ → Li
 fitSentences flat cut n side lent =
     (2 when badSide side) ∷
     (5 when (cut || shortScratch lent n)) ∷
-    (6 when tooMany n) ∷
-    (7 when badPositions side flat n) ∷
-    (8 when badColours flat n) ∷
-    []
+    (referencePlacement side flat n ++ ((8 when badColours flat n) ∷ []))
 
 abbrev pub sentencesOf : Request → List Sentence
 sentencesOf q = fitSentences (q .flat) (q .cut) (q .n) (q .side) (length (q .scratch))

@@ -187,11 +187,9 @@ fn refused(flat: &[f32], n: usize, side: usize, scratch: &[f32]) -> u32
     if references::short_scratch(scratch.len(), n) {
         return 5;
     }
-    if references::too_many(n) {
-        return 6;
-    }
-    if references::bad_positions(side, flat, n) {
-        return 7;
+    let placed = references::refused_references(side, flat, n);
+    if placed != 0 {
+        return placed;
     }
     if references::bad_colours(flat, n) {
         return 8;

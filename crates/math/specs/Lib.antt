@@ -1,3 +1,4 @@
 pub mod Gauss
 pub mod Normal
 pub mod Examples
+pub mod Ready

@@ -4,16 +4,16 @@
 //
 // Matrices are row by row: row r and column k of an n by n matrix stand at r * n + k.
 ghost use mathlib.Core.Path.{_≡_};
-ghost use Prim.Native.Nat.{ℕ, _+_, _*_, _<_, _≤_};
+ghost use Prim.Native.Nat.{_*_, _<_, _≤_};
 ghost use lib.Dec.{ltb};
 ghost use lib.ListN.{length};
 ghost use Rattle.loops.specs.Loops.{turnOf};
-ghost use Rattle.sentences.specs.Sentences.{refusal};
 ghost use Rattle.float.specs.Select.{abs};
 ghost use Rattle.math.specs.Gauss as spec;
 ghost use Rattle.math.specs.Gauss.{Alike, system, settled, final};
 ghost use Rattle.math.specs.Normal as normal;
 ghost use Rattle.math.specs.Normal.{grown, fitted};
+ghost use Rattle.math.specs.Ready.{Cell, Equations};
 
 // The answer of `solve`, `finish` and `least_squares`. Refused has the number of the sentence that is broken.
 pub enum Outcome {
@@ -26,7 +26,7 @@ pub enum Outcome {
 
 // The element at row r and column k.
 fn at(a: &[f64], n: usize, r: usize, k: usize) -> f64
-    requires { ⌜ (r < n) × (k < n) × (n * n ≤ length (now a)) ⌝ }
+    requires { ⌜ Cell n (now a) r k ⌝ }
     ensures { λ v. ⌜ v ≡ spec.at n (now (a .entry)) r k ⌝ }
 {
     a[r * n + k]
@@ -34,7 +34,7 @@ fn at(a: &[f64], n: usize, r: usize, k: usize) -> f64
 
 // v at row r and column k.
 fn put(a: &mut [f64], n: usize, r: usize, k: usize, v: f64)
-    requires { ⌜ (r < n) × (k < n) × (n * n ≤ length (now a)) ⌝ }
+    requires { ⌜ Cell n (now a) r k ⌝ }
     ensures { λ _. ⌜ now (a .exit) ≡ spec.put n (now (a .entry)) r k v ⌝ }
 {
     a[r * n + k] = v;
@@ -54,7 +54,7 @@ fn magnitude(x: f64) -> f64
 
 // The row of the larger magnitude in column `col`, of rows p and r: p where they are equal.
 fn larger(a: &[f64], n: usize, col: usize, r: usize, p: usize) -> usize
-    requires { ⌜ (r < n) × (col < n) × (p < n) × (n * n ≤ length (now a)) ⌝ }
+    requires { ⌜ Cell n (now a) r col × (p < n) ⌝ }
     ensures { λ q. ⌜ (q ≡ spec.larger n (now (a .entry)) col r p) × (q < n) ⌝ }
 {
     if magnitude(at(a, n, r, col)) > magnitude(at(a, n, p, col)) {
@@ -76,7 +76,7 @@ fn pivot_row(a: &[f64], n: usize, col: usize) -> usize
 }
 
 fn swap_at(a: &mut [f64], n: usize, r: usize, q: usize, k: usize)
-    requires { ⌜ (r < n) × (q < n) × (k < n) × (n * n ≤ length (now a)) ⌝ }
+    requires { ⌜ Cell n (now a) r k × (q < n) ⌝ }
     ensures { λ _. ⌜ now (a .exit) ≡ spec.swapAt n r q k (now (a .entry)) ⌝ }
 {
     let u = at(a, n, r, k);
@@ -105,7 +105,7 @@ fn swap(b: &mut [f64], r: usize, q: usize)
 
 // Exchanges rows p and `col` of the system.
 fn bring_up(a: &mut [f64], b: &mut [f64], n: usize, col: usize, p: usize)
-    requires { ⌜ (col < n) × (p < n) × (n * n ≤ length (now a)) × (n ≤ length (now b)) ⌝ }
+    requires { ⌜ Equations n (now a) (now b) × (col < n) × (p < n) ⌝ }
     ensures { λ _. ⌜ system (now (a .exit)) (now (b .exit)) ≡ spec.bringUp n col p (system (now (a .entry)) (now (b .entry))) ⌝ }
 {
     if p == col {
@@ -118,7 +118,7 @@ fn bring_up(a: &mut [f64], b: &mut [f64], n: usize, col: usize, p: usize)
 // ---- elimination
 
 fn subtract_at(a: &mut [f64], n: usize, col: usize, r: usize, f: f64, k: usize)
-    requires { ⌜ (r < n) × (col < n) × (k < n) × (n * n ≤ length (now a)) ⌝ }
+    requires { ⌜ Cell n (now a) r k × (col < n) ⌝ }
     ensures { λ _. ⌜ now (a .exit) ≡ spec.subtractAt n col r f k (now (a .entry)) ⌝ }
 {
     let v = at(a, n, r, k) - f * at(a, n, col, k);
@@ -127,7 +127,7 @@ fn subtract_at(a: &mut [f64], n: usize, col: usize, r: usize, f: f64, k: usize)
 
 // Takes f times row `col` from row r, from column `col` on.
 fn subtract_row(a: &mut [f64], n: usize, col: usize, r: usize, f: f64)
-    requires { ⌜ (r < n) × (col < n) × (n * n ≤ length (now a)) ⌝ }
+    requires { ⌜ Cell n (now a) r col ⌝ }
     ensures { λ _. ⌜ now (a .exit) ≡ spec.subtractRow n col r f (now (a .entry)) ⌝ }
 {
     for k in col..n {
@@ -137,7 +137,7 @@ fn subtract_row(a: &mut [f64], n: usize, col: usize, r: usize, f: f64)
 
 // Clears column `col` of row r, d being the pivot.
 fn eliminate_row(a: &mut [f64], b: &mut [f64], n: usize, col: usize, d: f64, r: usize)
-    requires { ⌜ (r < n) × (col < n) × (n * n ≤ length (now a)) × (n ≤ length (now b)) ⌝ }
+    requires { ⌜ Equations n (now a) (now b) × (r < n) × (col < n) ⌝ }
     ensures { λ _. ⌜ system (now (a .exit)) (now (b .exit)) ≡ spec.eliminateRow n col d r (system (now (a .entry)) (now (b .entry))) ⌝ }
 {
     let f = at(a, n, r, col) / d;
@@ -149,7 +149,7 @@ fn eliminate_row(a: &mut [f64], b: &mut [f64], n: usize, col: usize, d: f64, r: 
 }
 
 fn eliminate_below(a: &mut [f64], b: &mut [f64], n: usize, col: usize)
-    requires { ⌜ (col < n) × (n * n ≤ length (now a)) × (n ≤ length (now b)) ⌝ }
+    requires { ⌜ Equations n (now a) (now b) × (col < n) ⌝ }
     ensures { λ _. ⌜ system (now (a .exit)) (now (b .exit)) ≡ spec.eliminateBelow n col (system (now (a .entry)) (now (b .entry))) ⌝ }
 {
     let d = at(a, n, col, col);
@@ -160,7 +160,7 @@ fn eliminate_below(a: &mut [f64], b: &mut [f64], n: usize, col: usize)
 
 // Clears column `col` below the diagonal, and says whether its pivot is large enough. A NaN pivot is.
 fn eliminate_column(a: &mut [f64], b: &mut [f64], n: usize, col: usize) -> bool
-    requires { ⌜ (col < n) × (n * n ≤ length (now a)) × (n ≤ length (now b)) ⌝ }
+    requires { ⌜ Equations n (now a) (now b) × (col < n) ⌝ }
     ensures { λ r. ⌜ turnOf r (system (now (a .exit)) (now (b .exit))) ≡ spec.eliminateColumn n col (system (now (a .entry)) (now (b .entry))) ⌝ }
 {
     let p = pivot_row(a, n, col);
@@ -174,7 +174,7 @@ fn eliminate_column(a: &mut [f64], b: &mut [f64], n: usize, col: usize) -> bool
 
 // Makes the system triangular, and says whether every pivot was large enough.
 fn eliminate(a: &mut [f64], b: &mut [f64], n: usize) -> bool
-    requires { ⌜ (n * n ≤ length (now a)) × (n ≤ length (now b)) ⌝ }
+    requires { ⌜ Equations n (now a) (now b) ⌝ }
     ensures { λ r. ⌜ turnOf r (system (now (a .exit)) (now (b .exit))) ≡ spec.eliminate n (system (now (a .entry)) (now (b .entry))) ⌝ }
 {
     for col in 0..n {
@@ -189,7 +189,7 @@ fn eliminate(a: &mut [f64], b: &mut [f64], n: usize) -> bool
 
 // What row r leaves for its unknown: b[r] less the products of the unknowns after it.
 fn residual(a: &[f64], b: &[f64], x: &[f64], n: usize, r: usize) -> f64
-    requires { ⌜ (r < n) × (n * n ≤ length (now a)) × (n ≤ length (now b)) × (n ≤ length (now x)) ⌝ }
+    requires { ⌜ Equations n (now a) (now b) × (n ≤ length (now x)) × (r < n) ⌝ }
     ensures { λ v. ⌜ v ≡ spec.residual n (now (a .entry)) (now (b .entry)) (now (x .entry)) r ⌝ }
 {
     let mut s = b[r];
@@ -201,7 +201,7 @@ fn residual(a: &[f64], b: &[f64], x: &[f64], n: usize, r: usize) -> f64
 
 // The unknowns of a triangular system, the last one first.
 fn back_substitute(a: &[f64], b: &[f64], x: &mut [f64], n: usize)
-    requires { ⌜ (n * n ≤ length (now a)) × (n ≤ length (now b)) × (n ≤ length (now x)) ⌝ }
+    requires { ⌜ Equations n (now a) (now b) × (n ≤ length (now x)) ⌝ }
     ensures { λ _. ⌜ now (x .exit) ≡ spec.backSubstitute n (now (a .entry)) (now (b .entry)) (now (x .entry)) ⌝ }
 {
     let mut r = n;
@@ -321,7 +321,7 @@ pub fn solve(a: &mut [f64], b: &mut [f64], x: &mut [f64], n: usize) -> Outcome
 // ---- the normal equations
 
 fn add_product(ata: &mut [f64], row: &[f64], terms: usize, i: usize, j: usize)
-    requires { ⌜ (i < terms) × (j < terms) × (terms * terms ≤ length (now ata)) × (terms ≤ length (now row)) ⌝ }
+    requires { ⌜ Cell terms (now ata) i j × (terms ≤ length (now row)) ⌝ }
     ensures { λ _. ⌜ now (ata .exit) ≡ normal.addProduct terms (now (row .entry)) i j (now (ata .entry)) ⌝ }
 {
     let v = at(ata, terms, i, j) + row[i] * row[j];
@@ -339,7 +339,7 @@ fn add_products(ata: &mut [f64], row: &[f64], terms: usize, i: usize)
 
 // Equation i gains the products of row[i] with the target and with the whole row.
 fn add_line(ata: &mut [f64], atb: &mut [f64], row: &[f64], target: f64, terms: usize, i: usize)
-    requires { ⌜ (i < terms) × (terms * terms ≤ length (now ata)) × (terms ≤ length (now atb)) × (terms ≤ length (now row)) ⌝ }
+    requires { ⌜ Equations terms (now ata) (now atb) × (i < terms) × (terms ≤ length (now row)) ⌝ }
     ensures { λ _. ⌜ system (now (ata .exit)) (now (atb .exit)) ≡ normal.addLine terms (now (row .entry)) target i (system (now (ata .entry)) (now (atb .entry))) ⌝ }
 {
     atb[i] = atb[i] + row[i] * target;
@@ -347,7 +347,7 @@ fn add_line(ata: &mut [f64], atb: &mut [f64], row: &[f64], target: f64, terms: u
 }
 
 fn add_lines(ata: &mut [f64], atb: &mut [f64], row: &[f64], target: f64, terms: usize)
-    requires { ⌜ (terms * terms ≤ length (now ata)) × (terms ≤ length (now atb)) × (terms ≤ length (now row)) ⌝ }
+    requires { ⌜ Equations terms (now ata) (now atb) × (terms ≤ length (now row)) ⌝ }
     ensures { λ _. ⌜ system (now (ata .exit)) (now (atb .exit)) ≡ normal.addRow terms (now (row .entry)) target (system (now (ata .entry)) (now (atb .entry))) ⌝ }
 {
     for i in 0..terms {
@@ -384,7 +384,7 @@ pub fn add_row(
 }
 
 fn nudge_at(ata: &mut [f64], terms: usize, i: usize)
-    requires { ⌜ (i < terms) × (terms * terms ≤ length (now ata)) ⌝ }
+    requires { ⌜ Cell terms (now ata) i i ⌝ }
     ensures { λ _. ⌜ now (ata .exit) ≡ normal.nudgeAt terms i (now (ata .entry)) ⌝ }
 {
     let v = at(ata, terms, i, i) + 1e-9;

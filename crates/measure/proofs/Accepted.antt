@@ -1,8 +1,8 @@
 -- What `measure` knows past its sentences: each of them fails. And what a call gives by its number. Assumes nothing.
-use mathlib.Core.Path.{_≡_, refl, sym, ap, _∙_}
+use mathlib.Core.Path.{_≡_, refl, sym, _∙_}
 use mathlib.Core.Bool.{Bool, true, false, _||_}
 use mathlib.Core.List.{List}
-use Prim.Native.Nat.{ℕ, _+_, _*_, _≤_}
+use Prim.Native.Nat.{ℕ, _*_, _≤_}
 use native.Mathlib.Omega.{arith}
 use lib.ListN.{length}
 use lib.Ieee.{Float}
@@ -12,7 +12,7 @@ use Rattle.limits.proofs.Laws.{side-in}
 use Rattle.color.specs.Palette.{paletteLen, wildPalette}
 use Rattle.illum.specs.declared.IlluminationModel.{IlluminationModel}
 use Rattle.illum.specs.Refusals.{badModel}
-use Rattle.references.specs.References.{badPositions, wildColours, shortScratch}
+use Rattle.references.specs.References.{badPositions, wildColours, shortScratch, referencePlacement}
 use Rattle.references.proofs.Laws.{room-in, few-in}
 use Rattle.stats.specs.declared.Noise.the-variants.{Refused}
 use Rattle.stats.specs.Calls.{shortPalette}
@@ -48,7 +48,7 @@ tame flat n palette hues h = neither (wildColours flat n) (wildPalette palette h
 
 module _ (flat : List Float) (cut : Bool) (n side : ℕ) (m : IlluminationModel) (palette : List Float) (hues lent : ℕ) where
   numbered : sound (sentencesFor flat cut n side m palette hues lent) ≡ true
-  unfolding sentencesFor sound fresh
+  unfolding sentencesFor referencePlacement sound fresh
   numbered = refl
 
   module _ (k : ℕ) (e : k ≡ refusal (sentencesFor flat cut n side m palette hues lent)) (z : k ≡ 0) where
@@ -56,7 +56,7 @@ module _ (flat : List Float) (cut : Bool) (n side : ℕ) (m : IlluminationModel)
     none j = none-holds (sentencesFor flat cut n side m palette hues lent) numbered j (sym z ∙ e)
 
     pub accepted : Accepted flat n side m palette hues lent
-    unfolding sentencesFor at
+    unfolding sentencesFor referencePlacement at
     accepted =
         let l = lengths cut palette hues lent n (none 5) in
         let t = tame flat n palette hues (none 8) in

@@ -1,9 +1,9 @@
 -- How large the figures can be: the Lab of a colour that passes sentences 8 and 12 is within 2 ^ 36, so a chroma error is within 2 ^ 38; a median
 -- lies among the elements, a distance from it is at most twice as large, and 1.4826 times that is within 2 ^ 40. Assumes nothing.
-use mathlib.Core.Path.{_≡_, refl, sym, ap, _∙_}
-use mathlib.Core.Bool.{Bool, true, false, not, cond, _&&_}
+use mathlib.Core.Path.{_≡_, refl}
+use mathlib.Core.Bool.{Bool, true, false, not, _&&_}
 use mathlib.Core.List.{List, [], _∷_, _++_, map}
-use Prim.Native.Nat.{ℕ, zero, suc, _+_, _*_, _/_, _%_, _^_, _≤_, _<_}
+use Prim.Native.Nat.{ℕ, zero, suc, _+_, _%_, _^_, _<_}
 use native.Mathlib.Decide.{ℕ-discrete}
 use native.Mathlib.Omega.{arith}
 use lib.Dec.{T}
@@ -11,8 +11,8 @@ use lib.IntN.{pos}
 use lib.ListN.{length, getD}
 use lib.Ieee.{Float, nan, inf, fin, binary32, add, sub, mul, neg, le, round, isNan}
 use lib.Ieee.Scale.{finite}
-use Rattle.floatlaws.specs.Value.{hi, lo, mag, negative, Num}
-use Rattle.floatlaws.specs.Order.{Le, of-le, to-le, le-trans}
+use Rattle.floatlaws.specs.Value.{hi, negative}
+use Rattle.floatlaws.specs.Order.{Le, of-le, le-trans}
 use Rattle.floatlaws.specs.Finite.{Fin, num, neg-fin, mag-zero}
 use Rattle.floatlaws.specs.Interval.{In, within, point, add-in, sub-in, mul-in, mul-in-signed}
 use Rattle.float.specs.Select.{abs}

@@ -18,7 +18,7 @@ use Rattle.color.specs.declared.Linear.{Linear}
 use Rattle.color.specs.declared.Lab.{Lab}
 use Rattle.color.specs.Color.{linearToLab, abDistance, length2}
 use Rattle.illum.specs.declared.IlluminationModel.{IlluminationModel}
-use Rattle.measure.specs.Measure.{picked, sameLevel, atLevel, isLight, colourful, correctedAt, correctedLab, nominalLab, lightnessAt, errorAt, forLevel, forLevelChroma, levelOf, errorsOf, levelErrorsOf, recordOf, measuredOf, measured, badCorrected}
+use Rattle.measure.specs.Measure.{picked, sameLevel, atLevel, isLight, colourful, correctedAt, correctedLab, nominalLab, lightnessAt, errorAt, forLevel, forLevelChroma, levelOf, errorsOf, levelErrorsOf, measuredOf, measured, badCorrected}
 use Rattle.measure.specs.Columns.{m0, m1, m2, m3, m4, m5, m6, markOf, markFor, markAt, marked, counted, squareOf, squareAt, noted, notedAt, Noted, Rooted, placed, colourAt, Corrected, Converted, pickedIn, levelIn, RealSpreads, recordIn}
 use Rattle.order.specs.Median.{medianOf}
 use Rattle.references.specs.References.{wildColours}

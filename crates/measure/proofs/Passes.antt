@@ -2,7 +2,7 @@
 -- within 2 ^ 40 and at least 0.75, or 0 for a level. And no distance that its sigmas are made of is a NaN. Assumes nothing.
 use mathlib.Core.Path.{_≡_, refl, sym, ap, _∙_}
 use mathlib.Core.Bool.{Bool, true, false, not, cond, _&&_, _||_}
-use mathlib.Core.List.{List, [], _∷_}
+use mathlib.Core.List.{List}
 use Prim.Native.Nat.{ℕ, zero, suc, _+_, _-_, _*_, _^_, _≤_, _<_}
 use native.Mathlib.Nat.{eq-or-lt-of-le}
 use mathlib.Core.Logic.{⊎-elim}
@@ -11,17 +11,15 @@ use borrow.Author.Tests.{ltb-false, le-leb}
 use lib.Dec.{T, ltb, leb}
 use lib.ListN.{length, getD}
 use lib.Ieee.{Float, nan, binary32, le, lt, eq, neg, round, fits}
-use lib.Ieee.Scale.{finite}
 use Rattle.loops.specs.Loops.{anyUp, someOf}
 use Rattle.loops.proofs.Laws.{anyUp-false}
-use Rattle.floatlaws.specs.Value.{Num, lt-not-le}
+use Rattle.floatlaws.specs.Value.{lt-not-le}
 use Rattle.floatlaws.specs.Order.{Le, of-le, to-le, le-trans}
 use Rattle.floatlaws.specs.Finite.{Fin, num}
-use Rattle.floatlaws.specs.Interval.{In, within}
+use Rattle.floatlaws.specs.Interval.{within}
 use Rattle.float.specs.Select.{max}
 use Rattle.float.proofs.Select.{max-num, max-right, max-left, max-le}
 use Rattle.float.proofs.Single.{single-fits}
-use Rattle.color.specs.declared.Linear.{Linear}
 use Rattle.color.specs.Color.{whole, fraction}
 use Rattle.color.specs.Palette.{levelL, wild, wildAt, wildLinear, wildPalette}
 use Rattle.color.proofs.Rises.{fin-of-fraction}
@@ -36,8 +34,8 @@ use Rattle.stats.specs.declared.ChannelStats.{ChannelStats}
 use Rattle.stats.specs.Noise.{nominal}
 use Rattle.stats.proofs.Range.{Held}
 use Rattle.stats.specs.Calls.{wildFigure, badNoiseNumbers, badLevelSigma, badSigmas}
-use Rattle.measure.specs.Measure.{correctedAt, correctedLab, nominalLab, lightnessAt, errorAt, picked, levelOf, leastSigma, spreadAbout, lumaSigma, chromaSigma, figuresOf, recordOf, measuredOf, measured, wildCorrectedAt, wildCorrected, badCorrected, Request, sentencesOf, Final, final, turnedAway, done, measureOf}
-use Rattle.stats.specs.declared.Noise.the-variants.{Record, Refused}
+use Rattle.measure.specs.Measure.{correctedAt, correctedLab, nominalLab, lightnessAt, errorAt, picked, leastSigma, spreadAbout, lumaSigma, chromaSigma, figuresOf, recordOf, measuredOf, measured, wildCorrectedAt, wildCorrected, badCorrected, Request, sentencesOf, Final, final, turnedAway, done, measureOf}
+use Rattle.stats.specs.declared.Noise.the-variants.{Record}
 use Rattle.sentences.specs.Sentences.{refusal, decided}
 use Rattle.measure.specs.Columns.{RealDistances}
 use Rattle.measure.proofs.Lists.{Each, picked-each}

@@ -65,11 +65,11 @@ module _ (xs ys : List Float) (m : Float) (e : ordered m ys ≡ orderedOf xs) wh
   reordered = subst (λ (zs : List Float). List·Permᴰ zs xs) (sym (ap (λ (o : Ordered). o .values) e)) (median-permutes xs)
 
   -- ds is the distances of ys from m, and v their median
-  pub in-place : (ds us : List Float) (v : Float) → RealDistances xs → ds ≡ map (deviation m) ys → ordered v us ≡ orderedOf ds → raised v ≡ raisedSigma xs
-  in-place ds us v real ed ev =
+  pub in-place : (ds us : List Float) (v w : Float) → w ≡ raised v → ordered v us ≡ orderedOf ds → ds ≡ map (deviation m) ys → RealDistances xs → w ≡ raisedSigma xs
+  in-place ds us v w ew ev ed real =
       let numbers : Numbers (map (deviation m) xs) = subst (λ (a : Float). Numbers (map (deviation a) xs)) (sym found) real in
       let median : v ≡ medianOf (map (deviation m) ys) = ap (λ (o : Ordered). o .median) ev ∙ ap medianOf ed in
-      sigma-from xs m v found (median ∙ deviation-any-order m xs ys reordered numbers)
+      ew ∙ sigma-from xs m v found (median ∙ deviation-any-order m xs ys reordered numbers)
 
 -- the luma noise: y is the list in the room
 module _ (n : ℕ) (l0 l1 : Float) (t y : List Float) (e : y ≡ spreadIn n l0 l1 t) where
@@ -154,9 +154,16 @@ module _ (n k : ℕ) (t t1 : List Float) (e : t1 ≡ t) where
 pub still-fit : (n : ℕ) (t t1 t2 : List Float) → t2 ≡ t1 → t1 ≡ t → length (levelIn false n t) + length (levelIn true n t) ≤ n → length (levelIn false n t2) + length (levelIn true n t2) ≤ n
 still-fit n t t1 t2 e d h = rw (e, d) h
 
--- no distance is a NaN still
-pub still-real : (n : ℕ) (lo hi : Float) (t t1 : List Float) → t1 ≡ t → RealDistances (pickedIn n n lo hi t) → RealDistances (pickedIn n n lo hi t1)
-still-real n lo hi t t1 e h = rw e h
+-- no distance is a NaN still: t1, t2 and t3 are what the calls before leave of t
+module _ (n : ℕ) (l0 l1 : Float) (t t1 : List Float) (e1 : t1 ≡ t) (real : RealSpreads n l0 l1 t) where
+  pub chroma-still : RealDistances (pickedIn n n m2 m5 t1)
+  chroma-still = rw e1 (real .chroma)
+
+  pub dark-still : (t2 : List Float) → t2 ≡ t1 → RealDistances (pickedIn n n m2 m3 t2)
+  dark-still t2 e2 = rw (e2, e1) (real .dark)
+
+  pub light-still : (t2 t3 : List Float) → t3 ≡ t2 → t2 ≡ t1 → RealDistances (pickedIn n n m4 m5 t3)
+  light-still t2 t3 e3 e2 = rw (e3, e2, e1) (real .light)
 
 -- what two calls keep
 pub kept-2 : (a b c : List Float) → c ≡ b → b ≡ a → c ≡ a

@@ -24,7 +24,7 @@ use Rattle.stats.specs.declared.Noise.{Noise}
 use Rattle.stats.specs.declared.Noise.the-variants.{Refused, Record}
 use Rattle.stats.specs.Noise.{nominal}
 use Rattle.stats.specs.Calls.{shortPalette}
-use Rattle.references.specs.References.{xAt, yAt, observedAt, nominalAt, badPositions, wildColours, shortScratch, tooMany}
+use Rattle.references.specs.References.{xAt, yAt, observedAt, nominalAt, wildColours, shortScratch, referencePlacement}
 
 -- ---- one reference
 
@@ -206,12 +206,11 @@ sentencesFor flat cut n side m palette hues lent =
     (2 when badSide side) ∷
     (3 when badHues hues) ∷
     (5 when tooShort cut palette hues lent n) ∷
-    (6 when tooMany n) ∷
-    (7 when badPositions side flat n) ∷
-    (8 when wildNumbers flat n palette hues) ∷
+    (referencePlacement side flat n ++
+    ((8 when wildNumbers flat n palette hues) ∷
     (10 when badModel m) ∷
     (12 when badCorrected m flat n) ∷
-    []
+    []))
 
 abbrev pub sentencesOf : Request → List Sentence
 sentencesOf q = sentencesFor (q .flat) (q .cut) (q .n) (q .side) (q .model) (q .palette) (q .hues) (length (q .scratch))

@@ -5,7 +5,7 @@ use mathlib.Core.List.{List}
 use Prim.Native.Nat.{ℕ, _+_, _≤_}
 use lib.ListN.{length, drop}
 use lib.Ieee.{Float}
-use Rattle.references.specs.Ready.{Scratch}
+use Rattle.references.specs.Ready.{Scratch, Lent}
 use Rattle.measure.specs.Measure.{middle}
 use Rattle.measure.specs.Columns.{levelIn}
 
@@ -13,6 +13,11 @@ use Rattle.measure.specs.Columns.{levelIn}
 pub record Middle (palette : List Float) (mid : Float) : Type 0 where
   pub levels : 2 ≤ length palette
   pub between : mid ≡ middle palette
+
+-- the palette has its two levels, and n references stand in flat and have their scratch
+pub record Given (palette : List Float) (n : ℕ) (flat s : List Float) : Type 0 where
+  pub levels : 2 ≤ length palette
+  pub lent : Lent n flat s
 
 -- the scratch of n references, and the lists of both levels have room in its first column
 pub record Levels (n : ℕ) (s : List Float) : Type 0 where

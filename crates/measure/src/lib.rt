@@ -19,7 +19,7 @@ ghost use Rattle.references.specs.Ready.{Scratch, Lent};
 ghost use Rattle.measure.specs.Measure as spec;
 ghost use Rattle.measure.specs.Measure.{final, request, flatRequest};
 ghost use Rattle.measure.specs.Columns as column;
-ghost use Rattle.measure.specs.Ready.{Middle, Levels};
+ghost use Rattle.measure.specs.Ready.{Middle, Given, Levels};
 use color::Lab;
 use color::Linear;
 use color::palette::level_l;
@@ -275,7 +275,7 @@ fn note_at(
 
 // Writes them of all n over the corrected colours.
 fn convert(palette: &[f32], flat: &[f32], n: usize, s: &mut [f32])
-    requires { ⌜ Lent n (now flat) (now s) × (2 ≤ length (now palette)) ⌝ }
+    requires { ⌜ Given (now palette) n (now flat) (now s) ⌝ }
     ensures { λ _. ⌜ column.Converted (now (palette .entry)) (now (flat .entry)) n n (now (s .entry)) (now (s .exit)) ⌝ }
 {
     let mid = middle(palette);
@@ -299,7 +299,7 @@ fn roots(n: usize, s: &mut [f32])
 // Writes them of all n: all are corrected, then converted, and then the roots are taken, which takes less time than one loop that
 // does it all.
 fn note(model: IlluminationModel, palette: &[f32], flat: &[f32], n: usize, s: &mut [f32])
-    requires { ⌜ Lent n (now flat) (now s) × (2 ≤ length (now palette)) ⌝ }
+    requires { ⌜ Given (now palette) n (now flat) (now s) ⌝ }
     ensures { λ _. ⌜ column.Noted model (now (palette .entry)) (now (flat .entry)) n n (spec.errorAt model (now (flat .entry))) (now (s .exit)) ⌝ }
 {
     correct(model, flat, n, s);
@@ -491,7 +491,7 @@ fn measured(
     n: usize,
     s: &mut [f32],
 ) -> ChannelStats
-    requires { ⌜ Lent n (now flat) (now s) × (2 ≤ length (now palette)) × (wildColours (now flat) n ≡ false) × (spec.badCorrected model (now flat) n ≡ false) ⌝ }
+    requires { ⌜ Given (now palette) n (now flat) (now s) × (wildColours (now flat) n ≡ false) × (spec.badCorrected model (now flat) n ≡ false) ⌝ }
     ensures { λ r. ⌜ r ≡ spec.measured model (now (palette .entry)) (now (flat .entry)) n ⌝ }
 {
     if n < 8 {
@@ -575,11 +575,9 @@ fn refused(
     if too_short(palette, hues, lent, n) {
         return 5;
     }
-    if references::too_many(n) {
-        return 6;
-    }
-    if references::bad_positions(side, flat, n) {
-        return 7;
+    let placed = references::refused_references(side, flat, n);
+    if placed != 0 {
+        return placed;
     }
     if wild_numbers(flat, n, palette, hues) {
         return 8;

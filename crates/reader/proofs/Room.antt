@@ -24,6 +24,7 @@ use Rattle.illum.specs.declared.Modelled.{Modelled}
 use Rattle.stats.specs.declared.ChannelStats.{ChannelStats}
 use Rattle.stats.specs.declared.Noise.{Noise}
 use Rattle.stats.specs.declared.Noise.the-variants as noise
+use Rattle.references.specs.References.{referencePlacement}
 use Rattle.measure.specs.Measure as measuring
 use Rattle.readout.specs.Sheet.{Sheet, Few}
 use Rattle.readout.specs.Reading.{scoreText}
@@ -41,7 +42,7 @@ numberOf (noise.Refused n) = n
 numberOf (noise.Record r) = 0
 
 measure-small : (q : measuring.Request) → numberOf (measuring.measureOf q .answer) < 100
-unfolding numberOf measuring.measureOf measuring.sentencesFor tiny
+unfolding numberOf measuring.measureOf measuring.sentencesFor referencePlacement tiny
 measure-small q =
     number-small (λ e. numberOf (e .answer)) (measuring.turnedAway q) (measuring.done q) (refusal (measuring.sentencesOf q)) (λ n. refl) refl (refusal-small (measuring.sentencesOf q) refl)
 

@@ -13,7 +13,7 @@ use Rattle.sentences.specs.Sentences.{Sentence, _when_, refusal, decided}
 use Rattle.limits.specs.Limits.{badSide, badHues}
 use Rattle.illum.specs.declared.IlluminationModel.{IlluminationModel}
 use Rattle.illum.specs.Refusals.{badModel}
-use Rattle.references.specs.References.{badPositions, badColours, shortScratch, tooMany}
+use Rattle.references.specs.References.{badPositions, badColours, shortScratch, tooMany, referencePlacement}
 use Rattle.references.proofs.Laws.{few-in}
 use Rattle.fit.specs.Fit as fitting
 use Rattle.fit.specs.Fit.{fitOf, fitSentences}
@@ -107,7 +107,7 @@ module _ (n side version : ℕ) (scratch : List Float) where
   toFit flat = fitting.request flat false n side version scratch
 
   fit-unread : tooMany n ≡ true → (a b : List Float) → fitOf (toFit a) ≡ fitOf (toFit b)
-  unfolding fitOf fitSentences
+  unfolding fitOf fitSentences referencePlacement
   fit-unread h a b =
       rw h
       (early (fitting.turnedAway (toFit a)) (fitting.done (toFit a)) (fitting.done (toFit b)) ((2 when badSide side) ∷ (5 when (false || shortScratch (length scratch) n)) ∷ [])
@@ -134,7 +134,7 @@ module _ (n side : ℕ) (model : IlluminationModel) (palette : List Float) (hues
       []
 
   measure-unread : tooMany n ≡ true → (a b : List Float) → measureOf (toMeasure a) ≡ measureOf (toMeasure b)
-  unfolding measureOf sentencesFor
+  unfolding measureOf sentencesFor referencePlacement
   measure-unread h a b =
       rw h
       (early (measuring.turnedAway (toMeasure a)) (measuring.done (toMeasure a)) (measuring.done (toMeasure b))

@@ -1,12 +1,13 @@
 -- References as flat floats, eight each: x, y, the observed colour, the nominal colour; sentences 7 and 8 of them; the scratch that goes with them. Definitions only.
 use mathlib.Core.Bool.{Bool, not, _||_, _&&_}
-use mathlib.Core.List.{List}
+use mathlib.Core.List.{List, [], _∷_}
 use Prim.Native.Nat.{ℕ, _+_, _*_}
 use lib.Dec.{ltb}
 use lib.IntN.{pos}
 use lib.ListN.{getD}
 use lib.Ieee.{Float, nan, binary32, le, neg, ofInt}
 use Rattle.loops.specs.Loops.{anyUp}
+use Rattle.sentences.specs.Sentences.{Sentence, _when_}
 use Rattle.color.specs.declared.Linear.{Linear}
 use Rattle.color.specs.Palette.{wildAt}
 use Rattle.illum.specs.Refusals.{notFiniteAt}
@@ -70,3 +71,8 @@ shortScratch lent n = ltb lent (4 * n)
 
 unfoldable pub tooMany : ℕ → Bool
 tooMany n = ltb 16384 n
+
+-- ---- 6 and 7 as a group, which the lists of `fit` and `measure` are joined from
+
+unfoldable pub referencePlacement : ℕ → List Float → ℕ → List Sentence
+referencePlacement side flat n = (6 when tooMany n) ∷ (7 when badPositions side flat n) ∷ []

@@ -3,6 +3,7 @@
 ghost use mathlib.Core.Path.{_≡_};
 ghost use Prim.Native.Nat.{_+_, _*_, _≤_};
 ghost use lib.ListN.{length};
+ghost use Rattle.sentences.specs.Sentences.{refusal};
 ghost use Rattle.order.specs.Deviation.{cleared};
 ghost use Rattle.references.specs.References as spec;
 ghost use Rattle.references.specs.Ready.{Component};
@@ -50,7 +51,14 @@ pub fn nominal_at(flat: &[f32], i: usize) -> Linear
     }
 }
 
-// ---- sentence 7
+// ---- sentences 6 and 7
+
+// Core: sentence 6, there are more than 16,384 references.
+pub fn too_many(n: usize) -> bool
+    ensures { λ r. ⌜ r ≡ spec.tooMany n ⌝ }
+{
+    16384 < n
+}
 
 // A coordinate is not a number from -16 to side + 16.
 fn bad_position(side: usize, v: f32) -> bool
@@ -74,8 +82,8 @@ fn misplaced(side: usize, flat: &[f32], i: usize) -> bool
     bad_position(side, flat[8 * i + 1])
 }
 
-// Core: sentence 7, one of n references is misplaced.
-pub fn bad_positions(side: usize, flat: &[f32], n: usize) -> bool
+// Sentence 7, one of n references is misplaced.
+fn bad_positions(side: usize, flat: &[f32], n: usize) -> bool
     requires { ⌜ (side ≤ 1024) × (8 * n ≤ length (now flat)) ⌝ }
     ensures { λ r. ⌜ r ≡ spec.badPositions side (now (flat .entry)) n ⌝ }
 {
@@ -85,6 +93,20 @@ pub fn bad_positions(side: usize, flat: &[f32], n: usize) -> bool
         }
     }
     false
+}
+
+// Core: the refusal of n references by their number and their positions: 6, 7, or 0.
+pub fn refused_references(side: usize, flat: &[f32], n: usize) -> u32
+    requires { ⌜ (side ≤ 1024) × (n ≤ 16384 → 8 * n ≤ length (now flat)) ⌝ }
+    ensures { λ r. ⌜ r ≡ refusal (spec.referencePlacement side (now (flat .entry)) n) ⌝ }
+{
+    if too_many(n) {
+        return 6;
+    }
+    if bad_positions(side, flat, n) {
+        return 7;
+    }
+    0
 }
 
 // ---- sentence 8
@@ -148,13 +170,6 @@ pub fn short_scratch(lent: usize, n: usize) -> bool
     ensures { λ r. ⌜ r ≡ spec.shortScratch lent n ⌝ }
 {
     lent / 4 < n
-}
-
-// Core: sentence 6, there are more than 16,384 references.
-pub fn too_many(n: usize) -> bool
-    ensures { λ r. ⌜ r ≡ spec.tooMany n ⌝ }
-{
-    16384 < n
 }
 
 // Core: zeros in the first n places.

@@ -1,11 +1,12 @@
 // The margin check: whether a palette and a noise record leave so much room that a card whose corrected
 // colours lie within half a sigma of its drawn ones is read as it was drawn.
 ghost use mathlib.Core.Path.{_≡_};
-ghost use Prim.Native.Nat.{_+_, _*_, _<_, _≤_};
+ghost use Prim.Native.Nat.{_<_, _≤_};
 ghost use lib.ListN.{length};
 ghost use Rattle.color.specs.Palette.{paletteLen};
 ghost use Rattle.stats.specs.Margin as spec;
 ghost use Rattle.stats.specs.Calls as call;
+ghost use Rattle.stats.specs.Ready.{ColourAt, HueAt};
 use super::ChannelStats;
 use super::Verdict;
 use color::Lab;
@@ -21,7 +22,7 @@ fn level_fits(v: f32) -> bool
 
 // Whether the L of palette colour i is.
 fn colour_fits(palette: &[f32], hues: usize, i: usize) -> bool
-    requires { ⌜ (i < 2 * hues) × (paletteLen hues ≤ length (now palette)) ⌝ }
+    requires { ⌜ ColourAt (now palette) hues i ⌝ }
     ensures { λ r. ⌜ r ≡ spec.colourFits (now (palette .entry)) hues i ⌝ }
 {
     let c = palette_lab(palette, hues, i);
@@ -73,7 +74,7 @@ fn sigmas_fit(noise: ChannelStats) -> bool
 
 // Whether the dark colour of hue h, half a sigma up, still scores the threshold.
 fn dark_clear(threshold: f32, noise: ChannelStats, palette: &[f32], hues: usize, h: usize) -> bool
-    requires { ⌜ (h < hues) × (paletteLen hues ≤ length (now palette)) ⌝ }
+    requires { ⌜ HueAt (now palette) hues h ⌝ }
     ensures { λ r. ⌜ r ≡ spec.darkClear threshold noise (now (palette .entry)) hues h ⌝ }
 {
     let c = palette_lab(palette, hues, h);
@@ -94,7 +95,7 @@ fn darks_clear(threshold: f32, noise: ChannelStats, palette: &[f32], hues: usize
 
 // Whether the light colour of hue h, half a sigma down, still scores minus the threshold.
 fn light_clear(threshold: f32, noise: ChannelStats, palette: &[f32], hues: usize, h: usize) -> bool
-    requires { ⌜ (h < hues) × (paletteLen hues ≤ length (now palette)) ⌝ }
+    requires { ⌜ HueAt (now palette) hues h ⌝ }
     ensures { λ r. ⌜ r ≡ spec.lightClear threshold noise (now (palette .entry)) hues h ⌝ }
 {
     let c = palette_lab(palette, hues, hues + h);
@@ -115,7 +116,7 @@ fn lights_clear(threshold: f32, noise: ChannelStats, palette: &[f32], hues: usiz
 
 // Whether a and b of a colour differ from the point of hue h by at most s.
 fn near(palette: &[f32], hues: usize, c: Lab, s: f32, h: usize) -> bool
-    requires { ⌜ (h < hues) × (paletteLen hues ≤ length (now palette)) ⌝ }
+    requires { ⌜ HueAt (now palette) hues h ⌝ }
     ensures { λ r. ⌜ r ≡ spec.near (now (palette .entry)) c s h ⌝ }
 {
     let point = hue_ab(palette, hues, h);
@@ -127,7 +128,7 @@ fn near(palette: &[f32], hues: usize, c: Lab, s: f32, h: usize) -> bool
 
 // Whether a or b differs from it by more than 4 × s.
 fn far(palette: &[f32], hues: usize, c: Lab, s: f32, h: usize) -> bool
-    requires { ⌜ (h < hues) × (paletteLen hues ≤ length (now palette)) ⌝ }
+    requires { ⌜ HueAt (now palette) hues h ⌝ }
     ensures { λ r. ⌜ r ≡ spec.far (now (palette .entry)) c s h ⌝ }
 {
     let point = hue_ab(palette, hues, h);
@@ -139,7 +140,7 @@ fn far(palette: &[f32], hues: usize, c: Lab, s: f32, h: usize) -> bool
 
 // Whether h is the colour's own hue, or the colour is far from h.
 fn other_far(palette: &[f32], hues: usize, c: Lab, s: f32, own: usize, h: usize) -> bool
-    requires { ⌜ (h < hues) × (paletteLen hues ≤ length (now palette)) ⌝ }
+    requires { ⌜ HueAt (now palette) hues h ⌝ }
     ensures { λ r. ⌜ r ≡ spec.otherFar (now (palette .entry)) c s own h ⌝ }
 {
     if h == own {
@@ -162,7 +163,7 @@ fn others_far(palette: &[f32], hues: usize, c: Lab, s: f32, own: usize) -> bool
 
 // Whether palette colour i is near the point of its own hue and far from every other.
 fn apart(noise: ChannelStats, palette: &[f32], hues: usize, i: usize, own: usize) -> bool
-    requires { ⌜ (i < 2 * hues) × (own < hues) × (paletteLen hues ≤ length (now palette)) ⌝ }
+    requires { ⌜ ColourAt (now palette) hues i × (own < hues) ⌝ }
     ensures { λ r. ⌜ r ≡ spec.apart noise (now (palette .entry)) hues i own ⌝ }
 {
     let c = palette_lab(palette, hues, i);
@@ -175,7 +176,7 @@ fn apart(noise: ChannelStats, palette: &[f32], hues: usize, i: usize, own: usize
 
 // Whether both colours of hue h are.
 fn hue_clear(noise: ChannelStats, palette: &[f32], hues: usize, h: usize) -> bool
-    requires { ⌜ (h < hues) × (paletteLen hues ≤ length (now palette)) ⌝ }
+    requires { ⌜ HueAt (now palette) hues h ⌝ }
     ensures { λ r. ⌜ r ≡ spec.hueClear noise (now (palette .entry)) hues h ⌝ }
 {
     if !apart(noise, palette, hues, h, h) {

@@ -3,13 +3,14 @@
 // A first use: `ChannelStats::nominal(palette, hues)` gives the record to fall back on, and
 // `noise.luma_llr(l)` the score of a sample's L, positive for dark.
 ghost use mathlib.Core.Path.{_≡_};
-ghost use Prim.Native.Nat.{_+_, _*_, _<_, _≤_};
+ghost use Prim.Native.Nat.{_*_, _<_, _≤_};
 ghost use lib.ListN.{length};
 ghost use Rattle.sentences.specs.Sentences.{refusal};
 ghost use Rattle.answers.specs.Answers.{ended};
 ghost use Rattle.color.specs.Palette.{paletteLen};
 ghost use Rattle.stats.specs.Noise as spec;
 ghost use Rattle.stats.specs.Calls as call;
+ghost use Rattle.stats.specs.Ready.{ColourAt, HueAt};
 use answers::Outcome;
 use color::Lab;
 use color::palette::hue_ab;
@@ -101,7 +102,7 @@ impl ChannelStats {
 
     // The smaller of `best` and the distance from palette colour i.
     fn closer(self, sample: Lab, palette: &[f32], hues: usize, i: usize, best: f32) -> f32
-        requires { ⌜ (i < 2 * hues) × (paletteLen hues ≤ length (now palette)) ⌝ }
+        requires { ⌜ ColourAt (now palette) hues i ⌝ }
         ensures { λ r. ⌜ r ≡ spec.closer self sample (now (palette .entry)) hues i best ⌝ }
     {
         let c = palette_lab(palette, hues, i);
@@ -131,7 +132,7 @@ impl ChannelStats {
 
     // Writes the chroma noise at the lightness of palette colour i to its place.
     fn put_sigma(self, palette: &[f32], hues: usize, i: usize, sigmas: &mut [f32])
-        requires { ⌜ (i < 2 * hues) × (paletteLen hues ≤ length (now palette)) × (i < length (now sigmas)) ⌝ }
+        requires { ⌜ ColourAt (now palette) hues i × (i < length (now sigmas)) ⌝ }
         ensures { λ _. ⌜ now (sigmas .exit) ≡ spec.putSigma self (now (palette .entry)) hues i (now (sigmas .entry)) ⌝ }
     {
         let c = palette_lab(palette, hues, i);
@@ -158,7 +159,7 @@ impl ChannelStats {
         i: usize,
         best: f32,
     ) -> f32
-        requires { ⌜ (i < 2 * hues) × (paletteLen hues ≤ length (now palette)) × spec.Sigmas self (now palette) hues (now sigmas) ⌝ }
+        requires { ⌜ ColourAt (now palette) hues i × spec.Sigmas self (now palette) hues (now sigmas) ⌝ }
         ensures { λ r. ⌜ r ≡ spec.closer self sample (now (palette .entry)) hues i best ⌝ }
     {
         let c = palette_lab(palette, hues, i);
@@ -222,7 +223,7 @@ pub fn weight(d: f32) -> f32
 
 // The log-likelihood of hue h, for a sample and twice its squared noise.
 fn likelihood(sample: Lab, denom: f32, palette: &[f32], hues: usize, h: usize) -> f32
-    requires { ⌜ (h < hues) × (paletteLen hues ≤ length (now palette)) ⌝ }
+    requires { ⌜ HueAt (now palette) hues h ⌝ }
     ensures { λ r. ⌜ r ≡ spec.hueLogLikelihood sample denom (now (palette .entry)) h ⌝ }
 {
     let point = hue_ab(palette, hues, h);
@@ -232,7 +233,7 @@ fn likelihood(sample: Lab, denom: f32, palette: &[f32], hues: usize, h: usize) -
 }
 
 fn put_likelihood(sample: Lab, denom: f32, palette: &[f32], hues: usize, h: usize, out: &mut [f32])
-    requires { ⌜ (h < hues) × (paletteLen hues ≤ length (now palette)) × (h < length (now out)) ⌝ }
+    requires { ⌜ HueAt (now palette) hues h × (h < length (now out)) ⌝ }
     ensures { λ _. ⌜ now (out .exit) ≡ spec.putLikelihood sample denom (now (palette .entry)) h (now (out .entry)) ⌝ }
 {
     out[h] = likelihood(sample, denom, palette, hues, h);

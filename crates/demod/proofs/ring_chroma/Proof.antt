@@ -29,7 +29,7 @@ module _ (l : Layout) (n : ChannelStats) (palette : List Float) (cells : ℕ) (c
   none d = rw (ne-eqb (l .size) 1 d)
 
 write-rings-requires : tie.Need-write-rings-requires
-write-rings-requires c κs = (search needs, search needs, search needs, search needs, search (long))
+write-rings-requires c κs = (search needs, search needs, search (long))
 
 returns : tie.Need-returns
 returns c = search (rings)

@@ -19,7 +19,7 @@ abbrev μ : tie.MeasureT-loop
 μ layout noise palette sigmas model cxs cys raw chroma₀ from₀ chroma from = length cxs - from
 
 cell-block-requires : tie.Need-cell-block-requires Inv μ
-cell-block-requires c κs = (search needs, search needs, search needs, search needs, search needs, search needs, search (part-long, needs))
+cell-block-requires c κs = (search needs, search needs, search needs, search needs, search (part-long, needs))
 
 loop-again : tie.Need-loop-again Inv μ
 loop-again c = (search needs, search (block-to, needs))

@@ -40,10 +40,10 @@ module _ (l : Layout) (n : ChannelStats) (palette : List Float) (modules : ℕ �
   off t = rw (← e, t)
 
 write-cells-requires : tie.Need-write-cells-requires
-write-cells-requires c κs = (search needs, search needs, search needs, search needs, search (cells-long))
+write-cells-requires c κs = (search needs, search needs, search (cells-long))
 
 ring-chroma-requires : tie.Need-ring-chroma-requires
-ring-chroma-requires c κs = (search needs, search needs, search needs, search needs, search (still))
+ring-chroma-requires c κs = (search needs, search needs, search (still))
 
 returns : tie.Need-returns
 returns c = search (scored)

@@ -27,7 +27,7 @@ ring-long hues cells grid to m long lent h e l = part-long hues (cells + (to - g
 
 ring-block-requires : tie.Need-ring-block-requires Inv μ
 ring-block-requires c κs =
-    (search needs, search needs, search needs, search needs, search needs, search needs, search needs, search (ring-long, needs))
+    (search needs, search needs, search needs, search needs, search needs, search (ring-long, needs))
 
 loop-again : tie.Need-loop-again Inv μ
 loop-again c = (search needs, search needs, search (block-to, needs))

@@ -40,7 +40,7 @@ sigmas-of-requires c κs = record { hues-good = search needs; palette-long = sea
 
 write-chroma-requires : tie.Need-write-chroma-requires
 write-chroma-requires c κs =
-    (search needs, search needs, record { grid-most = search needs; most = search needs; colours-three = search needs }, search needs, search needs, search needs)
+    (record { shaped = search needs; tables = search needs; cells = search needs }, record { grid-most = search needs; most = search needs; colours-three = search needs }, search needs, search needs)
 
 returns : tie.Need-returns
 returns c = search (wrote)

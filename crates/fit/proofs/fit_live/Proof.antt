@@ -65,7 +65,8 @@ returns-2 c =
     let u = p .before .before .before in
     let v = u .before .before .before in
     let start = v .before .before .before .before in
-    unsolved _ (start .args .s .now) (v .revive .last .0) (start .args .n) (start .args .side) (start .args .terms) _ (u .unit-model .ensures) (v .revive .ensures) (start .pre .0 .four) (p .before .before .if1 .left) (p .run-pass .result) _ (p .run-pass .ensures .0) (p .run-pass .ensures .1)
+    unsolved _ (start .args .s .now) (v .revive .last .0) (start .args .n) (start .args .side) (start .args .terms) _
+    (u .unit-model .ensures) (v .revive .ensures) (start .pre .0 .four) (p .before .before .if1 .left) (p .run-pass .result) _ (p .run-pass .ensures .0) (p .run-pass .ensures .1)
     (c .if2 .taken)
 
 returns-3 : tie.Need-returns-3
@@ -75,7 +76,8 @@ returns-3 c =
     let u = p .before .before .before in
     let v = u .before .before .before in
     let start = v .before .before .before .before in
-    infinite _ (start .args .s .now) (v .revive .last .0) (start .args .n) (start .args .side) (start .args .terms) _ (u .unit-model .ensures) (v .revive .ensures) (start .pre .0 .four) (p .before .before .if1 .left) (p .run-pass .result) _ (p .run-pass .ensures .0) (p .run-pass .ensures .1)
+    infinite _ (start .args .s .now) (v .revive .last .0) (start .args .n) (start .args .side) (start .args .terms) _
+    (u .unit-model .ensures) (v .revive .ensures) (start .pre .0 .four) (p .before .before .if1 .left) (p .run-pass .result) _ (p .run-pass .ensures .0) (p .run-pass .ensures .1)
     _ (w .if2 .left) (c .before .if3 .taken) (c .no-model .ensures)
 
 returns-4 : tie.Need-returns-4
@@ -85,7 +87,8 @@ returns-4 c =
     let u = p .before .before .before in
     let v = u .before .before .before in
     let start = v .before .before .before .before in
-    goes-on _ (start .args .s .now) (v .revive .last .0) (start .args .n) (start .args .side) (start .args .terms) _ (u .unit-model .ensures) (v .revive .ensures) (start .pre .0 .four) (p .before .before .if1 .left) (p .run-pass .result) _ (p .run-pass .ensures .0) (p .run-pass .ensures .1)
+    goes-on _ (start .args .s .now) (v .revive .last .0) (start .args .n) (start .args .side) (start .args .terms) _
+    (u .unit-model .ensures) (v .revive .ensures) (start .pre .0 .four) (p .before .before .if1 .left) (p .run-pass .result) _ (p .run-pass .ensures .0) (p .run-pass .ensures .1)
     _ _ _ (c .before .before .refit .ensures) (p .run-pass .ensures .2) (w .before .if2 .left) (w .if3 .left)
 
 pub fit-live-spec : {M : Type 1} → statement M

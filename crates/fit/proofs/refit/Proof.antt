@@ -3,9 +3,10 @@
 use mathlib.Core.Path.{_≡_, sym, ap, _∙_}
 use mathlib.Core.Bool.{true, false, not}
 use mathlib.Core.List.{List}
-use Prim.Native.Nat.{ℕ}
-use native.Mathlib.Nat.{le-of-eq}
+use Prim.Native.Nat.{ℕ, _≤_}
+use native.Mathlib.Omega.{arith}
 use borrow.Author.Tests.{not-true, not-false}
+use lib.ListN.{length, take}
 use lib.Seq.{length-take-le}
 use lib.Ieee.{Float}
 use Rattle.illum.specs.declared.IlluminationModel.{IlluminationModel}
@@ -46,20 +47,30 @@ returns-2 c =
     let w = c .before .before in
     let p = w .before .before .before .before in
     let d = p .before .before .before .before in
-    infinite _ _ _ _ _ _ _ _ (p .run-pass .result) (p .run-pass .ensures .0) (p .run-pass .ensures .1) (d .drop-outliers .ensures) _ (w .if1 .left) (c .before .if2 .taken) (c .no-model .ensures)
+    infinite _ _ _ _ _ _ _ _ (p .run-pass .result) (p .run-pass .ensures .0) (p .run-pass .ensures .1) (d .drop-outliers .ensures)
+    _ (w .if1 .left) (c .before .if2 .taken) (c .no-model .ensures)
+
+take-long : (k n : ℕ) (s : List Float) → k ≤ n → n ≤ length s → k ≤ length (take n s)
+take-long k n s h l = omega (arith, length-take-le n s l)
 
 slice-aggregate-live-count : tie.Need-slice-aggregate-live-count
 slice-aggregate-live-count c = sym (length-take-le _ _ (search needs))
 
 live-count-requires : tie.Need-live-count-requires
-live-count-requires c κs = le-of-eq (sym (length-take-le _ _ (search needs)))
+live-count-requires c κs =
+    let w = c .before .before .before in
+    let p = w .before .before .before .before in
+    let d = p .before .before .before .before in
+    let n = d .before .before .before .before .args .n in
+    take-long _ n (p .run-pass .last .1 .1 .1 .0) (search needs) (search needs)
 
 returns-3 : tie.Need-returns-3
 returns-3 c =
     let w = c .before .before .before .before .before in
     let p = w .before .before .before .before in
     let d = p .before .before .before .before in
-    accepted _ _ _ _ _ _ _ _ (p .run-pass .result) (p .run-pass .ensures .0) (p .run-pass .ensures .1) (d .drop-outliers .ensures) _ _ (w .if1 .left) (c .before .before .before .before .if2 .left) (c .before .live-count .ensures .0) (c .with-counts .ensures)
+    accepted _ _ _ _ _ _ _ _ (p .run-pass .result) (p .run-pass .ensures .0) (p .run-pass .ensures .1) (d .drop-outliers .ensures)
+    _ _ (w .if1 .left) (c .before .before .before .before .if2 .left) (c .before .live-count .ensures .0) (c .with-counts .ensures)
 
 pub refit-spec : {M : Type 1} → statement M
 refit-spec =

@@ -6,7 +6,7 @@ use Prim.Native.Nat.{ℕ, _≤_}
 use Rattle.sentences.proofs.Laws.{sentences}
 use Rattle.limits.specs.Limits.{badSide}
 use Rattle.limits.proofs.Laws.{side-in}
-use Rattle.references.proofs.Laws.{stand-tested}
+use Rattle.references.proofs.Laws.{stand-placed, placements}
 use Rattle.fit.specs.Fit.{fitSentences}
 use borrow.Author.Needs.{needs}
 use Rattle.fit.proofs.refused.Statement.{statement}
@@ -15,18 +15,15 @@ use Rattle.fit.proofs.refused.Tie as tie
 most : (side : ℕ) (r : Bool) → r ≡ badSide side → r ≡ false → side ≤ 1024
 most side r e f = side-in side (sym e ∙ f) .1
 
-bad-positions-requires : tie.Need-bad-positions-requires
-bad-positions-requires c κs =
-    (search (most), search (stand-tested))
+refused-references-requires : tie.Need-refused-references-requires
+refused-references-requires c κs = (search (most), search needs)
 
 bad-colours-requires : tie.Need-bad-colours-requires
-bad-colours-requires c κs = search (stand-tested)
+bad-colours-requires c κs = search (stand-placed)
 
 pub refused-spec : {M : Type 1} → statement M
 unfolding fitSentences
 refused-spec =
     tie.close
-    (tie.spec (λ c κs. search needs) (λ c. search (sentences) depth 15 fits 50000) (λ c κs. search needs)
-    (λ c. search (sentences) depth 15 fits 50000) (λ c κs. search needs) (λ c. search (sentences) depth 15 fits 50000) bad-positions-requires
-    (λ c. search (sentences) depth 15 fits 50000) bad-colours-requires (λ c. search (sentences) depth 15 fits 50000)
-    (λ c. search (sentences) depth 15 fits 50000))
+    (tie.spec (λ c κs. search needs) (λ c. search (sentences)) (λ c κs. search needs) (λ c. search (sentences)) refused-references-requires
+    (λ c. search (sentences, placements) depth 7) bad-colours-requires (λ c. search (sentences, placements) depth 7) (λ c. search (sentences, placements) depth 7))

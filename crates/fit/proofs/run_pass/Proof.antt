@@ -111,10 +111,12 @@ measure-requires c κs =
 
 returns-2 : tie.Need-returns-2
 returns-2 c =
-    let w = c .before .before .before .before .before .before in
+    let v = c .before .before in
+    let w = v .before .before .before .before in
     let o = w .before .before .before .before .before in
     let start = o .before .before .before .before in
-    ends _ _ (start .args .s .now) (w .write-residuals .last .0) (start .args .n) (o .fit-once .result) (c .measure .result) (o .fit-once .ensures) (w .before .before .before .if1 .left) (w .write-residuals .ensures) (c .measure .ensures) (start .pre .four)
+    ends _ _ (start .args .s .now) (w .write-residuals .last .0) (start .args .n) (o .fit-once .result) (c .measure .result) (o .fit-once .ensures)
+    (w .before .before .before .if1 .left) (w .write-residuals .ensures) (c .measure .ensures) (start .pre .four)
 
 pub run-pass-spec : {M : Type 1} → statement M
 run-pass-spec =

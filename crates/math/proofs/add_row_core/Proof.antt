@@ -5,7 +5,7 @@ use Rattle.math.proofs.add_row_core.Statement.{statement}
 use Rattle.math.proofs.add_row_core.Tie as tie
 
 add-lines-requires : tie.Need-add-lines-requires
-add-lines-requires c κs = (square-fits _ _ (search needs) (c .before .add-lines-arg .given .0 .1), search needs, search needs)
+add-lines-requires c κs = search (square-fits, needs)
 
 pub add-row-core-spec : {M : Type 1} → statement M
 add-row-core-spec = tie.close (tie.spec add-lines-requires (λ c. search needs) (λ c. search needs))

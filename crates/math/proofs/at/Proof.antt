@@ -6,16 +6,16 @@ use Rattle.math.proofs.at.Statement.{statement}
 use Rattle.math.proofs.at.Tie as tie
 
 mul-result : tie.Need-mul-result
-mul-result c = omega (arith, cell (c .pre .0) (c .pre .1) (c .pre .2))
+mul-result c = omega (arith, cell (c .pre .row) (c .pre .column) (c .pre .matrix-long))
 
 add-result : tie.Need-add-result
-add-result c = omega (arith, cell (c .pre .0) (c .pre .1) (c .pre .2))
+add-result c = omega (arith, cell (c .pre .row) (c .pre .column) (c .pre .matrix-long))
 
 mul-result-2 : tie.Need-mul-result-2
-mul-result-2 c = omega (arith, cell (c .pre .0) (c .pre .1) (c .pre .2))
+mul-result-2 c = omega (arith, cell (c .pre .row) (c .pre .column) (c .pre .matrix-long))
 
 shared-slice-read-result : tie.Need-shared-slice-read-result
-shared-slice-read-result c = cell (c .before .pre .0) (c .before .pre .1) (c .before .pre .2)
+shared-slice-read-result c = search (cell)
 
 returns : tie.Need-returns
 returns c = search needs

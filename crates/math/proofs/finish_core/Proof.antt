@@ -16,10 +16,10 @@ unfolding finish
 solves terms ata atb x ata′ a b y r h e = h ∙ ap (λ (m : List Float). gauss terms m atb x) e
 
 nudge-requires : tie.Need-nudge-requires
-nudge-requires c κs = square-fits _ _ (search needs) (c .nudge-arg .given .0 .1)
+nudge-requires c κs = search (square-fits, needs)
 
 solve-core-requires : tie.Need-solve-core-requires
-solve-core-requires c κs = (square-fits _ _ (search needs) (c .before .before .solve-core-arg .given .0 .1), search needs, search needs)
+solve-core-requires c κs = search (square-fits, needs)
 
 returns : tie.Need-returns
 returns c = search (solves)

@@ -6,16 +6,16 @@ use Rattle.math.proofs.put.Statement.{statement}
 use Rattle.math.proofs.put.Tie as tie
 
 mul-a : tie.Need-mul-a
-mul-a c = omega (arith, cell (c .pre .0) (c .pre .1) (c .pre .2))
+mul-a c = omega (arith, cell (c .pre .row) (c .pre .column) (c .pre .matrix-long))
 
 add-a : tie.Need-add-a
-add-a c = omega (arith, cell (c .pre .0) (c .pre .1) (c .pre .2))
+add-a c = omega (arith, cell (c .pre .row) (c .pre .column) (c .pre .matrix-long))
 
 mul-a-2 : tie.Need-mul-a-2
-mul-a-2 c = omega (arith, cell (c .pre .0) (c .pre .1) (c .pre .2))
+mul-a-2 c = omega (arith, cell (c .pre .row) (c .pre .column) (c .pre .matrix-long))
 
 slice-write-a : tie.Need-slice-write-a
-slice-write-a c = cell (c .pre .0) (c .pre .1) (c .pre .2)
+slice-write-a c = search (cell)
 
 same-length : tie.Need-same-length
 same-length c = search needs

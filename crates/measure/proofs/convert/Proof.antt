@@ -22,10 +22,7 @@ loop-holds : tie.Need-loop-holds Inv-loop μ-loop
 loop-holds c = (search needs, convert-begin _, none-seen _ _ (zero-by-zero binary32))
 
 loop-again : tie.Need-loop-again Inv-loop μ-loop
-loop-again c =
-    let inv = c .before .before .before .before .before .before .loop .inv in
-    let written = c .before .before .note-at .ensures in
-    (search needs, convert-turn (written .0) (inv .1) (c .before .before .before .before .before .loop-test .taken) (inv .0), written .1)
+loop-again c = (search needs, search (convert-turn), search needs)
 
 returns : tie.Need-returns Inv-loop μ-loop
 returns c = search (convert-done, needs)

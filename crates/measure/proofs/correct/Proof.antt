@@ -22,9 +22,7 @@ add-i : tie.Need-add-i Inv-loop μ-loop
 add-i c = search needs
 
 loop-again : tie.Need-loop-again Inv-loop μ-loop
-loop-again c =
-    let colour = seen-colour _ _ _ _ _ _ (c .before .before .before .before .before .before .seen-at .ensures) (c .before .before .before .before .before .unshade .ensures) (c .before .before .before .before .mix .ensures) in
-    (search needs, correct-turn _ colour (c .before .before .place .ensures) (c .before .before .before .before .before .before .before .before .loop .inv .1) (c .before .before .before .before .before .before .before .loop-test .taken) (c .before .before .before .before .before .before .before .before .loop .inv .0))
+loop-again c = (search needs, search (correct-turn, seen-colour))
 
 returns : tie.Need-returns Inv-loop μ-loop
 returns c = search (correct-done, needs)

@@ -1,8 +1,5 @@
 -- `measure::figures_of` meets its contract: figure by figure; the columns stay. Assumes nothing.
-use mathlib.Core.Path.{_∙_}
-use lib.ListN.{drop}
-use Rattle.measure.specs.Columns.{m2, m3, m4, m5}
-use Rattle.measure.proofs.Sigmas.{figured, still-real}
+use Rattle.measure.proofs.Sigmas.{figured, chroma-still, dark-still, light-still}
 use borrow.Author.Needs.{needs}
 use Rattle.measure.proofs.figures_of.Statement.{statement}
 use Rattle.measure.proofs.figures_of.Tie as tie
@@ -11,33 +8,27 @@ luma-sigma-requires : tie.Need-luma-sigma-requires
 luma-sigma-requires c κs = (search needs, c .before .before .pre .1 .luma)
 
 chroma-sigma-requires : tie.Need-chroma-sigma-requires
-chroma-sigma-requires c κs =
-    let start = c .before .before .before .before .before .before in
-    let n = start .args .n in
-    (search needs, still-real n m2 m5 (drop n (start .args .s .now)) _ (c .before .before .before .luma-sigma .ensures .1) (start .pre .1 .chroma))
+chroma-sigma-requires c κs = (search needs, search (chroma-still))
 
 chroma-sigma-requires-2 : tie.Need-chroma-sigma-requires-2
-chroma-sigma-requires-2 c κs =
-    let start = c .before .before .before .before .before .before .before .before .before .before in
-    let n = start .args .n in
-    (search needs, still-real n m2 m3 (drop n (start .args .s .now)) _ (c .before .before .before .chroma-sigma .ensures .1 ∙ c .before .before .before .before .before .before .before .luma-sigma .ensures .1) (start .pre .1 .dark))
+chroma-sigma-requires-2 c κs = (search needs, search (dark-still))
 
 chroma-sigma-requires-3 : tie.Need-chroma-sigma-requires-3
 chroma-sigma-requires-3 c κs =
-    let start = c .before .before .before .before .before .before .before .before .before .before .before .before .before .before in
-    let n = start .args .n in
-    (search needs, still-real n m4 m5 (drop n (start .args .s .now)) _ (c .before .before .before .chroma-sigma2 .ensures .1 ∙ c .before .before .before .before .before .before .before .chroma-sigma .ensures .1 ∙ c .before .before .before .before .before .before .before .before .before .before .before .luma-sigma .ensures .1) (start .pre .1 .light))
+    let three = c .before .before .before in
+    let two = three .before .before .before .before in
+    let one = two .before .before .before .before in
+    (search needs, light-still _ _ _ _ _ (one .luma-sigma .ensures .1) (one .before .before .before .pre .1) _ _ (three .chroma-sigma2 .ensures .1) (two .chroma-sigma .ensures .1))
 
 returns : tie.Need-returns
 returns c =
-    let start = c .before .before .before .before .before .before .before .before .before .before .before .before .before .before .before .before .before in
-    let n = start .args .n in
-    let one = c .before .before .before .before .before .before .before .before .before .before .before .before .before .before .luma-sigma in
-    let two = c .before .before .before .before .before .before .before .before .before .before .chroma-sigma in
-    let three = c .before .before .before .before .before .before .chroma-sigma2 in
-    let four = c .before .before .chroma-sigma3 in
-    figured n (drop n (start .args .s .now)) _ _ _ (start .args .l0) (start .args .l1) (one .result) (two .result) (three .result) (four .result) (one .ensures .0) (four .ensures .0)
-    (three .ensures .1) (three .ensures .0) (two .ensures .1) (two .ensures .0) (one .ensures .1)
+    let four = c .before .before in
+    let three = four .before .before .before .before in
+    let two = three .before .before .before .before in
+    let one = two .before .before .before .before in
+    let start = one .before .before .before in
+    figured (start .args .n) _ _ _ _ (start .args .l0) (start .args .l1) _ _ _ _ (one .luma-sigma .ensures .0) (four .chroma-sigma3 .ensures .0)
+    (three .chroma-sigma2 .ensures .1) (three .chroma-sigma2 .ensures .0) (two .chroma-sigma .ensures .1) (two .chroma-sigma .ensures .0) (one .luma-sigma .ensures .1)
 
 pub figures-of-spec : {M : Type 1} → statement M
 figures-of-spec =

@@ -1,7 +1,6 @@
 -- `measure::mark_of` meets its contract: test by test. Assumes nothing.
-use mathlib.Core.Path.{_≡_, refl}
+use mathlib.Core.Path.{_≡_}
 use mathlib.Core.Bool.{Bool, true, false}
-use Prim.Native.Nat.{ℕ}
 use Rattle.measure.specs.Columns.{m0, markOf}
 use Rattle.measure.proofs.mark_of.Statement.{statement}
 use Rattle.measure.proofs.mark_of.Tie as tie

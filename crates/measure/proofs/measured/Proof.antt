@@ -8,10 +8,7 @@ returns : tie.Need-returns
 returns c = search (too-few)
 
 record-of-requires : tie.Need-record-of-requires
-record-of-requires c κs =
-    let start = c .before .before .before .before .before .before .before .before .before in
-    let noted = c .before .before .before .note .ensures in
-    (record { scratch = search needs; fit = levels-fit noted }, search needs, spreads-real noted (c .before .before .before .before .before .if1 .left) (c .before .before .before .before .before .before .before .shared-slice-known2 .given) (start .pre .2) (start .pre .3))
+record-of-requires c κs = (record { scratch = search needs; fit = search (levels-fit) }, search needs, search (spreads-real))
 
 returns-2 : tie.Need-returns-2
 returns-2 c = search (enough)

@@ -5,7 +5,10 @@ use Rattle.measure.proofs.note.Statement.{statement}
 use Rattle.measure.proofs.note.Tie as tie
 
 returns : tie.Need-returns
-returns c = all-noted (c .before .before .roots .ensures) (c .before .before .before .before .before .before .convert .ensures) (c .before .before .before .before .before .before .before .before .before .before .correct .ensures)
+returns c =
+    let r = c .before .before in
+    let v = r .before .before .before .before in
+    all-noted (r .roots .ensures) (v .convert .ensures) (v .before .before .before .before .correct .ensures)
 
 pub note-spec : {M : Type 1} → statement M
 note-spec =

@@ -29,17 +29,11 @@ module _ (palette flat : List Float) (n i : ℕ) (s s′ : List Float) (nominal 
   numbers corrected e z el = rw (e, ← ec, rw en at z, en, el)
 
 returns : tie.Need-returns
-returns c =
-    let start = c .before .before .before .before .before .before .before .before .before .before .before .before in
-    let known = c .before .before .before .before .before .before .recall .ensures in
-    (no-list _ _ (start .args .n) _ (start .args .s .now) _ _ _ (known .0) (c .before .before .before .before .before .before .before .before .nominal-at .ensures) _ (c .before .before .place .ensures) (c .before .before .before .before .if1 .taken), known .1)
+returns c = (search (no-list), search needs)
 
 returns-2 : tie.Need-returns-2
 unfolding colourAt
-returns-2 c =
-    let start = c .before .before .before .before .before .before .before .before .before .before .before .before .before .before .before .before .before .before .before .before in
-    let known = c .before .before .before .before .before .before .before .before .before .before .before .before .before .before .recall .ensures in
-    (numbers _ _ (start .args .n) _ (start .args .s .now) _ _ _ (known .0) (c .before .before .before .before .before .before .before .before .before .before .before .before .before .before .before .before .nominal-at .ensures) _ (c .before .before .place2 .ensures) (c .before .before .before .before .before .before .before .before .before .before .before .before .if1 .left) (c .before .before .before .before .before .before .before .before .linear-to-lab .ensures), known .1)
+returns-2 c = (search (numbers), search needs)
 
 pub note-at-spec : {M : Type 1} → statement M
 note-at-spec =

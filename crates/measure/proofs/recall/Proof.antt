@@ -1,20 +1,26 @@
 -- `measure::recall` meets its contract: what is in the slot is known of the colour there, and what is kept is known of its colour. Assumes nothing.
-use Rattle.measure.specs.Columns.{knownIn}
+use mathlib.Core.Path.{_≡_}
+use mathlib.Core.Bool.{Bool, true}
+use mathlib.Core.List.{List}
+use Prim.Native.Nat.{ℕ, _<_}
+use lib.Ieee.{Float}
+use Rattle.color.specs.declared.Linear.{Linear}
+use Rattle.measure.specs.Columns.{knownOf, knownIn, Held, Remembered}
 use Rattle.measure.proofs.Remembering.{recalled, remembered}
 use borrow.Author.Needs.{needs}
 use Rattle.measure.proofs.recall.Statement.{statement}
 use Rattle.measure.proofs.recall.Tie as tie
 
+-- r is whether the slot holds c
+from-slot : (palette memo : List Float) (j : ℕ) (c : Linear) (r : Bool) → r ≡ true → (r ≡ true → Held j c memo) → j < 256 → Remembered palette memo → knownIn j memo ≡ knownOf palette c
+from-slot palette memo j c r t h l inv = recalled inv l c (h t)
+
 returns : tie.Need-returns
 unfolding knownIn
-returns c =
-    let start = c .before .before .before .before .before .before .before .before in
-    (recalled (start .pre .1) (c .before .before .before .before .before .before .slot-of .ensures) _ (c .before .before .before .before .holds .ensures (c .before .before .before .if1 .taken)), start .pre .1)
+returns c = (search (from-slot), search needs)
 
 returns-2 : tie.Need-returns-2
-returns-2 c =
-    let start = c .before .before .before .before .before .before .before .before in
-    (c .before .before .known-of .ensures, remembered (start .pre .1) (c .before .before .before .before .before .before .slot-of .ensures) _ _ (c .keep .ensures) (c .before .before .known-of .ensures))
+returns-2 c = (search needs, search (remembered))
 
 pub recall-spec : {M : Type 1} → statement M
 recall-spec =

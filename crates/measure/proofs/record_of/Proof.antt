@@ -6,36 +6,24 @@ use Rattle.measure.proofs.record_of.Statement.{statement}
 use Rattle.measure.proofs.record_of.Tie as tie
 
 returns : tie.Need-returns
-returns c =
-    let start = c .before .before .before .before .before .before .before .before .before .before .before .before .before in
-    let n = start .args .n in
-    dark-few (start .args .palette .now) n (drop n (start .args .s .now)) _ (c .before .before .before .before .before .before .before .before .before .level-of .ensures .0) _ (c .before .if1 .taken) (c .nominal-of .ensures)
+returns c = search (dark-few)
 
 returns-2 : tie.Need-returns-2
-returns-2 c =
-    let start = c .before .before .before .before .before .before .before .before .before .before .before .before .before .before .before in
-    let n = start .args .n in
-    let dark = c .before .before .before .before .before .before .before .before .before .before .before .level-of in
-    light-few (start .args .palette .now) n (drop n (start .args .s .now)) _ (dark .ensures .0) _ _ (c .before .before .before .before .before .before .before .level-of2 .ensures .0) (dark .ensures .1) (c .before .before .before .if1 .left) _ (c .before .if2 .taken) (c .nominal-of2 .ensures)
+returns-2 c = search (light-few)
 
 figures-of-requires : tie.Need-figures-of-requires
 figures-of-requires c κs =
-    let start = c .before .before .before .before .before .before .before .before .before .before .before .before .before .before .before in
-    let n = start .args .n in
-    let dark = c .before .before .before .before .before .before .before .before .before .before .before .level-of in
-    let light = c .before .before .before .before .before .before .before .level-of2 in (
-      record { scratch = search needs; fit = still-fit n (drop n (start .args .s .now)) _ _ (light .ensures .1) (dark .ensures .1) (start .pre .0 .fit) },
-      spreads-still (start .args .palette .now) n (drop n (start .args .s .now)) _ (dark .ensures .0) _ _ (light .ensures .0) (dark .ensures .1) (c .before .before .before .if1 .left) _ (light .ensures .1) (start .pre .2),
+    let w = c .before .before .before in
+    let light = w .before .before .before .before in
+    let dark = light .before .before .before .before in
+    let start = dark .before .before .before .before in
+    let t = drop (start .args .n) (start .args .s .now) in (
+      record { scratch = search needs; fit = still-fit (start .args .n) t _ _ (light .level-of2 .ensures .1) (dark .level-of .ensures .1) (start .pre .0 .fit) },
+      spreads-still (start .args .palette .now) (start .args .n) t _ (dark .level-of .ensures .0) _ _ (light .level-of2 .ensures .0) (dark .level-of .ensures .1) (w .if1 .left) _ (light .level-of2 .ensures .1) (start .pre .2),
     )
 
 returns-3 : tie.Need-returns-3
-returns-3 c =
-    let start = c .before .before .before .before .before .before .before .before .before .before .before .before .before .before .before .before .before .before in
-    let n = start .args .n in
-    let dark = c .before .before .before .before .before .before .before .before .before .before .before .before .before .before .level-of in
-    let light = c .before .before .before .before .before .before .before .before .before .before .level-of2 in
-    both-levels (start .args .palette .now) n (drop n (start .args .s .now)) _ (dark .ensures .0) _ _ (light .ensures .0) (dark .ensures .1) (c .before .before .before .before .before .before .if1 .left) _ _ (c .before .before .before .before .if2 .left)
-    (c .before .before .figures-of .ensures) (light .ensures .1)
+returns-3 c = search (both-levels)
 
 pub record-of-spec : {M : Type 1} → statement M
 record-of-spec =

@@ -1,5 +1,4 @@
 -- `measure::sigma_in` meets its contract: the distances are those of the values in another order. Assumes nothing.
-use mathlib.Core.Path.{_∙_}
 use Rattle.measure.proofs.Sigmas.{in-place}
 use borrow.Author.Needs.{needs}
 use Rattle.measure.proofs.sigma_in.Statement.{statement}
@@ -7,9 +6,11 @@ use Rattle.measure.proofs.sigma_in.Tie as tie
 
 returns : tie.Need-returns
 returns c =
-    let start = c .before .before .before .before .before .before .before .before .before .before .before .before .before .before in
-    c .max .ensures
-    ∙ in-place (start .args .values .now) _ _ (c .before .before .before .before .before .before .before .before .before .before .before .median .ensures) _ _ _ (start .pre) (c .before .before .before .before .before .before .before .deviate-in .ensures) (c .before .before .before .median2 .ensures)
+    let two = c .before .before .before in
+    let less = two .before .before .before .before in
+    let one = less .before .before .before .before in
+    let start = one .before .before .before in
+    in-place (start .args .values .now) _ _ (one .median .ensures) _ _ _ _ (c .max .ensures) (two .median2 .ensures) (less .deviate-in .ensures) (start .pre)
 
 pub sigma-in-spec : {M : Type 1} → statement M
 sigma-in-spec =
