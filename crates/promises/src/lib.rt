@@ -1,0 +1,172 @@
+// The promises about the definitions that the contracts of the other crates cite. Each is the contract of a function
+// without code: it takes nothing, does nothing and ensures the promise, so a promise whose proof is gone, or that a
+// changed definition makes false, fails this crate. The definitions are in the specs/ of the crates named below, the
+// theorems in their proofs/.
+
+ghost use Rattle.guarantee.specs.Guarantee.{ReadGuarantee};
+ghost use Rattle.promises.specs.Card.{ProgramReads, Met, Worked};
+ghost use Rattle.promises.specs.Floats.{NearestRoots};
+ghost use Rattle.promises.specs.Colour.{NearestSrgb, BothWays, LightnessRises};
+ghost use Rattle.promises.specs.Order.{MiddleOfAny, AnyOrder};
+ghost use Rattle.promises.specs.Symbols.{GrayCode, Rotations, DrawnIsRead};
+ghost use Rattle.promises.specs.Model.{Moderate, FittedModels};
+ghost use Rattle.promises.specs.Noise.{ReliabilityRange, LumaLlrRange, MarginClauses, MeasuredRecords};
+ghost use Rattle.promises.specs.Scores.{ScoresInRange, ScoringAnswers};
+ghost use Rattle.promises.specs.Reading.{AcceptedIsListed, RoomForAll};
+
+// ---- the crate guarantee: whole cards
+
+// The read guarantee. Two cards of one layout, palette, mask, model and noise record, inside the margin and with
+// each corrected colour within half a sigma of its drawn colour, are read as they were drawn, bit for bit. They are
+// read as equal exactly when they were drawn from equal bits.
+pub fn read_guarantee()
+    ensures { λ _. ⌜ ReadGuarantee ⌝ }
+{}
+
+// What the guarantee calls the bits read are the bits that a program has after the five calls `score`,
+// `add_local_luma`, `unmask_luma` and `read_list`, for luma and for chroma, by their contracts alone. Inside the
+// margin they are the bits drawn.
+pub fn program_reads()
+    ensures { λ _. ⌜ ProgramReads ⌝ }
+{}
+
+// The guarantee's premises can be met, with chroma off and with chroma on: here are a card of each kind and the bits
+// that are read from it.
+pub fn premises_can_be_met()
+    ensures { λ _. ⌜ Met ⌝ }
+{}
+
+// The definitions give document 01's worked examples, row by row.
+pub fn worked_examples()
+    ensures { λ _. ⌜ Worked ⌝ }
+{}
+
+// ---- the crate float
+
+// The square root and the cube root of every f32 are the nearest f32 values, and no other value is as near. A zero,
+// an infinity and a NaN are their own roots, and a square root below zero is NaN.
+pub fn nearest_roots()
+    ensures { λ _. ⌜ NearestRoots ⌝ }
+{}
+
+// ---- the crate color
+
+// Of each of the 256 sRGB bytes the linear value is the f32 nearest to the curve of IEC 61966-2-1.
+pub fn nearest_srgb()
+    ensures { λ _. ⌜ NearestSrgb ⌝ }
+{}
+
+// Black and white go to Lab and come back exactly, and the bytes 0 and 255 are 0 and 1. At the border between the
+// two branches of Lab's function these meet within a unit in the last place, within two on the way back.
+pub fn lab_both_ways()
+    ensures { λ _. ⌜ BothWays ⌝ }
+{}
+
+// Lightness never falls as a colour's Y rises, for every Y that is no NaN.
+pub fn lightness_rises()
+    ensures { λ _. ⌜ LightnessRises ⌝ }
+{}
+
+// ---- the crate order
+
+// The median of values without NaN is the middle one in order, of an even number half the sum of the middle pair, of
+// none 0. Whatever the values, `median` leaves them all, in some order.
+pub fn median_is_the_middle()
+    ensures { λ _. ⌜ MiddleOfAny ⌝ }
+{}
+
+// The order in which values are given does not change their median, where none is a NaN and no zero is negative, nor
+// the median of their distances from a number, where none of these is a NaN.
+pub fn median_in_any_order()
+    ensures { λ _. ⌜ AnyOrder ⌝ }
+{}
+
+// ---- the crate modulate
+
+// Gray code and its inverse undo each other. So do the ways from a symbol to its hue and back, where the hues are a
+// power of two.
+pub fn gray_code()
+    ensures { λ _. ⌜ GrayCode ⌝ }
+{}
+
+// The rotation that a cell's mask applies to its hue is undone by removing it; two rotations in turn are one by
+// their sum, in either order.
+pub fn hue_rotations()
+    ensures { λ _. ⌜ Rotations ⌝ }
+{}
+
+// What is drawn is what is read: where a module's score has the sign of the level that it was drawn in, and where
+// the hue that a cell or a ring module was drawn in is the likeliest, the bits read are the card's. Unmasking twice
+// changes nothing.
+pub fn drawn_is_read()
+    ensures { λ _. ⌜ DrawnIsRead ⌝ }
+{}
+
+// ---- the crate illum
+
+// Where the model's numbers are from -8 to 8 and its side from 1 to 1,024, the position is from -side to twice the
+// side and the raw colour from -256 to 256, the corrected colour does not break sentence 12.
+pub fn moderate_colours()
+    ensures { λ _. ⌜ Moderate ⌝ }
+{}
+
+// ---- the crate stats
+
+// The weight that a sample is given is a number from 0 to 1, whatever the noise record, the sample and the palette.
+pub fn reliability_range()
+    ensures { λ _. ⌜ ReliabilityRange ⌝ }
+{}
+
+// Before it is weighted, the luma score of a lightness is a number from -20 to 20, for every noise record that
+// passes sentences 8 and 9, at every lightness that an accepted colour has.
+pub fn luma_llr_range()
+    ensures { λ _. ⌜ LumaLlrRange ⌝ }
+{}
+
+// Where the margin check says yes, each of its clauses holds, of every palette colour and hue.
+pub fn margin_clauses()
+    ensures { λ _. ⌜ MarginClauses ⌝ }
+{}
+
+// ---- the crates fit and measure
+
+// The model of an accepted fit passes sentence 10, so no call refuses it by that. Either it counts no reference as
+// kept, or the kept and the rejected ones are all.
+pub fn fitted_models()
+    ensures { λ _. ⌜ FittedModels ⌝ }
+{}
+
+// The noise record of an accepted measurement passes sentences 8 and 9, so no call refuses it by these, and holds
+// f32 values.
+pub fn measured_records()
+    ensures { λ _. ⌜ MeasuredRecords ⌝ }
+{}
+
+// ---- the crate demod
+
+// The luma scores that an accepted `score` leaves are numbers from -20 to 20, and the corrected colours are finite
+// and at most 1,048,576 in magnitude.
+pub fn scores_in_range()
+    ensures { λ _. ⌜ ScoresInRange ⌝ }
+{}
+
+// What `score` leaves, number by number: where it is done every score and corrected colour is written and the rest
+// of the lent memory stays; where it is refused nothing is written, and the number is that of the first sentence
+// that holds.
+pub fn scoring_answers()
+    ensures { λ _. ⌜ ScoringAnswers ⌝ }
+{}
+
+// ---- the crates readout and reader
+
+// A card whose scoring is accepted is listed: refinement, unmasking and reading are not refused after it. So a card
+// file that opens, and whose fit, measurement and scoring are accepted, is read as its listing.
+pub fn accepted_is_listed()
+    ensures { λ _. ⌜ AcceptedIsListed ⌝ }
+{}
+
+// `listing::LISTING_ROOM` bytes hold the whole text of every card file, and the bytes behind the text stay as they
+// were.
+pub fn room_for_every_listing()
+    ensures { λ _. ⌜ RoomForAll ⌝ }
+{}
