@@ -1,2 +1,6 @@
--- `Held`: a record's figures are f32 values, in this crate's words and in those of the proofs of `stats`.
+-- `Held`: a record's figures are f32 values, in this crate's words and in those of the proofs of `stats`. `Neighbours`: how the symbols of neighbouring hues differ. `Formula`: the sRGB curve is the
+-- standard's. `OnlyNearest`: one float is the nearest.
 mod Held
+mod Neighbours
+mod Formula
+mod OnlyNearest

@@ -1,8 +1,8 @@
--- Symbols, hues and masks (crate `modulate`): what is undone, and that what is drawn is what is read. Definitions only.
+-- Symbols, hues and masks (crate `modulate`): what is undone, how the symbols of neighbouring hues differ, and that what is drawn is what is read. Definitions only.
 use mathlib.Core.Path.{_≡_}
 use mathlib.Core.Bool.{true, false}
 use mathlib.Core.List.{List}
-use Prim.Native.Nat.{ℕ, _+_, _*_, _%_, _^_, _≤_, _<_}
+use Prim.Native.Nat.{ℕ, _+_, _*_, _/_, _%_, _^_, _≤_, _<_}
 use lib.IntN.{ℤ}
 use lib.ListN.{length, getD}
 use lib.Ieee.{Float, nan, binary32}
@@ -28,6 +28,17 @@ pub record GrayCode : Type 0 where
   pub hue-of-symbol : (q h : ℕ) → h < 2 ^ q → chromaSymbolToHue (hueToChromaSymbol h (2 ^ q)) (2 ^ q) ≡ h
   pub hue-below : (q s : ℕ) → chromaSymbolToHue s (2 ^ q) < 2 ^ q
   pub symbol-below : (q h : ℕ) → hueToChromaSymbol h (2 ^ q) < 2 ^ q
+
+-- s and t differ in exactly one bit, which is among the low q: at that place, and at no other
+pub record OneBitApart (q s t : ℕ) : Type 0 where
+  pub place : ℕ
+  pub below : place < q
+  pub differ : s / 2 ^ place % 2 ≡ t / 2 ^ place % 2 → ⊥
+  pub agree : (b : ℕ) → (b ≡ place → ⊥) → s / 2 ^ b % 2 ≡ t / 2 ^ b % 2
+
+-- of 2 ^ q hues, 2 or more, the symbols of a hue and of the next differ in exactly one bit. After the last hue comes hue 0
+abbrev pub NeighbouringHues : Type 0
+NeighbouringHues = (q h : ℕ) → 0 < q → OneBitApart q (hueToChromaSymbol h (2 ^ q)) (hueToChromaSymbol ((h + 1) % 2 ^ q) (2 ^ q))
 
 -- rotations of k hues, of any count above 0
 pub record Rotations : Type 0 where

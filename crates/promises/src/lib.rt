@@ -6,9 +6,9 @@
 ghost use Rattle.guarantee.specs.Guarantee.{ReadGuarantee};
 ghost use Rattle.promises.specs.Card.{ProgramReads, Met, Worked};
 ghost use Rattle.promises.specs.Floats.{NearestRoots};
-ghost use Rattle.promises.specs.Colour.{NearestSrgb, BothWays, LightnessRises};
+ghost use Rattle.promises.specs.Colour.{SrgbFormula, NearestSrgb, BothWays, LightnessRises};
 ghost use Rattle.promises.specs.Order.{MiddleOfAny, AnyOrder};
-ghost use Rattle.promises.specs.Symbols.{GrayCode, Rotations, DrawnIsRead};
+ghost use Rattle.promises.specs.Symbols.{GrayCode, NeighbouringHues, Rotations, DrawnIsRead};
 ghost use Rattle.promises.specs.Model.{Moderate, FittedModels};
 ghost use Rattle.promises.specs.Noise.{ReliabilityRange, LumaLlrRange, MarginClauses, MeasuredRecords};
 ghost use Rattle.promises.specs.Scores.{ScoresInRange, ScoringAnswers};
@@ -51,7 +51,13 @@ pub fn nearest_roots()
 
 // ---- the crate color
 
-// Of each of the 256 sRGB bytes the linear value is the f32 nearest to the curve of IEC 61966-2-1.
+// The curve that the sRGB bytes are rounded from is that of IEC 61966-2-1, as exact fractions: with v / 255 for the
+// encoded value, up to 0.04045 it is that value / 12.92, and above it ((value + 0.055) / 1.055) ^ 2.4.
+pub fn srgb_formula()
+    ensures { λ _. ⌜ SrgbFormula ⌝ }
+{}
+
+// Of each of the 256 sRGB bytes the linear value is the f32 nearest to that curve, and no other value is as near.
 pub fn nearest_srgb()
     ensures { λ _. ⌜ NearestSrgb ⌝ }
 {}
@@ -87,6 +93,12 @@ pub fn median_in_any_order()
 // power of two.
 pub fn gray_code()
     ensures { λ _. ⌜ GrayCode ⌝ }
+{}
+
+// The symbols of neighbouring hues differ in exactly one bit, where the hues are a power of two from 2 up. The last hue
+// and hue 0 are neighbours too.
+pub fn neighbouring_hues()
+    ensures { λ _. ⌜ NeighbouringHues ⌝ }
 {}
 
 // The rotation that a cell's mask applies to its hue is undone by removing it; two rotations in turn are one by
