@@ -7,6 +7,7 @@ ghost use Rattle.guarantee.specs.Guarantee.{ReadGuarantee};
 ghost use Rattle.promises.specs.Card.{ProgramReads, Met, Worked};
 ghost use Rattle.promises.specs.Floats.{NearestRoots};
 ghost use Rattle.promises.specs.Colour.{NearestSrgb, BothWays, LightnessRises};
+ghost use Rattle.promises.specs.Systems.{SolveKeepsTails};
 ghost use Rattle.promises.specs.Order.{MiddleOfAny, AnyOrder};
 ghost use Rattle.promises.specs.Symbols.{GrayCode, Rotations, DrawnIsRead};
 ghost use Rattle.promises.specs.Model.{Moderate, FittedModels};
@@ -65,6 +66,14 @@ pub fn lab_both_ways()
 // Lightness never falls as a colour's Y rises, for every Y that is no NaN.
 pub fn lightness_rises()
     ensures { λ _. ⌜ LightnessRises ⌝ }
+{}
+
+// ---- the crate math
+
+// `solve` writes within the n × n elements of the matrix, the n of the right-hand side and the n unknowns. Whatever n
+// and its answer, each of the three slices that it is lent keeps its length and every element behind these.
+pub fn solve_keeps_tails()
+    ensures { λ _. ⌜ SolveKeepsTails ⌝ }
 {}
 
 // ---- the crate order
