@@ -1,14 +1,14 @@
 -- Elimination writes row r and column k below n only, at r * n + k of the matrix and at r of the right-hand side, and the unknowns are n elements before the tail of their slice. Assumes nothing.
 use mathlib.Core.Path.{_≡_, refl, sym, ap, _∙_}
-use mathlib.Core.Bool.{Bool, true, false, cond, _||_}
-use mathlib.Core.List.{List, _++_}
+use mathlib.Core.Bool.{Bool, true, false, cond}
+use mathlib.Core.List.{List}
 use Prim.Native.Nat.{ℕ, zero, suc, _+_, _-_, _*_, _≤_, _<_}
 use native.Mathlib.Nat.{le-refl}
 use native.Mathlib.Omega.{arith}
-use lib.Dec.{eqb, ltb}
-use lib.ListN.{length, getD, set, drop, length-set}
+use lib.Dec.{eqb}
+use lib.ListN.{length, getD, set, length-set}
 use lib.Seq.{getD-set-other, getD-drop}
-use lib.Ieee.{Float, nan, binary64, sub, mul, div, lt, eq}
+use lib.Ieee.{Float, nan, binary64, div, lt, eq}
 use Rattle.float.specs.Select.{abs}
 use Rattle.loops.specs.Loops.{Turn, go, out, andThen, turnsTry, forTry}
 use Rattle.loops.proofs.Laws.{forUp-to, cell}

@@ -10,7 +10,7 @@ ghost use Rattle.promises.specs.Colour.{NearestSrgb, BothWays, Lightness
 ghost use Rattle.promises.specs.Systems.{SolveKeepsTails};
 ghost use Rattle.promises.specs.Order.{MiddleOfAny, AnyOrder};
 ghost use Rattle.promises.specs.Symbols.{GrayCode, Rotations, DrawnIsRead};
-ghost use Rattle.promises.specs.Model.{Moderate, FittedModels};
+ghost use Rattle.promises.specs.Model.{Moderate, IdentityReturns, FittedModels};
 ghost use Rattle.promises.specs.Noise.{ReliabilityRange, LumaLlrRange, MarginClauses, MeasuredRecords};
 ghost use Rattle.promises.specs.Scores.{ScoresInRange, ScoringAnswers};
 ghost use Rattle.promises.specs.Reading.{AcceptedIsListed, RoomForAll};
@@ -117,6 +117,13 @@ pub fn drawn_is_read()
 // side and the raw colour from -256 to 256, the corrected colour does not break sentence 12.
 pub fn moderate_colours()
     ensures { λ _. ⌜ Moderate ⌝ }
+{}
+
+// The model of `identity` corrects nothing: at every position of finite f32 values, each finite component of a colour
+// comes back bit for bit, save that -0 comes back as +0. `correct` answers so for every colour that sentence 8 lets
+// pass.
+pub fn identity_returns_the_colour()
+    ensures { λ _. ⌜ IdentityReturns ⌝ }
 {}
 
 // ---- the crate stats
