@@ -80,9 +80,11 @@ zero-times : (x : Float) → T (finite x) → Zero (mul binary64 zero64 x)
 unfolding mul round
 zero-times nan t = absurd t
 zero-times (inf s) t = absurd t
-zero-times (fin s m e) t =
-    (s, ap (λ (u : Bool). round binary64 u (0 * (m * up e)) (1 * down e)) (unlike-plus s)
-    ∙ round-same binary64 s (0 * (m * up e)) (1 * down e) 0 1 (mul-pos (pow-pos 0) (down-pos e)) (pow-pos 0) (simp zero-mul))
+zero-times (fin s m e) t = (
+  s,
+  ap (λ (u : Bool). round binary64 u (0 * (m * up e)) (1 * down e)) (unlike-plus s)
+      ∙ round-same binary64 s (0 * (m * up e)) (1 * down e) 0 1 (mul-pos (pow-pos 0) (down-pos e)) (pow-pos 0) (simp zero-mul),
+)
 
 -- ---- sums with a zero
 

@@ -14,7 +14,8 @@ use Rattle.loops.specs.Loops.{Turn, go, out, andThen, turnsTry, forTry}
 use Rattle.loops.proofs.Laws.{forUp-to, cell}
 use Rattle.sentences.specs.Sentences.{decided}
 use Rattle.math.specs.declared.Outcome.the-variants.{Refused}
-use Rattle.math.specs.Gauss.{System, system, at, zero64, tiny, larger, pivotRow, swapAt, swapRows, bringUp, subtractAt, subtractRow, eliminateRow, eliminateBelow, eliminateColumn, eliminate, concluded, gauss, numbered, shortSystem, badSize, Final, final, finalOf, solveOf}
+use Rattle.math.specs.Gauss.{System, system, at, zero64, tiny, larger, pivotRow, swapAt, swapRows, bringUp, subtractAt, subtractRow, eliminateRow, eliminateBelow, eliminateColumn, eliminate}
+use Rattle.math.specs.Gauss.{concluded, gauss, numbered, shortSystem, badSize, Final, final, finalOf, solveOf}
 use Rattle.math.proofs.Accepted as accepted
 use Rattle.math.proofs.Callers.{keeps-length, keeps-tail}
 use Rattle.promises.specs.Systems.{Tail}
