@@ -1,6 +1,8 @@
 -- `Held`: a record's figures are f32 values, in this crate's words and in those of the proofs of `stats`. `Neighbours`: how the symbols of neighbouring hues differ. `Formula`: the sRGB curve is the
--- standard's. `OnlyNearest`: one float is the nearest.
+-- standard's. `OnlyNearest`: one float is the nearest. `Identity`: what the model of `identity` makes of a colour. `Systems`: what `solve` writes.
 mod Held
 mod Neighbours
 mod Formula
 mod OnlyNearest
+mod Identity
+mod Systems

@@ -1,8 +1,9 @@
--- The promises that the contracts of this crate cite, by subject. `Card` (crate `guarantee`), `Floats` (`float`), `Colour` (`color`), `Order` (`order`), `Symbols` (`modulate`), `Model` (`illum`, `fit`), `Noise` (`stats`,
+-- The promises that the contracts of this crate cite, by subject. `Card` (crate `guarantee`), `Floats` (`float`), `Colour` (`color`), `Systems` (`math`), `Order` (`order`), `Symbols` (`modulate`), `Model` (`illum`, `fit`), `Noise` (`stats`,
 -- `measure`), `Scores` (`demod`), `Reading` (`readout`, `reader`). Each is stated over the definitions of its crate.
 pub mod Card
 pub mod Floats
 pub mod Colour
+pub mod Systems
 pub mod Order
 pub mod Symbols
 pub mod Model

@@ -7,9 +7,10 @@ ghost use Rattle.guarantee.specs.Guarantee.{ReadGuarantee};
 ghost use Rattle.promises.specs.Card.{ProgramReads, Met, Worked};
 ghost use Rattle.promises.specs.Floats.{NearestRoots};
 ghost use Rattle.promises.specs.Colour.{SrgbFormula, NearestSrgb, BothWays, LightnessRises};
+ghost use Rattle.promises.specs.Systems.{SolveKeepsTails};
 ghost use Rattle.promises.specs.Order.{MiddleOfAny, AnyOrder};
 ghost use Rattle.promises.specs.Symbols.{GrayCode, NeighbouringHues, Rotations, DrawnIsRead};
-ghost use Rattle.promises.specs.Model.{Moderate, FittedModels};
+ghost use Rattle.promises.specs.Model.{Moderate, IdentityReturns, FittedModels};
 ghost use Rattle.promises.specs.Noise.{ReliabilityRange, LumaLlrRange, MarginClauses, MeasuredRecords};
 ghost use Rattle.promises.specs.Scores.{ScoresInRange, ScoringAnswers};
 ghost use Rattle.promises.specs.Reading.{AcceptedIsListed, RoomForAll};
@@ -73,6 +74,14 @@ pub fn lightness_rises()
     ensures { λ _. ⌜ LightnessRises ⌝ }
 {}
 
+// ---- the crate math
+
+// `solve` writes within the n × n elements of the matrix, the n of the right-hand side and the n unknowns. Whatever n
+// and its answer, each of the three slices that it is lent keeps its length and every element behind these.
+pub fn solve_keeps_tails()
+    ensures { λ _. ⌜ SolveKeepsTails ⌝ }
+{}
+
 // ---- the crate order
 
 // The median of values without NaN is the middle one in order, of an even number half the sum of the middle pair, of
@@ -120,6 +129,13 @@ pub fn drawn_is_read()
 // side and the raw colour from -256 to 256, the corrected colour does not break sentence 12.
 pub fn moderate_colours()
     ensures { λ _. ⌜ Moderate ⌝ }
+{}
+
+// The model of `identity` corrects nothing: at every position of finite f32 values, each finite component of a colour
+// comes back bit for bit, save that -0 comes back as +0. `correct` answers so for every colour that sentence 8 lets
+// pass.
+pub fn identity_returns_the_colour()
+    ensures { λ _. ⌜ IdentityReturns ⌝ }
 {}
 
 // ---- the crate stats
