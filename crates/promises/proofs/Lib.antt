@@ -1,8 +1,10 @@
 -- `Held`: a record's figures are f32 values, in this crate's words and in those of the proofs of `stats`. `Neighbours`: how the symbols of neighbouring hues differ. `Formula`: the sRGB curve is the
--- standard's. `OnlyNearest`: one float is the nearest. `Identity`: what the model of `identity` makes of a colour. `Systems`: what `solve` writes.
+-- standard's. `OnlyNearest`: one float is the nearest. `Identity`: what the model of `identity` makes of a colour. `Systems`: what `solve` writes. `Window`: refinement's window in
+-- coordinates.
 mod Held
 mod Neighbours
 mod Formula
 mod OnlyNearest
 mod Identity
 mod Systems
+mod Window

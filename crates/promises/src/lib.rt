@@ -13,6 +13,7 @@ ghost use Rattle.promises.specs.Symbols.{GrayCode, NeighbouringHues, Rot
 ghost use Rattle.promises.specs.Model.{Moderate, IdentityReturns, FittedModels};
 ghost use Rattle.promises.specs.Noise.{ReliabilityRange, LumaLlrRange, MarginClauses, MeasuredRecords};
 ghost use Rattle.promises.specs.Scores.{ScoresInRange, ScoringAnswers};
+ghost use Rattle.promises.specs.Window.{WindowInCoordinates};
 ghost use Rattle.promises.specs.Reading.{AcceptedIsListed, RoomForAll};
 
 // ---- the crate guarantee: whole cards
@@ -183,6 +184,16 @@ pub fn scores_in_range()
 // that holds.
 pub fn scoring_answers()
     ensures { λ _. ⌜ ScoringAnswers ⌝ }
+{}
+
+// ---- the crate refine
+
+// Which squares the 7 by 7 window of refinement looks at, for every side: place k, from 0 to 48, lies k % 7 - 3
+// columns and k / 7 - 3 rows from the module in the middle. Outside the grid and the ring around it there is no
+// luminance. The window's samples are those of the places whose luminance is known, the module's own too, in the
+// order of k, each with its columns, its rows and its luminance; `count` is their number.
+pub fn window_in_coordinates()
+    ensures { λ _. ⌜ WindowInCoordinates ⌝ }
 {}
 
 // ---- the crates readout and reader
