@@ -24,7 +24,8 @@ use equations::live;
 use illum::IlluminationModel;
 use illum::Modelled;
 
-// ---- the passes. Their s has 4 numbers for each of n references: the live marks, the residuals, and twice n of work.
+// ---- the passes. Their s is 4 × n floats for n references: n live marks, n residuals, n floats of work, and n that no pass
+// touches.
 
 // What a pass gives: whether it has a solution, whether sentence 11 holds after it, and the model.
 pub struct Pass {

@@ -1,4 +1,4 @@
--- The margin check, taken apart: it says yes exactly where each clause of document 01's sentence holds, at every colour and hue. Each clause is a test of every element, and such a test holds where no
+-- The margin check, taken apart: where it says yes, each clause of document 01's sentence holds, at every colour and hue. Each clause is a test of every element, and such a test holds where no
 -- element fails it. Assumes nothing.
 use mathlib.Core.Path.{_≡_, refl, sym}
 use mathlib.Core.Bool.{Bool, true, false, not}
