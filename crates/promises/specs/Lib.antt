@@ -1,5 +1,5 @@
 -- The promises that the contracts of this crate cite, by subject. `Card` (crate `guarantee`), `Floats` (`float`), `Colour` (`color`), `Order` (`order`), `Symbols` (`modulate`), `Model` (`illum`, `fit`), `Noise` (`stats`,
--- `measure`), `Scores` (`demod`), `Reading` (`readout`, `reader`). Each is stated over the definitions of its crate.
+-- `measure`), `Scores` (`demod`), `Reading` (`readout`, `reader`), `CardFile` (`card`, `reader`). Each is stated over the definitions of its crate.
 pub mod Card
 pub mod Floats
 pub mod Colour
@@ -9,3 +9,4 @@ pub mod Model
 pub mod Noise
 pub mod Scores
 pub mod Reading
+pub mod CardFile

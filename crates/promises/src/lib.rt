@@ -13,6 +13,7 @@ ghost use Rattle.promises.specs.Model.{Moderate, FittedModels};
 ghost use Rattle.promises.specs.Noise.{ReliabilityRange, LumaLlrRange, MarginClauses, MeasuredRecords};
 ghost use Rattle.promises.specs.Scores.{ScoresInRange, ScoringAnswers};
 ghost use Rattle.promises.specs.Reading.{AcceptedIsListed, RoomForAll};
+ghost use Rattle.promises.specs.CardFile.{CaseIsRead};
 
 // ---- the crate guarantee: whole cards
 
@@ -169,4 +170,12 @@ pub fn accepted_is_listed()
 // were.
 pub fn room_for_every_listing()
     ensures { λ _. ⌜ RoomForAll ⌝ }
+{}
+
+// ---- the crates card and reader
+
+// Document 01's case, written as a card file by the document's words, is read as the three lines that the document
+// prints for it.
+pub fn card_file_case()
+    ensures { λ _. ⌜ CaseIsRead ⌝ }
 {}
