@@ -1,8 +1,8 @@
 -- Document 01's case: antt computes its file's bytes, what they are opened as, the card in them, and its text. Assumes nothing.
 use mathlib.Core.Path.{_≡_, refl, ap, _∙_}
 use mathlib.Core.List.{List, []}
-use Prim.Native.Nat.{ℕ}
 use mathlib.Core.Bool.{xor}
+use Prim.Native.Nat.{ℕ}
 use lib.Ieee.{add, sub, mul, div, neg, lt, le, eq, isNan, round, ofInt, toUnsigned, toBits, ofBits}
 use Rattle.sentences.specs.Sentences.{refusal, decided}
 use Rattle.loops.specs.Loops.{someOf, anyUp, turns, forUp}
@@ -49,7 +49,7 @@ use Rattle.readout.specs.Reading.{afterSymbols, afterBits, afterUnmasking, read
 use Rattle.reader.specs.File.{listFrom, listOf, sheetOf, referencesOf}
 use Rattle.reader.specs.Fitting.{afterMeasuring, measureText, afterFitting, fitText}
 use Rattle.reader.specs.Text.{afterOpening, cardText}
-use Rattle.promises.specs.CardFile.{u16Bytes, u32Bytes, i16Bytes, f32Bytes, settingsBytes, floatAtBytes, colourBytes, moduleBytes, cellBytes, directory, sections, cardFile, theCase, theText}
+use Rattle.promises.specs.CardFile.{u16Bytes, u32Bytes, bitsOf, i16Bytes, f32Bytes, settingsBytes, floatAtBytes, colourBytes, moduleBytes, cellBytes, directory, sections, cardFile, theCase, theText}
 
 -- ---- the case
 
@@ -64,11 +64,11 @@ caseCard =
     }
 
 case-opens : opened 5 (cardFile theCase []) .answer ≡ Accepted caseCard
-unfolding u16Bytes u32Bytes i16Bytes f32Bytes settingsBytes floatAtBytes colourBytes moduleBytes cellBytes directory sections cardFile row rows fraction round toBits opened refusal decided malformed badDirectory badPalette file.badLengths largeSide cardOf settingsAt sectionOf offsetOf lengthOf startOf u16At u32At anyUp someOf
+unfolding u16Bytes u32Bytes bitsOf i16Bytes f32Bytes settingsBytes floatAtBytes colourBytes moduleBytes cellBytes directory sections cardFile row rows fraction round toBits opened refusal decided malformed badDirectory badPalette file.badLengths largeSide cardOf settingsAt sectionOf offsetOf lengthOf startOf u16At u32At anyUp someOf
 case-opens = refl
 
 case-sheet : sheetOf (cardFile theCase []) caseCard ≡ theCase
-unfolding u16Bytes u32Bytes i16Bytes f32Bytes settingsBytes floatAtBytes colourBytes moduleBytes cellBytes directory sections cardFile row rows fraction round toBits ofBits sheetOf listOf listFrom f32At u32At u16At i16At i16Of
+unfolding u16Bytes u32Bytes bitsOf i16Bytes f32Bytes settingsBytes floatAtBytes colourBytes moduleBytes cellBytes directory sections cardFile row rows fraction round toBits ofBits sheetOf listOf listFrom f32At u32At u16At i16At i16Of
 case-sheet = refl
 
 case-references : referencesOf (cardFile theCase []) caseCard ≡ []

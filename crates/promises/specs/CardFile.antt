@@ -1,14 +1,20 @@
 -- The card file of document 01, "Card file and listing", as it is written: from a card to the bytes of its file, in the document's words, and what `card` and `reader` read from them. Definitions only.
 use mathlib.Core.Path.{_≡_}
 use mathlib.Core.List.{List, [], _∷_, _++_}
-use Prim.Native.Nat.{ℕ, _+_, _-_, _*_, _/_, _%_}
+use Prim.Native.Nat.{ℕ, _+_, _-_, _*_, _/_, _%_, _≤_, _<_}
+use lib.Dec.{T}
 use lib.IntN.{ℤ, pos, negsuc}
+use lib.Signed.{mag}
 use lib.ListN.{length, getD}
-use lib.Ieee.{Float, nan, binary32, toBits}
+use lib.Ieee.{Float, nan, binary32, fits, toBits}
 use Rattle.color.specs.Color.{whole}
 use Rattle.card.specs.declared.Settings.{Settings}
+use Rattle.card.specs.declared.Card.{Card}
+use Rattle.card.specs.declared.Opened.the-variants.{Accepted}
+use Rattle.card.specs.File.{said, opened}
 use Rattle.listing.specs.Text.{row, rows}
 use Rattle.readout.specs.Sheet.{Sheet}
+use Rattle.reader.specs.File.{sheetOf, referencesOf}
 use Rattle.reader.specs.Text.{cardText}
 
 -- ---- numbers: "Little-endian"
@@ -21,10 +27,13 @@ u16Bytes n = n % 256 ∷ n / 256 % 256 ∷ []
 unfoldable pub u32Bytes : ℕ → List ℕ
 u32Bytes n = u16Bytes n ++ u16Bytes (n / 65536)
 
--- two's complement: -1 - n is 2^16 - 1 - n
+-- the 16 bits of a signed number in two's complement: below zero, 2^16 more
+unfoldable pub bitsOf : ℤ → ℕ
+bitsOf (pos n) = n
+bitsOf (negsuc n) = 65535 - n
+
 unfoldable pub i16Bytes : ℤ → List ℕ
-i16Bytes (pos n) = u16Bytes n
-i16Bytes (negsuc n) = u16Bytes (65535 - n)
+i16Bytes z = u16Bytes (bitsOf z)
 
 -- the bit pattern, for a NaN always 7FC00000
 unfoldable pub f32Bytes : Float → List ℕ
@@ -105,3 +114,59 @@ theText =
 -- its file is read as its text
 abbrev pub CaseIsRead : Type 0
 CaseIsRead = cardText (cardFile theCase []) ≡ theText
+
+-- ---- every card
+
+-- a card that a file has room for: a side of at most 64, the other settings of their types, the mask of three bits; as many palette numbers as the hues ask for, eight a reference, two positions and three colour
+-- components a module and a cell; at most 16,384 bytes
+pub record Fits (c : Sheet) (references : List Float) : Type 0 where
+  pub side : c .settings .side ≤ 64
+  pub version : c .settings .version < 256
+  pub hues : c .settings .hues < 256
+  pub size : c .settings .size < 256
+  pub mask : c .settings .mask < 8
+  pub grid : c .settings .grid < 65536
+  pub palette : length (c .palette) ≡ 2 + 8 * c .settings .hues
+  pub eights : length references % 8 ≡ 0
+  pub ys : length (c .ys) ≡ length (c .xs)
+  pub raw : length (c .raw) ≡ 3 * length (c .xs)
+  pub cys : length (c .cys) ≡ length (c .cxs)
+  pub craw : length (c .craw) ≡ 3 * length (c .cxs)
+  pub small : 56 + 32 * c .settings .hues + 4 * length references + 16 * length (c .xs) + 16 * length (c .cxs) ≤ 16384
+
+-- where the sections of its file are
+abbrev pub cardIn : Sheet → List Float → Card
+cardIn c references =
+    let references-at = 48 + 4 * length (c .palette) in
+    let modules-at = references-at + 4 * length references in
+    let cells-at = modules-at + 16 * length (c .xs) in
+    record {
+      settings = c .settings;
+      palette = 48;
+      references = record { at = references-at; count = length references / 8 };
+      modules = record { at = modules-at; count = length (c .xs) };
+      cells = record { at = cells-at; count = length (c .cxs) };
+    }
+
+-- its file is accepted, with its settings and its sections where they were written
+abbrev pub FileOpens : Type 0
+FileOpens = (c : Sheet) (references : List Float) → Fits c references → opened 5 (cardFile c references) ≡ said (Accepted (cardIn c references))
+
+-- its numbers are of the types that they are written as: f32, i16 (from -32,768 to 32,767), u16
+pub record Typed (c : Sheet) (references : List Float) : Type 0 where
+  pub palette : (i : ℕ) → T (fits binary32 (getD (c .palette) i nan))
+  pub of-references : (i : ℕ) → T (fits binary32 (getD references i nan))
+  pub xs : (i : ℕ) → mag (getD (c .xs) i (pos 0)) < 32768
+  pub ys : (i : ℕ) → mag (getD (c .ys) i (pos 0)) < 32768
+  pub raw : (i : ℕ) → T (fits binary32 (getD (c .raw) i nan))
+  pub cxs : (i : ℕ) → getD (c .cxs) i 0 < 65536
+  pub cys : (i : ℕ) → getD (c .cys) i 0 < 65536
+  pub craw : (i : ℕ) → T (fits binary32 (getD (c .craw) i nan))
+
+-- what is read from the file is the card: every number is the one that went in
+pub record Returned (c : Sheet) (references : List Float) : Type 0 where
+  pub same-sheet : sheetOf (cardFile c references) (cardIn c references) ≡ c
+  pub same-references : referencesOf (cardFile c references) (cardIn c references) ≡ references
+
+abbrev pub FileReturns : Type 0
+FileReturns = (c : Sheet) (references : List Float) → Fits c references → Typed c references → Returned c references

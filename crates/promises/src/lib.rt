@@ -13,7 +13,7 @@ ghost use Rattle.promises.specs.Model.{Moderate, FittedModels};
 ghost use Rattle.promises.specs.Noise.{ReliabilityRange, LumaLlrRange, MarginClauses, MeasuredRecords};
 ghost use Rattle.promises.specs.Scores.{ScoresInRange, ScoringAnswers};
 ghost use Rattle.promises.specs.Reading.{AcceptedIsListed, RoomForAll};
-ghost use Rattle.promises.specs.CardFile.{CaseIsRead};
+ghost use Rattle.promises.specs.CardFile.{CaseIsRead, FileOpens, FileReturns};
 
 // ---- the crate guarantee: whole cards
 
@@ -178,4 +178,16 @@ pub fn room_for_every_listing()
 // prints for it.
 pub fn card_file_case()
     ensures { λ _. ⌜ CaseIsRead ⌝ }
+{}
+
+// The card file of every card that has room in 16,384 bytes, with a side of at most 64, is opened, with the card's
+// settings and with its sections where they were written.
+pub fn card_file_opens()
+    ensures { λ _. ⌜ FileOpens ⌝ }
+{}
+
+// What is read from that file is the card: each palette number, reference, position, coordinate and colour is the one
+// that was written.
+pub fn card_file_returns_values()
+    ensures { λ _. ⌜ FileReturns ⌝ }
 {}
