@@ -1,8 +1,7 @@
 -- Document 01's case: antt computes its file's bytes, what they are opened as, the card in them, and its text. Assumes nothing.
-use mathlib.Core.Path.{_≡_, refl, ap, _∙_}
-use mathlib.Core.List.{List, []}
+use mathlib.Core.Path.{_≡_, refl, _∙_}
+use mathlib.Core.List.{[]}
 use mathlib.Core.Bool.{xor}
-use Prim.Native.Nat.{ℕ}
 use lib.Ieee.{add, sub, mul, div, neg, lt, le, eq, isNan, round, ofInt, toUnsigned, toBits, ofBits}
 use Rattle.sentences.specs.Sentences.{refusal, decided}
 use Rattle.loops.specs.Loops.{someOf, anyUp, turns, forUp}
@@ -39,17 +38,16 @@ use Rattle.card.specs.Number.{u16At, u32At, f32At, i16Of, i16At}
 use Rattle.card.specs.File as file
 use Rattle.card.specs.File.{offsetOf, lengthOf, startOf, badDirectory, badPalette, largeSide, malformed, settingsAt, sectionOf, cardOf, opened}
 use Rattle.card.specs.declared.Card.{Card}
-use Rattle.card.specs.declared.Opened.{Opened}
 use Rattle.card.specs.declared.Opened.the-variants.{Accepted}
 use Rattle.listing.specs.Text.{row, rows}
 use Rattle.listing.specs.Listing as listing
 use Rattle.listing.specs.Listing.{decimal, signed, hexDigit, hex, scoreEnd, fitLine, lumaLine}
-use Rattle.readout.specs.Sheet.{Sheet}
 use Rattle.readout.specs.Reading.{afterSymbols, afterBits, afterUnmasking, readText, afterRefinement, refineText, afterScoring, scoreText}
 use Rattle.reader.specs.File.{listFrom, listOf, sheetOf, referencesOf}
 use Rattle.reader.specs.Fitting.{afterMeasuring, measureText, afterFitting, fitText}
-use Rattle.reader.specs.Text.{afterOpening, cardText}
+use Rattle.reader.specs.Text.{cardText}
 use Rattle.promises.specs.CardFile.{u16Bytes, u32Bytes, bitsOf, i16Bytes, f32Bytes, settingsBytes, floatAtBytes, colourBytes, moduleBytes, cellBytes, directory, sections, cardFile, theCase, theText}
+use Rattle.promises.proofs.Written.{read-as}
 
 -- ---- the case
 
@@ -79,10 +77,6 @@ case-text : fitText theCase [] ≡ theText
 unfolding add sub mul div neg lt le eq round isNan fraction toBits ofBits abs max min clamp refusal decided someOf anyUp turns forUp badHues shortPalette badNumbers wild badNoiseNumbers wildFigure badSigmas badLevelSigma levelL hueAb paletteLab lumaLlr chromaOn sigmaAbAt between badSide badCellSize chromaLength symbolBits log2 halvings chromaEntries shape placement modulePlacement badCounts badModules badPositions misplaced outside badCell xor lumaMask maskRules unitModel moduleColour centre ofInt linearAt mixed unshaded affineRow basisAt normalised termsUsed addTerm isHeld holdGain leastGain deshade toSingle linearToXyz xyzToLab lightness labF line cbrtOf digits iroot rootOfUnits mag scoredOf scoring.sentencesOf badLengths badModuleLengths badCellLengths shortChroma badInputs badCorrected wildLinear badModel badShape badTerms badModelSide notFiniteModel notFiniteAffine notFiniteGains notFiniteFlares toUnsigned writeModule lumaScore weighted weighed reliability closer distance weight sqrtOf chromaWritten ringChroma refineOf refinement.sentencesOf shortSlices wildNumbers refinedOf refined refineAt refineOne sure placeAt unmaskLumaOf unmaskSentences badLumaLengths unmaskAt maskedAt readListOf readSentences reads shortScratch tooMany referencePlacement fitSentences fitOf termsFor fitting.fitted tooShort sentencesFor measureOf measuring.measured measuring.wildNumbers measuring.badCorrected afterSymbols afterBits afterUnmasking readText afterRefinement refineText afterScoring scoreText afterMeasuring measureText afterFitting fitText row rows listing.listing listing.digits decimal signed hexDigit hex scoreEnd fitLine lumaLine
 case-text = refl
 
-reading-of : (s : List ℕ) (r : Opened) (card : Card) (c : Sheet) → r ≡ Accepted card → sheetOf s card ≡ c → referencesOf s card ≡ [] → afterOpening s r ≡ fitText c []
-unfolding afterOpening
-reading-of s r card c e p q = rw (e, p, q)
-
 pub the-case : cardText (cardFile theCase []) ≡ theText
 unfolding cardText
-the-case = reading-of (cardFile theCase []) (opened 5 (cardFile theCase []) .answer) caseCard theCase case-opens case-sheet case-references ∙ case-text
+the-case = read-as (cardFile theCase []) (opened 5 (cardFile theCase []) .answer) caseCard theCase [] case-opens case-sheet case-references ∙ case-text

@@ -1,6 +1,6 @@
 -- A card's file is opened and read as the card: each number is read from the bytes that it was written as, since every section lies where the sections before it end, and each record in it where the records before it end. Assumes nothing.
 use mathlib.Core.Path.{_≡_, refl, sym, ap, _∙_}
-use mathlib.Core.Bool.{Bool, false, not, cond, _||_}
+use mathlib.Core.Bool.{Bool, false, not, _||_}
 use mathlib.Core.List.{List, [], _∷_, _++_, append-assoc}
 use Prim.Native.Nat.{ℕ, zero, suc, _+_, _-_, _*_, _/_, _%_, _≤_, _<_}
 use native.Mathlib.Nat.{mul-suc}
@@ -15,17 +15,20 @@ use lib.Ieee.{Float, nan, binary32, fits, ofBits, toBits}
 use lib.Ieee.Bits.{ofBits-toBits, toBits-lt}
 use Rattle.loops.specs.Loops.{someOf, anyUp}
 use Rattle.card.specs.Number.{u16At, u32At, f32At, i16Of, i16At}
-use Rattle.card.specs.File.{offsetOf, lengthOf, startOf, misplacedAt, badDirectory, badPalette, badLengths, largeSide, malformed, settingsAt, sectionOf, cardOf, said, opened}
+use Rattle.card.specs.File.{offsetOf, lengthOf, startOf, misplacedAt, badDirectory, badPalette, badLengths, largeSide, malformed, settingsAt, sectionOf, cardOf, Said, said, opened}
 use Rattle.card.specs.Sections.{floatAt, positionAt, coordinateAt, componentAt}
 use Rattle.card.specs.declared.Settings.{Settings}
 use Rattle.card.specs.declared.Card.{Card}
+use Rattle.card.specs.declared.Opened.{Opened}
 use Rattle.card.specs.declared.Opened.the-variants.{Accepted}
 use Rattle.card.proofs.Accepted.{not-refused}
 use Rattle.listing.specs.Text.{row, rows}
 use Rattle.readout.specs.Sheet.{Sheet, sheet}
 use Rattle.reader.specs.File.{listOf, sheetOf, referencesOf}
+use Rattle.reader.specs.Fitting.{fitText}
+use Rattle.reader.specs.Text.{afterOpening, cardText}
 use Rattle.reader.proofs.Lists.{list-length, list-at}
-use Rattle.promises.specs.CardFile.{u16Bytes, u32Bytes, bitsOf, i16Bytes, f32Bytes, settingsBytes, floatAtBytes, floatsBytes, colourBytes, moduleBytes, modulesBytes, cellBytes, cellsBytes, directory, sections, cardFile, Fits, cardIn, Typed, Returned}
+use Rattle.promises.specs.CardFile.{u16Bytes, u32Bytes, bitsOf, i16Bytes, f32Bytes, settingsBytes, floatAtBytes, floatsBytes, colourBytes, moduleBytes, modulesBytes, cellBytes, cellsBytes, directory, sections, cardFile, Fits, cardIn, Opens, Typed, Returned}
 
 -- ---- numbers from their bytes
 
@@ -47,6 +50,12 @@ i16-back (negsuc n) h = rw (le-ltb (65535 - n) 32768 (omega arith)) (ap negsuc (
   where
     twice : (n : ℕ) → n < 32768 → 65535 - (65535 - n) ≡ n
     twice n h = omega arith
+
+-- ---- the text of a file that is opened
+
+pub read-as : (s : List ℕ) (r : Opened) (card : Card) (c : Sheet) (references : List Float) → r ≡ Accepted card → sheetOf s card ≡ c → referencesOf s card ≡ references → afterOpening s r ≡ fitText c references
+unfolding afterOpening
+read-as s r card c references e p q = rw (e, p, q)
 
 -- ---- a directory of five pairs
 
@@ -357,6 +366,88 @@ module _ (c : Sheet) (references : List Float) where
   long-cells : length (cellsBytes c) ≡ 16 * length (c .cxs)
   long-cells = rows-length 16 (cellBytes (c .cxs) (c .cys) (c .craw)) (cell-wide (c .cxs) (c .cys) (c .craw)) (length (c .cxs)) 0
 
+-- ---- every number of a file is a byte
+
+abbrev Bytes : List ℕ → Type 0
+Bytes l = (i : ℕ) → getD l i 0 < 256
+
+no-bytes : Bytes []
+no-bytes i = omega arith
+
+byte-first : (x : ℕ) (l : List ℕ) → x < 256 → Bytes l → Bytes (x ∷ l)
+byte-first x l h p zero = h
+byte-first x l h p (suc i) = p i
+
+both-bytes : (a b : List ℕ) → Bytes a → Bytes b → Bytes (a ++ b)
+both-bytes [] b p q i = q i
+both-bytes (x ∷ a) b p q zero = p 0
+both-bytes (x ∷ a) b p q (suc i) = both-bytes a b (λ j. p (suc j)) q i
+
+u16-bytes : (n : ℕ) → Bytes (u16Bytes n)
+unfolding u16Bytes
+u16-bytes n = byte-first (n % 256) (n / 256 % 256 ∷ []) (omega arith) (byte-first (n / 256 % 256) [] (omega arith) no-bytes)
+
+u32-bytes : (n : ℕ) → Bytes (u32Bytes n)
+unfolding u32Bytes
+u32-bytes n = both-bytes (u16Bytes n) (u16Bytes (n / 65536)) (u16-bytes n) (u16-bytes (n / 65536))
+
+rows-bytes : (f : ℕ → List ℕ) → ((i : ℕ) → Bytes (f i)) → (n i : ℕ) → Bytes (rows f n i)
+unfolding rows
+rows-bytes f p zero i = no-bytes
+rows-bytes f p (suc n) i = both-bytes (f i) (rows f n (suc i)) (p i) (rows-bytes f p n (suc i))
+
+float-bytes : (l : List Float) (i : ℕ) → Bytes (floatAtBytes l i)
+unfolding floatAtBytes f32Bytes
+float-bytes l i = u32-bytes (toBits binary32 (getD l i nan))
+
+colour-bytes : (raw : List Float) (i : ℕ) → Bytes (colourBytes raw i)
+unfolding colourBytes f32Bytes
+colour-bytes raw i =
+    let v : ℕ → ℕ = λ k. toBits binary32 (getD raw k nan) in
+    both-bytes (u32Bytes (v (3 * i))) (u32Bytes (v (3 * i + 1)) ++ u32Bytes (v (3 * i + 2))) (u32-bytes (v (3 * i)))
+    (both-bytes (u32Bytes (v (3 * i + 1))) (u32Bytes (v (3 * i + 2))) (u32-bytes (v (3 * i + 1))) (u32-bytes (v (3 * i + 2))))
+
+pair-bytes : (m n : ℕ) (l : List ℕ) → Bytes l → Bytes (u16Bytes m ++ (u16Bytes n ++ l))
+pair-bytes m n l p = both-bytes (u16Bytes m) (u16Bytes n ++ l) (u16-bytes m) (both-bytes (u16Bytes n) l (u16-bytes n) p)
+
+module-bytes : (xs ys : List ℤ) (raw : List Float) (i : ℕ) → Bytes (moduleBytes xs ys raw i)
+unfolding moduleBytes i16Bytes
+module-bytes xs ys raw i = pair-bytes (bitsOf (getD xs i (pos 0))) (bitsOf (getD ys i (pos 0))) (colourBytes raw i) (colour-bytes raw i)
+
+cell-bytes : (cxs cys : List ℕ) (raw : List Float) (i : ℕ) → Bytes (cellBytes cxs cys raw i)
+unfolding cellBytes
+cell-bytes cxs cys raw i = pair-bytes (getD cxs i 0) (getD cys i 0) (colourBytes raw i) (colour-bytes raw i)
+
+directory-bytes : (at : ℕ) (l : List (List ℕ)) → Bytes (directory at l)
+unfolding directory
+directory-bytes at [] = no-bytes
+directory-bytes at (a ∷ l) =
+    both-bytes (u32Bytes at) (u32Bytes (length a) ++ directory (at + length a) l) (u32-bytes at) (both-bytes (u32Bytes (length a)) (directory (at + length a) l) (u32-bytes (length a)) (directory-bytes (at + length a) l))
+
+four-bytes : (v w x y : ℕ) (l : List ℕ) → v < 256 → w < 256 → x < 256 → y < 256 → Bytes l → Bytes (v ∷ w ∷ x ∷ y ∷ l)
+four-bytes v w x y l a b c d p = byte-first v (w ∷ x ∷ y ∷ l) a (byte-first w (x ∷ y ∷ l) b (byte-first x (y ∷ l) c (byte-first y l d p)))
+
+settings-bytes : (st : Settings) → st .version < 256 → st .hues < 256 → st .size < 256 → st .mask < 256 → Bytes (settingsBytes st)
+unfolding settingsBytes
+settings-bytes st h g k l =
+    both-bytes (u16Bytes (st .side)) (st .version ∷ st .hues ∷ st .size ∷ st .mask ∷ u16Bytes (st .grid)) (u16-bytes (st .side))
+    (four-bytes (st .version) (st .hues) (st .size) (st .mask) (u16Bytes (st .grid)) h g k l (u16-bytes (st .grid)))
+
+joined-bytes : (t a b c d e : List ℕ) → Bytes t → Bytes a → Bytes b → Bytes c → Bytes d → Bytes e → Bytes (t ++ (a ++ (b ++ (c ++ (d ++ (e ++ []))))))
+joined-bytes t a b c d e p q r s u v =
+    both-bytes t _ p (both-bytes a _ q (both-bytes b _ r (both-bytes c _ s (both-bytes d _ u (both-bytes e [] v no-bytes)))))
+
+file-bytes : (c : Sheet) (references : List Float) → Fits c references → Bytes (cardFile c references)
+unfolding cardFile sections row
+file-bytes c references f =
+    let files = settingsBytes (c .settings) ∷ floatsBytes (c .palette) ∷ floatsBytes references ∷ modulesBytes c ∷ cellsBytes c ∷ [] in
+    joined-bytes (directory 40 files) (settingsBytes (c .settings)) (floatsBytes (c .palette)) (floatsBytes references) (modulesBytes c) (cellsBytes c) (directory-bytes 40 files)
+    (settings-bytes (c .settings) (f .version) (f .hues) (f .size) (omega arith)) (rows-bytes (floatAtBytes (c .palette)) (float-bytes (c .palette)) (length (c .palette)) 0)
+    (rows-bytes (floatAtBytes references) (float-bytes references) (length references) 0) (rows-bytes (moduleBytes (c .xs) (c .ys) (c .raw)) (module-bytes (c .xs) (c .ys) (c .raw)) (length (c .xs)) 0)
+    (rows-bytes (cellBytes (c .cxs) (c .cys) (c .craw)) (cell-bytes (c .cxs) (c .cys) (c .craw)) (length (c .cxs)) 0)
+
+-- ---- it is opened
+
 sheet-same : (c : Sheet) (palette : List Float) (xs ys : List ℤ) (raw : List Float) (cxs cys : List ℕ) (craw : List Float) → palette ≡ c .palette → xs ≡ c .xs → ys ≡ c .ys → raw ≡ c .raw → cxs ≡ c .cxs → cys ≡ c .cys →
     craw ≡ c .craw → sheet (c .settings) palette xs ys raw cxs cys craw ≡ c
 sheet-same c palette xs ys raw cxs cys craw e f g h k l m = rw (e, f, g, h, k, l, m)
@@ -423,8 +514,11 @@ module _ (c : Sheet) (references : List Float) (f : Fits c references) where
       card-is (written c references) (c .settings) (4 * length (c .palette)) (4 * length references) (16 * length (c .xs)) (16 * length (c .cxs)) the-pairs small the-settings
       (length references / 8) (length (c .xs)) (length (c .cxs)) (omega arith) (omega arith) (omega arith)
 
-  pub opens : opened 5 (cardFile c references) ≡ said (Accepted (cardIn c references))
-  opens = ap (opened 5) (is-laid-out c references) ∙ not-refused 5 (written c references) accepted ∙ ap (λ (k : Card). said (Accepted k)) the-card
+  opened-as : opened 5 (cardFile c references) ≡ said (Accepted (cardIn c references))
+  opened-as = ap (opened 5) (is-laid-out c references) ∙ not-refused 5 (written c references) accepted ∙ ap (λ (k : Card). said (Accepted k)) the-card
+
+  pub opens : Opens c references
+  opens = record { bytes = file-bytes c references f; accepted = opened-as }
 
 -- ---- and read as the card
 
@@ -503,9 +597,16 @@ module _ (c : Sheet) (references : List Float) (f : Fits c references) (t : Type
   unfolding referencesOf
   the-references = floats-are references (t .of-references) s (cardIn c references .references .at) (references-lie c references) (8 * (length references / 8)) (omega (arith, f .eights))
 
+  in-file : sheetOf (cardFile c references) (cardIn c references) ≡ c
+  in-file = ap (λ (l : List ℕ). sheetOf l (cardIn c references)) (is-laid-out c references) ∙ the-sheet
+
+  references-in-file : referencesOf (cardFile c references) (cardIn c references) ≡ references
+  references-in-file = ap (λ (l : List ℕ). referencesOf l (cardIn c references)) (is-laid-out c references) ∙ the-references
+
+  text-of-file : cardText (cardFile c references) ≡ fitText c references
+  unfolding cardText
+  text-of-file =
+      read-as (cardFile c references) (opened 5 (cardFile c references) .answer) (cardIn c references) c references (ap (λ (a : Said). a .answer) (opened-as c references f)) in-file references-in-file
+
   pub returned : Returned c references
-  returned =
-      record {
-        same-sheet = ap (λ (l : List ℕ). sheetOf l (cardIn c references)) (is-laid-out c references) ∙ the-sheet;
-        same-references = ap (λ (l : List ℕ). referencesOf l (cardIn c references)) (is-laid-out c references) ∙ the-references;
-      }
+  returned = record { same-sheet = in-file; same-references = references-in-file; text = text-of-file }

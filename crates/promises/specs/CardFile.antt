@@ -15,6 +15,7 @@ use Rattle.card.specs.File.{said, opened}
 use Rattle.listing.specs.Text.{row, rows}
 use Rattle.readout.specs.Sheet.{Sheet}
 use Rattle.reader.specs.File.{sheetOf, referencesOf}
+use Rattle.reader.specs.Fitting.{fitText}
 use Rattle.reader.specs.Text.{cardText}
 
 -- ---- numbers: "Little-endian"
@@ -148,9 +149,13 @@ cardIn c references =
       cells = record { at = cells-at; count = length (c .cxs) };
     }
 
--- its file is accepted, with its settings and its sections where they were written
+-- its file is one of bytes, and is accepted, with its settings and its sections where they were written
+pub record Opens (c : Sheet) (references : List Float) : Type 0 where
+  pub bytes : (i : ℕ) → getD (cardFile c references) i 0 < 256
+  pub accepted : opened 5 (cardFile c references) ≡ said (Accepted (cardIn c references))
+
 abbrev pub FileOpens : Type 0
-FileOpens = (c : Sheet) (references : List Float) → Fits c references → opened 5 (cardFile c references) ≡ said (Accepted (cardIn c references))
+FileOpens = (c : Sheet) (references : List Float) → Fits c references → Opens c references
 
 -- its numbers are of the types that they are written as: f32, i16 (from -32,768 to 32,767), u16
 pub record Typed (c : Sheet) (references : List Float) : Type 0 where
@@ -163,10 +168,11 @@ pub record Typed (c : Sheet) (references : List Float) : Type 0 where
   pub cys : (i : ℕ) → getD (c .cys) i 0 < 65536
   pub craw : (i : ℕ) → T (fits binary32 (getD (c .craw) i nan))
 
--- what is read from the file is the card: every number is the one that went in
+-- what is read from the file is the card, every number being the one that went in, and the file's text is that of the card
 pub record Returned (c : Sheet) (references : List Float) : Type 0 where
   pub same-sheet : sheetOf (cardFile c references) (cardIn c references) ≡ c
   pub same-references : referencesOf (cardFile c references) (cardIn c references) ≡ references
+  pub text : cardText (cardFile c references) ≡ fitText c references
 
 abbrev pub FileReturns : Type 0
 FileReturns = (c : Sheet) (references : List Float) → Fits c references → Typed c references → Returned c references

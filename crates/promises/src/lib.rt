@@ -187,7 +187,7 @@ pub fn card_file_opens()
 {}
 
 // What is read from that file is the card: each palette number, reference, position, coordinate and colour is the one
-// that was written.
+// that was written. So the file's text is that of the card.
 pub fn card_file_returns_values()
     ensures { λ _. ⌜ FileReturns ⌝ }
 {}
