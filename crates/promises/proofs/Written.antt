@@ -1,4 +1,5 @@
--- A card's file is opened and read as the card: each number is read from the bytes that it was written as, since every section lies where the sections before it end, and each record in it where the records before it end. Assumes nothing.
+-- A card's file is opened and read as the card: each number is read from the bytes that it was written as, since every section lies where the sections before it end, and each record in
+-- it where the records before it end. Assumes nothing.
 use mathlib.Core.Path.{_≡_, refl, sym, ap, _∙_}
 use mathlib.Core.Bool.{Bool, false, not, _||_}
 use mathlib.Core.List.{List, [], _∷_, _++_, append-assoc}
@@ -53,7 +54,8 @@ i16-back (negsuc n) h = rw (le-ltb (65535 - n) 32768 (omega arith)) (ap negsuc (
 
 -- ---- the text of a file that is opened
 
-pub read-as : (s : List ℕ) (r : Opened) (card : Card) (c : Sheet) (references : List Float) → r ≡ Accepted card → sheetOf s card ≡ c → referencesOf s card ≡ references → afterOpening s r ≡ fitText c references
+pub read-as : (s : List ℕ) (r : Opened) (card : Card) (c : Sheet) (references : List Float) → r ≡ Accepted card → sheetOf s card ≡ c → referencesOf s card ≡ references →
+    afterOpening s r ≡ fitText c references
 unfolding afterOpening
 read-as s r card c references e p q = rw (e, p, q)
 
@@ -189,6 +191,7 @@ module _ (w : ℕ) (f : ℕ → List ℕ) (wide : (i : ℕ) → length (f i) ≡
     where
       first : (w k : ℕ) → w * 0 + k ≡ k
       first w k = omega arith
+
       here : (i : ℕ) → i ≡ i + 0
       here i = omega arith
   rows-byte (suc n) i (suc j) k post h g =
@@ -200,6 +203,7 @@ module _ (w : ℕ) (f : ℕ → List ℕ) (wide : (i : ℕ) → length (f i) ≡
     where
       past : (l b k t : ℕ) → t ≡ b + w → l ≡ w → t + k ≡ l + (b + k)
       past l b k t e f = omega arith
+
       next : (i j : ℕ) → suc i + j ≡ i + suc j
       next i j = omega arith
 
@@ -239,13 +243,17 @@ list-is : {A : Type 0} (d : A) (f : ℕ → A) (l : List A) (n : ℕ) → n ≡ 
 list-is d f l n e same =
     ext-getD d (listOf f n) l (list-length f n ∙ e) (λ i h. let g : i < n = omega (arith, list-length f n) in list-at d f n i g ∙ same i (omega arith))
 
+bits-back : (l : List Float) → ((i : ℕ) → T (fits binary32 (getD l i nan))) → (i : ℕ) → let n = toBits binary32 (getD l i nan) in
+    n % 256 + n / 256 % 256 * 256 + (n / 65536 % 256 + n / 65536 / 256 % 256 * 256) * 65536 ≡ n
+bits-back l single i = u32-back (toBits binary32 (getD l i nan)) (toBits-lt binary32 (getD l i nan) (single i))
+
 f32-back : (v : Float) → T (fits binary32 v) → (n : ℕ) → n ≡ toBits binary32 v → ofBits binary32 n ≡ v
 f32-back v h n e = ap (ofBits binary32) e ∙ ofBits-toBits binary32 v h
 
 module _ (l : List Float) (single : (i : ℕ) → T (fits binary32 (getD l i nan))) (s : List ℕ) (at : ℕ) where
   float-back : (i : ℕ) → u32At (floatAtBytes l i) 0 ≡ toBits binary32 (getD l i nan)
   unfolding u32At u16At floatAtBytes f32Bytes u32Bytes u16Bytes
-  float-back i = u32-back (toBits binary32 (getD l i nan)) (toBits-lt binary32 (getD l i nan) (single i))
+  float-back i = bits-back l single i
 
   floats-are : Lies 4 (floatAtBytes l) (length l) s at → (n : ℕ) → n ≡ length l → listOf (floatAt s at) n ≡ l
   unfolding f32At
@@ -279,9 +287,6 @@ module _ (f : ℕ → List ℕ) (raw : List Float) (single : (i : ℕ) → T (fi
 -- ---- what a record's bytes say
 
 module _ (raw : List Float) (single : (i : ℕ) → T (fits binary32 (getD raw i nan))) where
-  bits-back : (i : ℕ) → let n = toBits binary32 (getD raw i nan) in n % 256 + n / 256 % 256 * 256 + (n / 65536 % 256 + n / 65536 / 256 % 256 * 256) * 65536 ≡ n
-  bits-back i = u32-back (toBits binary32 (getD raw i nan)) (toBits-lt binary32 (getD raw i nan) (single i))
-
   first : (j : ℕ) → toBits binary32 (getD raw (3 * j) nan) ≡ toBits binary32 (getD raw (3 * j + 0) nan)
   first j = ap (λ (m : ℕ). toBits binary32 (getD raw m nan)) (none j)
     where
@@ -290,16 +295,16 @@ module _ (raw : List Float) (single : (i : ℕ) → T (fits binary32 (getD raw i
 
   module-colours : (xs ys : List ℤ) (j r : ℕ) → r < 3 → u32At (moduleBytes xs ys raw j) (4 + 4 * r) ≡ toBits binary32 (getD raw (3 * j + r) nan)
   unfolding u32At u16At moduleBytes colourBytes i16Bytes f32Bytes u32Bytes u16Bytes
-  module-colours xs ys j zero h = bits-back (3 * j) ∙ first j
-  module-colours xs ys j (suc zero) h = bits-back (3 * j + 1)
-  module-colours xs ys j (suc (suc zero)) h = bits-back (3 * j + 2)
+  module-colours xs ys j zero h = bits-back raw single (3 * j) ∙ first j
+  module-colours xs ys j (suc zero) h = bits-back raw single (3 * j + 1)
+  module-colours xs ys j (suc (suc zero)) h = bits-back raw single (3 * j + 2)
   module-colours xs ys j (suc (suc (suc r))) h = absurd (omega arith)
 
   cell-colours : (cxs cys : List ℕ) (j r : ℕ) → r < 3 → u32At (cellBytes cxs cys raw j) (4 + 4 * r) ≡ toBits binary32 (getD raw (3 * j + r) nan)
   unfolding u32At u16At cellBytes colourBytes f32Bytes u32Bytes u16Bytes
-  cell-colours cxs cys j zero h = bits-back (3 * j) ∙ first j
-  cell-colours cxs cys j (suc zero) h = bits-back (3 * j + 1)
-  cell-colours cxs cys j (suc (suc zero)) h = bits-back (3 * j + 2)
+  cell-colours cxs cys j zero h = bits-back raw single (3 * j) ∙ first j
+  cell-colours cxs cys j (suc zero) h = bits-back raw single (3 * j + 1)
+  cell-colours cxs cys j (suc (suc zero)) h = bits-back raw single (3 * j + 2)
   cell-colours cxs cys j (suc (suc (suc r))) h = absurd (omega arith)
 
 module-x : (xs ys : List ℤ) (raw : List Float) (j : ℕ) → mag (getD xs j (pos 0)) < 32768 → u16At (moduleBytes xs ys raw j) 0 ≡ bitsOf (getD xs j (pos 0))
@@ -336,7 +341,10 @@ settings-wide st = refl
 
 -- ---- the file of a card
 
-is-laid-out : (c : Sheet) (references : List Float) → cardFile c references ≡ laidOut (settingsBytes (c .settings)) (floatsBytes (c .palette)) (floatsBytes references) (modulesBytes c) (cellsBytes c)
+abbrev written : Sheet → List Float → List ℕ
+written c references = laidOut (settingsBytes (c .settings)) (floatsBytes (c .palette)) (floatsBytes references) (modulesBytes c) (cellsBytes c)
+
+is-laid-out : (c : Sheet) (references : List Float) → cardFile c references ≡ written c references
 unfolding cardFile sections row
 is-laid-out c references = refl
 
@@ -353,18 +361,14 @@ fourth t a b c d e = third t a b c d e ∙ sym (append-assoc ((t ++ a) ++ b) c (
 fifth : (t a b c d e : List ℕ) → t ++ (a ++ (b ++ (c ++ (d ++ (e ++ []))))) ≡ ((((t ++ a) ++ b) ++ c) ++ d) ++ (e ++ [])
 fifth t a b c d e = fourth t a b c d e ∙ sym (append-assoc (((t ++ a) ++ b) ++ c) d (e ++ []))
 
-module _ (c : Sheet) (references : List Float) where
-  long-palette : length (floatsBytes (c .palette)) ≡ 4 * length (c .palette)
-  long-palette = rows-length 4 (floatAtBytes (c .palette)) (float-wide (c .palette)) (length (c .palette)) 0
+long-floats : (l : List Float) → length (floatsBytes l) ≡ 4 * length l
+long-floats l = rows-length 4 (floatAtBytes l) (float-wide l) (length l) 0
 
-  long-references : length (floatsBytes references) ≡ 4 * length references
-  long-references = rows-length 4 (floatAtBytes references) (float-wide references) (length references) 0
+long-modules : (c : Sheet) → length (modulesBytes c) ≡ 16 * length (c .xs)
+long-modules c = rows-length 16 (moduleBytes (c .xs) (c .ys) (c .raw)) (module-wide (c .xs) (c .ys) (c .raw)) (length (c .xs)) 0
 
-  long-modules : length (modulesBytes c) ≡ 16 * length (c .xs)
-  long-modules = rows-length 16 (moduleBytes (c .xs) (c .ys) (c .raw)) (module-wide (c .xs) (c .ys) (c .raw)) (length (c .xs)) 0
-
-  long-cells : length (cellsBytes c) ≡ 16 * length (c .cxs)
-  long-cells = rows-length 16 (cellBytes (c .cxs) (c .cys) (c .craw)) (cell-wide (c .cxs) (c .cys) (c .craw)) (length (c .cxs)) 0
+long-cells : (c : Sheet) → length (cellsBytes c) ≡ 16 * length (c .cxs)
+long-cells c = rows-length 16 (cellBytes (c .cxs) (c .cys) (c .craw)) (cell-wide (c .cxs) (c .cys) (c .craw)) (length (c .cxs)) 0
 
 -- ---- every number of a file is a byte
 
@@ -422,7 +426,8 @@ directory-bytes : (at : ℕ) (l : List (List ℕ)) → Bytes (directory at l)
 unfolding directory
 directory-bytes at [] = no-bytes
 directory-bytes at (a ∷ l) =
-    both-bytes (u32Bytes at) (u32Bytes (length a) ++ directory (at + length a) l) (u32-bytes at) (both-bytes (u32Bytes (length a)) (directory (at + length a) l) (u32-bytes (length a)) (directory-bytes (at + length a) l))
+    both-bytes (u32Bytes at) (u32Bytes (length a) ++ directory (at + length a) l) (u32-bytes at)
+    (both-bytes (u32Bytes (length a)) (directory (at + length a) l) (u32-bytes (length a)) (directory-bytes (at + length a) l))
 
 four-bytes : (v w x y : ℕ) (l : List ℕ) → v < 256 → w < 256 → x < 256 → y < 256 → Bytes l → Bytes (v ∷ w ∷ x ∷ y ∷ l)
 four-bytes v w x y l a b c d p = byte-first v (w ∷ x ∷ y ∷ l) a (byte-first w (x ∷ y ∷ l) b (byte-first x (y ∷ l) c (byte-first y l d p)))
@@ -440,36 +445,26 @@ joined-bytes t a b c d e p q r s u v =
 file-bytes : (c : Sheet) (references : List Float) → Fits c references → Bytes (cardFile c references)
 unfolding cardFile sections row
 file-bytes c references f =
-    let files = settingsBytes (c .settings) ∷ floatsBytes (c .palette) ∷ floatsBytes references ∷ modulesBytes c ∷ cellsBytes c ∷ [] in
-    joined-bytes (directory 40 files) (settingsBytes (c .settings)) (floatsBytes (c .palette)) (floatsBytes references) (modulesBytes c) (cellsBytes c) (directory-bytes 40 files)
+    let parts = settingsBytes (c .settings) ∷ floatsBytes (c .palette) ∷ floatsBytes references ∷ modulesBytes c ∷ cellsBytes c ∷ [] in
+    joined-bytes (directory 40 parts) (settingsBytes (c .settings)) (floatsBytes (c .palette)) (floatsBytes references) (modulesBytes c) (cellsBytes c) (directory-bytes 40 parts)
     (settings-bytes (c .settings) (f .version) (f .hues) (f .size) (omega arith)) (rows-bytes (floatAtBytes (c .palette)) (float-bytes (c .palette)) (length (c .palette)) 0)
     (rows-bytes (floatAtBytes references) (float-bytes references) (length references) 0) (rows-bytes (moduleBytes (c .xs) (c .ys) (c .raw)) (module-bytes (c .xs) (c .ys) (c .raw)) (length (c .xs)) 0)
     (rows-bytes (cellBytes (c .cxs) (c .cys) (c .craw)) (cell-bytes (c .cxs) (c .cys) (c .craw)) (length (c .cxs)) 0)
 
 -- ---- it is opened
 
-sheet-same : (c : Sheet) (palette : List Float) (xs ys : List ℤ) (raw : List Float) (cxs cys : List ℕ) (craw : List Float) → palette ≡ c .palette → xs ≡ c .xs → ys ≡ c .ys → raw ≡ c .raw → cxs ≡ c .cxs → cys ≡ c .cys →
-    craw ≡ c .craw → sheet (c .settings) palette xs ys raw cxs cys craw ≡ c
-sheet-same c palette xs ys raw cxs cys craw e f g h k l m = rw (e, f, g, h, k, l, m)
-
-abbrev written : Sheet → List Float → List ℕ
-written c references = laidOut (settingsBytes (c .settings)) (floatsBytes (c .palette)) (floatsBytes references) (modulesBytes c) (cellsBytes c)
-
-abbrev header : Sheet → List Float → List ℕ
-header c references = directory 40 (settingsBytes (c .settings) ∷ floatsBytes (c .palette) ∷ floatsBytes references ∷ modulesBytes c ∷ cellsBytes c ∷ [])
-
 module _ (c : Sheet) (references : List Float) (f : Fits c references) where
   long-all : 40 + length (settingsBytes (c .settings)) + length (floatsBytes (c .palette)) + length (floatsBytes references) + length (modulesBytes c) + length (cellsBytes c) ≤ 16384
-  long-all = omega (arith, settings-wide (c .settings), long-palette c references, long-references c references, long-modules c references, long-cells c references)
+  long-all = omega (arith, settings-wide (c .settings), long-floats (c .palette), long-floats references, long-modules c, long-cells c)
 
   the-pairs : Pairs (written c references) 8 (4 * length (c .palette)) (4 * length references) (16 * length (c .xs)) (16 * length (c .cxs))
   the-pairs =
       let p = pairs (settingsBytes (c .settings)) (floatsBytes (c .palette)) (floatsBytes references) (modulesBytes c) (cellsBytes c) long-all in
       let s = settings-wide (c .settings) in
-      let l1 = long-palette c references in
-      let l2 = long-references c references in
-      let l3 = long-modules c references in
-      let l4 = long-cells c references in
+      let l1 = long-floats (c .palette) in
+      let l2 = long-floats references in
+      let l3 = long-modules c in
+      let l4 = long-cells c in
       record {
         offset-0 = p .offset-0;
         offset-1 = omega arith;
@@ -496,6 +491,7 @@ module _ (c : Sheet) (references : List Float) (f : Fits c references) where
     where
       eight : (n : ℕ) → n % 8 ≡ 0 → 4 * n ≡ 32 * (n / 8)
       eight n h = omega arith
+
       thirty-two : (q : ℕ) → 32 * q % 32 ≡ 0
       thirty-two q = omega arith
 
@@ -522,6 +518,13 @@ module _ (c : Sheet) (references : List Float) (f : Fits c references) where
 
 -- ---- and read as the card
 
+sheet-same : (c : Sheet) (palette : List Float) (xs ys : List ℤ) (raw : List Float) (cxs cys : List ℕ) (craw : List Float) →
+    palette ≡ c .palette → xs ≡ c .xs → ys ≡ c .ys → raw ≡ c .raw → cxs ≡ c .cxs → cys ≡ c .cys → craw ≡ c .craw → sheet (c .settings) palette xs ys raw cxs cys craw ≡ c
+sheet-same c palette xs ys raw cxs cys craw e f g h k l m = rw (e, f, g, h, k, l, m)
+
+abbrev header : Sheet → List Float → List ℕ
+header c references = directory 40 (settingsBytes (c .settings) ∷ floatsBytes (c .palette) ∷ floatsBytes references ∷ modulesBytes c ∷ cellsBytes c ∷ [])
+
 module _ (c : Sheet) (references : List Float) where
   abbrev to-palette : List ℕ
   to-palette = header c references ++ settingsBytes (c .settings)
@@ -536,16 +539,17 @@ module _ (c : Sheet) (references : List Float) where
   to-cells = to-modules ++ modulesBytes c
 
   palette-at : length to-palette ≡ 48
-  palette-at = omega (arith, length-append (header c references) (settingsBytes (c .settings)), forty (settingsBytes (c .settings)) (floatsBytes (c .palette)) (floatsBytes references) (modulesBytes c) (cellsBytes c), settings-wide (c .settings))
+  palette-at =
+      omega (arith, length-append (header c references) (settingsBytes (c .settings)), settings-wide (c .settings), forty (settingsBytes (c .settings)) (floatsBytes (c .palette)) (floatsBytes references) (modulesBytes c) (cellsBytes c))
 
   references-at : length to-references ≡ 48 + 4 * length (c .palette)
-  references-at = omega (arith, length-append to-palette (floatsBytes (c .palette)), palette-at, long-palette c references)
+  references-at = omega (arith, length-append to-palette (floatsBytes (c .palette)), palette-at, long-floats (c .palette))
 
   modules-at : length to-modules ≡ 48 + 4 * length (c .palette) + 4 * length references
-  modules-at = omega (arith, length-append to-references (floatsBytes references), references-at, long-references c references)
+  modules-at = omega (arith, length-append to-references (floatsBytes references), references-at, long-floats references)
 
   cells-at : length to-cells ≡ 48 + 4 * length (c .palette) + 4 * length references + 16 * length (c .xs)
-  cells-at = omega (arith, length-append to-modules (modulesBytes c), modules-at, long-modules c references)
+  cells-at = omega (arith, length-append to-modules (modulesBytes c), modules-at, long-modules c)
 
   palette-lies : Lies 4 (floatAtBytes (c .palette)) (length (c .palette)) (written c references) 48
   palette-lies =

@@ -105,12 +105,9 @@ theCase =
 -- "fit 4 0 0", "L 0 0 41A00000 1", "L 1 0 C1A00000 1", each with its line feed, in ASCII
 abbrev pub theText : List ℕ
 theText =
-    row (
-      (102 ∷ 105 ∷ 116 ∷ 32 ∷ 52 ∷ 32 ∷ 48 ∷ 32 ∷ 48 ∷ 10 ∷ []) ∷
-      (76 ∷ 32 ∷ 48 ∷ 32 ∷ 48 ∷ 32 ∷ 52 ∷ 49 ∷ 65 ∷ 48 ∷ 48 ∷ 48 ∷ 48 ∷ 48 ∷ 32 ∷ 49 ∷ 10 ∷ []) ∷
-      (76 ∷ 32 ∷ 49 ∷ 32 ∷ 48 ∷ 32 ∷ 67 ∷ 49 ∷ 65 ∷ 48 ∷ 48 ∷ 48 ∷ 48 ∷ 48 ∷ 32 ∷ 49 ∷ 10 ∷ []) ∷
-      []
-    )
+    (102 ∷ 105 ∷ 116 ∷ 32 ∷ 52 ∷ 32 ∷ 48 ∷ 32 ∷ 48 ∷ 10 ∷ []) ++
+    (76 ∷ 32 ∷ 48 ∷ 32 ∷ 48 ∷ 32 ∷ 52 ∷ 49 ∷ 65 ∷ 48 ∷ 48 ∷ 48 ∷ 48 ∷ 48 ∷ 32 ∷ 49 ∷ 10 ∷ []) ++
+    (76 ∷ 32 ∷ 49 ∷ 32 ∷ 48 ∷ 32 ∷ 67 ∷ 49 ∷ 65 ∷ 48 ∷ 48 ∷ 48 ∷ 48 ∷ 48 ∷ 32 ∷ 49 ∷ 10 ∷ [])
 
 -- its file is read as its text
 abbrev pub CaseIsRead : Type 0
@@ -118,8 +115,8 @@ CaseIsRead = cardText (cardFile theCase []) ≡ theText
 
 -- ---- every card
 
--- a card that a file has room for: a side of at most 64, the other settings of their types, the mask of three bits; as many palette numbers as the hues ask for, eight a reference, two positions and three colour
--- components a module and a cell; at most 16,384 bytes
+-- a card that a file has room for: a side of at most 64, the other settings of their types, the mask of three bits; as many palette numbers as the hues ask for, eight a reference, two positions
+-- and three colour components a module and a cell; at most 16,384 bytes
 pub record Fits (c : Sheet) (references : List Float) : Type 0 where
   pub side : c .settings .side ≤ 64
   pub version : c .settings .version < 256
