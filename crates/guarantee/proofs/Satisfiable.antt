@@ -1,6 +1,6 @@
 -- The guarantee's premises can be met, at their edges too: document 01's own case, a card with chroma on, and cards at the edge of the margin and of half a sigma. antt computes each premise. Assumes nothing.
 use mathlib.Core.Path.{_≡_, refl}
-use mathlib.Core.Bool.{Bool, true, xor, _&&_}
+use mathlib.Core.Bool.{Bool, true, false, xor, _&&_}
 use mathlib.Core.List.{List, [], _∷_}
 use Prim.Native.Nat.{ℕ, zero, suc, _*_, _<_}
 use native.Mathlib.Omega.{arith}
@@ -104,6 +104,10 @@ pub first-three : (P : ℕ → Type 0) → P 0 → P 1 → P 2 → (i : ℕ) →
 first-three P p q r zero h = p
 first-three P p q r (suc i) h = first-two (λ j. P (suc j)) q r i (omega arith)
 
+-- whatever a premise asks where chroma is carried, of a module that carries none or of a card with chroma off
+none : {A : Type 0} → false ≡ true → A
+none e = let z : _≡_ {A = ℕ} 0 1 = cc in absurd (omega arith)
+
 -- all that the premises are computed by: to unfold this name is to unfold each of them
 unfoldable pub computed : Bool
 unfolding add sub mul div neg lt le eq round isNan fraction abs max min clamp refusal decided someOf anyUp turns forUp stats.sentencesOf badHues shortPalette badNumbers wild badNoiseNumbers wildFigure badSigmas badLevelSigma levelL hueAb paletteLab inMargin levelsFit levelFits colourFits sigmasFit darkClear lightClear lumaLlr chromaClear chromaOn hueClear apart near far otherFar sigmaAbAt between drawOf drawSentences badSide badCellSize badDrawLengths shortBits shortHues chromaLength symbolBits log2 halvings chromaEntries shape placement modulePlacement badCounts badModules badPositions misplaced outside badCell levelAt gridLevel ringLevel xor isOne bitOf lumaMask maskRules drawnHues hueAt pushBit cellHue ringHue chromaMaskApply chromaRotation chromaSymbolToHue grayInverse xorShifts unitModel moduleColour cellColour centre cellCentre ofInt linearAt mixed unshaded affineRow basisAt normalised termsUsed addTerm isHeld holdGain leastGain deshade toSingle linearToXyz xyzToLab lightness labF line cbrtOf digits iroot rootOfUnits mag scoredOf scoring.sentencesOf badLengths badModuleLengths badCellLengths shortChroma badInputs badCorrected wildLinear badModel badShape badTerms badModelSide notFiniteModel notFiniteAffine notFiniteGains notFiniteFlares toUnsigned writeModule lumaScore weighted weighed reliability closer distance weight sqrtOf chromaWritten ringChroma writeCell writeRing writeEntry putScore chromaScore putLikelihood hueLogLikelihood denominator bitLlr bettered bitOfHue symbolBit unmaskedHue hueToChromaSymbol gray chromaMaskRemove refineOf refinement.sentencesOf shortSlices wildNumbers refinedOf refined refineAt placeAt unmaskLumaOf unmaskSentences badLumaLengths unmaskAt maskedAt readListOf readSentences halfSigma halfApart hi lo paletteColour carriesChroma
@@ -152,8 +156,8 @@ plain-readable =
       accepted = record { scoring = refl; refinement = refl; unmasking = refl; luma = refl; chroma = refl };
       module-near =
           first-two (NearModule plain plainCard)
-          (record { hue = 0; below = omega arith; own = λ e. cc; near = refl })
-          (record { hue = 0; below = omega arith; own = λ e. cc; near = refl });
+          (record { hue = 0; below = omega arith; own = none; near = refl })
+          (record { hue = 0; below = omega arith; own = none; near = refl });
       cell-near = λ on. λ j h. absurd (omega arith);
     }
 
@@ -274,9 +278,9 @@ wide-readable =
       accepted = record { scoring = refl; refinement = refl; unmasking = refl; luma = refl; chroma = refl };
       module-near =
           first-three (NearModule (edge 2) wideCard)
-          (record { hue = 1; below = omega arith; own = λ e. cc; near = refl })
-          (record { hue = 1; below = omega arith; own = λ e. cc; near = refl })
-          (record { hue = 1; below = omega arith; own = λ e. cc; near = refl });
+          (record { hue = 1; below = omega arith; own = none; near = refl })
+          (record { hue = 1; below = omega arith; own = none; near = refl })
+          (record { hue = 1; below = omega arith; own = none; near = refl });
       cell-near = λ on. first-one (NearCell (edge 2) wideCard) (record { level = 0; below = omega arith; near = refl });
     }
 
@@ -292,9 +296,9 @@ wide-other-readable =
       accepted = record { scoring = refl; refinement = refl; unmasking = refl; luma = refl; chroma = refl };
       module-near =
           first-three (NearModule (edge 2) wideOther)
-          (record { hue = 1; below = omega arith; own = λ e. cc; near = refl })
-          (record { hue = 1; below = omega arith; own = λ e. cc; near = refl })
-          (record { hue = 1; below = omega arith; own = λ e. cc; near = refl });
+          (record { hue = 1; below = omega arith; own = none; near = refl })
+          (record { hue = 1; below = omega arith; own = none; near = refl })
+          (record { hue = 1; below = omega arith; own = none; near = refl });
       cell-near = λ on. first-one (NearCell (edge 2) wideOther) (record { level = 1; below = omega arith; near = refl });
     }
 
@@ -317,8 +321,8 @@ narrow-readable =
       accepted = record { scoring = refl; refinement = refl; unmasking = refl; luma = refl; chroma = refl };
       module-near =
           first-three (NearModule (edge 1) narrowCard)
-          (record { hue = 1; below = omega arith; own = λ e. cc; near = refl })
-          (record { hue = 1; below = omega arith; own = λ e. cc; near = refl })
+          (record { hue = 1; below = omega arith; own = λ e. refl; near = refl })
+          (record { hue = 1; below = omega arith; own = λ e. refl; near = refl })
           (record { hue = 1; below = omega arith; own = λ e. refl; near = refl });
       cell-near = λ on. first-one (NearCell (edge 1) narrowCard) (record { level = 0; below = omega arith; near = refl });
     }
@@ -335,8 +339,8 @@ narrow-other-readable =
       accepted = record { scoring = refl; refinement = refl; unmasking = refl; luma = refl; chroma = refl };
       module-near =
           first-three (NearModule (edge 1) narrowOther)
-          (record { hue = 1; below = omega arith; own = λ e. cc; near = refl })
-          (record { hue = 1; below = omega arith; own = λ e. cc; near = refl })
+          (record { hue = 1; below = omega arith; own = λ e. refl; near = refl })
+          (record { hue = 1; below = omega arith; own = λ e. refl; near = refl })
           (record { hue = 1; below = omega arith; own = λ e. refl; near = refl });
       cell-near = λ on. first-one (NearCell (edge 1) narrowOther) (record { level = 1; below = omega arith; near = refl });
     }
@@ -387,9 +391,9 @@ lone-readable =
       accepted = record { scoring = refl; refinement = refl; unmasking = refl; luma = refl; chroma = refl };
       module-near =
           first-two (NearModule lone loneCard)
-          (record { hue = 0; below = omega arith; own = λ e. cc; near = refl })
-          (record { hue = 0; below = omega arith; own = λ e. cc; near = refl });
-      cell-near = λ on. let z : _≡_ {A = ℕ} 0 1 = cc in absurd (omega arith);
+          (record { hue = 0; below = omega arith; own = none; near = refl })
+          (record { hue = 0; below = omega arith; own = none; near = refl });
+      cell-near = none;
     }
 
 pub lone-drawn : bitsDrawn lone loneCard ≡ 0 ∷ 0 ∷ []
