@@ -263,6 +263,10 @@ pub edge-margin : (size : ℕ) → InMargin (edge size)
 unfolding computed
 edge-margin size = refl
 
+-- linear (3, 0.5, 1.25), in Lab near (103, 86, -7): within half a sigma of the light colour of hue 0
+abbrev rose : List Float → List Float
+rose l = n 3 ∷ fraction 1 2 ∷ fraction 5 4 ∷ l
+
 -- Cell size 2, two cards whose luma bits all differ. No module carries chroma, so each is near a colour of hue 1 whatever hue stands at its place of the hue list: 7, which was lent.
 abbrev pub wideCard : Card
 wideCard = card 3 1 (1 ∷ 0 ∷ 1 ∷ 0 ∷ []) (black (white (white []))) (black [])
@@ -306,6 +310,28 @@ pub wide-other-drawn : bitsDrawn (edge 2) wideOther ≡ 0 ∷ 1 ∷ 0 ∷ 0 ∷ 
 unfolding computed bitsDrawn
 wide-other-drawn = refl
 
+-- a third card of cell size 2, whose bits are those of `wideCard` but for the cell's
+abbrev pub wideCell : Card
+wideCell = card 3 1 (1 ∷ 0 ∷ 1 ∷ 1 ∷ []) (black (white (white []))) (rose [])
+
+pub wide-cell-readable : Readable (edge 2) wideCell
+unfolding computed
+wide-cell-readable =
+    record {
+      drawing = refl;
+      accepted = record { scoring = refl; refinement = refl; unmasking = refl; luma = refl; chroma = refl };
+      module-near =
+          first-three (NearModule (edge 2) wideCell)
+          (record { hue = 1; below = omega arith; own = none; near = refl })
+          (record { hue = 1; below = omega arith; own = none; near = refl })
+          (record { hue = 1; below = omega arith; own = none; near = refl });
+      cell-near = λ on. first-one (NearCell (edge 2) wideCell) (record { level = 1; below = omega arith; near = refl });
+    }
+
+pub wide-cell-drawn : bitsDrawn (edge 2) wideCell ≡ 1 ∷ 0 ∷ 1 ∷ 1 ∷ []
+unfolding computed bitsDrawn
+wide-cell-drawn = refl
+
 -- Cell size 1, two cards likewise: the ring module carries chroma, so it is near the colour of the hue that it is drawn in, which is 1.
 abbrev pub narrowCard : Card
 narrowCard = card 3 2 (1 ∷ 0 ∷ 1 ∷ 0 ∷ 1 ∷ []) (black (white (white []))) (black [])
@@ -348,6 +374,28 @@ narrow-other-readable =
 pub narrow-other-drawn : bitsDrawn (edge 1) narrowOther ≡ 0 ∷ 1 ∷ 0 ∷ 0 ∷ 1 ∷ []
 unfolding computed bitsDrawn
 narrow-other-drawn = refl
+
+-- a third card of cell size 1, whose bits are those of `narrowCard` but for the ring module's chroma bit. The grid modules are near colours of hue 1, and the ring module, which carries chroma, is drawn in hue 0
+abbrev pub narrowRing : Card
+narrowRing = card 3 2 (1 ∷ 0 ∷ 1 ∷ 0 ∷ 0 ∷ []) (black (white (rose []))) (black [])
+
+pub narrow-ring-readable : Readable (edge 1) narrowRing
+unfolding computed
+narrow-ring-readable =
+    record {
+      drawing = refl;
+      accepted = record { scoring = refl; refinement = refl; unmasking = refl; luma = refl; chroma = refl };
+      module-near =
+          first-three (NearModule (edge 1) narrowRing)
+          (record { hue = 1; below = omega arith; own = none; near = refl })
+          (record { hue = 1; below = omega arith; own = none; near = refl })
+          (record { hue = 0; below = omega arith; own = λ e. refl; near = refl });
+      cell-near = λ on. first-one (NearCell (edge 1) narrowRing) (record { level = 0; below = omega arith; near = refl });
+    }
+
+pub narrow-ring-drawn : bitsDrawn (edge 1) narrowRing ≡ 1 ∷ 0 ∷ 1 ∷ 0 ∷ 0 ∷ []
+unfolding computed bitsDrawn
+narrow-ring-drawn = refl
 
 -- ---- one hue: chroma is off, so the hue point may be anywhere, the ring module has no hue of its own at cell size 1, and the cell, which is red, is near no palette colour
 

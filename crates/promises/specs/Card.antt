@@ -90,6 +90,9 @@ pub record Met : Type 0 where
   -- and of cell size 1, where the ring module carries chroma
   pub narrow : AtEdges 1 (1 ∷ 0 ∷ 1 ∷ 0 ∷ 1 ∷ []) (0 ∷ 1 ∷ 0 ∷ 0 ∷ 1 ∷ [])
   pub narrow-ring : carriesChroma (narrow .setting) 2 ≡ true
+  -- and of each of the two settings a card that is drawn from the first one's bits but for one chroma bit: the cell's, and the ring module's
+  pub wide-cell : Meets (wide .setting) (1 ∷ 0 ∷ 1 ∷ 1 ∷ [])
+  pub narrow-hue : Meets (narrow .setting) (1 ∷ 0 ∷ 1 ∷ 0 ∷ 0 ∷ [])
 
 -- every row of the table: what the definitions give is what is said
 abbrev pub Worked : Type 0

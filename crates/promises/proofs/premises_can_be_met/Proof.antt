@@ -141,6 +141,8 @@ returns c =
       wide-free = first-three (λ i. carriesChroma (edge 2) i ≡ false) refl refl refl;
       narrow = narrow;
       narrow-ring = refl;
+      wide-cell = meets (edge 2) cards.wideCell (edge-singles 2) (edge-margin 2) cards.wide-cell-readable cards.wide-cell-drawn;
+      narrow-hue = meets (edge 1) cards.narrowRing (edge-singles 1) (edge-margin 1) cards.narrow-ring-readable cards.narrow-ring-drawn;
     }
 
 pub premises-can-be-met-spec : {M : Type 1} → statement M
