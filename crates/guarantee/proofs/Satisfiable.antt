@@ -1,4 +1,4 @@
--- The guarantee's premises can be met, at their edges too: document 01's own case, a card with chroma on, and cards at the edge of the margin and of half a sigma. antt computes each premise. Assumes nothing.
+-- The guarantee's premises can be met: document 01's own case, a card with chroma on, cards at the edge of the margin and of half a sigma, and one of one hue with a cell. antt computes each premise. Assumes nothing.
 use mathlib.Core.Path.{_≡_, refl}
 use mathlib.Core.Bool.{Bool, true, false, xor, _&&_}
 use mathlib.Core.List.{List, [], _∷_}

@@ -1,10 +1,12 @@
 -- Whole cards (crate `guarantee`): that the read guarantee speaks of cards that exist and of what the calls leave, and that the definitions give the worked examples. Definitions only.
 use mathlib.Core.Path.{_≡_}
-use mathlib.Core.Bool.{Bool, true, false}
+use mathlib.Core.Bool.{Bool, true, false, _&&_, _||_}
 use mathlib.Core.List.{List, [], _∷_, _++_, map}
-use Prim.Native.Nat.{ℕ, _<_}
+use Prim.Native.Nat.{ℕ, _+_, _*_, _<_}
+use lib.Dec.{eqb}
 use lib.ListN.{length, take, getD}
-use lib.Ieee.{Float, neg}
+use lib.Ieee.{Float, binary32, neg}
+use Rattle.floatlaws.specs.Value.{hi, lo}
 use Rattle.float.specs.Select.{abs}
 use Rattle.limits.specs.Chroma.{chromaOn}
 use Rattle.color.specs.declared.Lab.{Lab}
@@ -20,6 +22,7 @@ use Rattle.modulate.specs.Score.{unmaskLumaOf}
 use Rattle.modulate.specs.Read.{readListOf}
 use Rattle.demod.specs.Call as scoring
 use Rattle.refine.specs.Calls as refinement
+use Rattle.guarantee.specs.Within.{halfApart}
 use Rattle.guarantee.specs.Card.{Setting, Card, modules, chromaScores, drawnCard, toScore, bitsDrawn, bitsRead, moduleLab, cellLab, paletteColour, carriesChroma}
 use Rattle.guarantee.specs.Guarantee.{Singles, InMargin, NearModule, NearCell, Readable}
 use Rattle.guarantee.specs.Table.{Row, table}
@@ -50,11 +53,18 @@ pub record AtMargin (s : Setting) (h : ℕ) : Type 0 where
   pub light : lumaLlr (s .noise) (paletteColour s 1 h .l ⊖ s .noise .«sigma_l» ⊘ whole 2) ≡ neg (whole 13)
   pub off : (level : ℕ) → level < 2 → OffHuePoint s h level
 
--- the colour p is half a sigma from the palette colour c in L, in a and in b
+-- x and y, both finite, differ by exactly s/2: within it (`halfApart` of `guarantee`), and at its bound from one side or the other
+unfoldable pub halfOff : Float → Float → Float → Bool
+halfOff s x y =
+    halfApart s x y
+    && (eqb (2 * (hi binary32 x + lo binary32 y) + lo binary32 s) (2 * (hi binary32 y + lo binary32 x) + hi binary32 s)
+    || eqb (2 * (hi binary32 y + lo binary32 x) + lo binary32 s) (2 * (hi binary32 x + lo binary32 y) + hi binary32 s))
+
+-- the colour p is exactly half a sigma from the palette colour c in L, in a and in b
 pub record AtCorner (n : ChannelStats) (p c : Lab) : Type 0 where
-  pub l : abs (p .l ⊖ c .l) ≡ n .«sigma_l» ⊘ whole 2
-  pub a : abs (p .a ⊖ c .a) ≡ sigmaAbAt n (c .l) ⊘ whole 2
-  pub b : abs (p .b ⊖ c .b) ≡ sigmaAbAt n (c .l) ⊘ whole 2
+  pub l : halfOff (n .«sigma_l») (p .l) (c .l) ≡ true
+  pub a : halfOff (sigmaAbAt n (c .l)) (p .a) (c .a) ≡ true
+  pub b : halfOff (sigmaAbAt n (c .l)) (p .b) (c .b) ≡ true
 
 -- every module is so from the colour of its level and of hue 1, and every cell from the colour of hue 1 and one level
 pub record AtCorners (s : Setting) (c : Card) : Type 0 where
@@ -79,7 +89,7 @@ pub record Met : Type 0 where
   pub coloured : MetBy true (1 ∷ 0 ∷ 1 ∷ 0 ∷ [])
   pub has-cell : 0 < length (coloured .setting .cxs)
   pub has-ring : carriesChroma (coloured .setting) 1 ≡ true
-  -- with chroma off, of a grid module, a ring module, and a cell of any colour
+  -- with chroma off, of a grid module, a ring module and a cell
   pub lone : MetBy false (0 ∷ 0 ∷ [])
   pub lone-cell : 0 < length (lone .setting .cxs)
   pub lone-ring : lone .setting .layout .grid < modules (lone .setting)

@@ -11,7 +11,7 @@ use Rattle.guarantee.specs.Guarantee.{Singles, InMargin, Readable}
 use Rattle.guarantee.proofs.Guarantee.{read-as-drawn}
 use Rattle.guarantee.proofs.Satisfiable as cards
 use Rattle.guarantee.proofs.Satisfiable.{computed, first-one, first-two, first-three, edge, edge-singles, edge-margin}
-use Rattle.promises.specs.Card.{Meets, MetBy, OffHuePoint, AtMargin, AtCorners, AtEdges}
+use Rattle.promises.specs.Card.{Meets, MetBy, halfOff, OffHuePoint, AtMargin, AtCorners, AtEdges}
 use Rattle.promises.proofs.premises_can_be_met.Statement.{statement}
 use Rattle.promises.proofs.premises_can_be_met.Tie as tie
 
@@ -66,7 +66,7 @@ margin-met size =
     })
 
 wideCard-corners : AtCorners (edge 2) cards.wideCard
-unfolding computed
+unfolding computed halfOff
 wideCard-corners =
     record {
       level = 0;
@@ -75,7 +75,7 @@ wideCard-corners =
     }
 
 wideOther-corners : AtCorners (edge 2) cards.wideOther
-unfolding computed
+unfolding computed halfOff
 wideOther-corners =
     record {
       level = 1;
@@ -84,7 +84,7 @@ wideOther-corners =
     }
 
 narrowCard-corners : AtCorners (edge 1) cards.narrowCard
-unfolding computed
+unfolding computed halfOff
 narrowCard-corners =
     record {
       level = 0;
@@ -93,7 +93,7 @@ narrowCard-corners =
     }
 
 narrowOther-corners : AtCorners (edge 1) cards.narrowOther
-unfolding computed
+unfolding computed halfOff
 narrowOther-corners =
     record {
       level = 1;
@@ -125,6 +125,12 @@ narrow =
       other-corners = narrowOther-corners;
     }
 
+wide-cell : Meets (edge 2) (1 ∷ 0 ∷ 1 ∷ 1 ∷ [])
+wide-cell = meets (edge 2) cards.wideCell (edge-singles 2) (edge-margin 2) cards.wide-cell-readable cards.wide-cell-drawn
+
+narrow-hue : Meets (edge 1) (1 ∷ 0 ∷ 1 ∷ 0 ∷ 0 ∷ [])
+narrow-hue = meets (edge 1) cards.narrowRing (edge-singles 1) (edge-margin 1) cards.narrow-ring-readable cards.narrow-ring-drawn
+
 returns : tie.Need-returns
 unfolding computed plain-met coloured-met lone-met wide narrow
 returns c =
@@ -141,8 +147,8 @@ returns c =
       wide-free = first-three (λ i. carriesChroma (edge 2) i ≡ false) refl refl refl;
       narrow = narrow;
       narrow-ring = refl;
-      wide-cell = meets (edge 2) cards.wideCell (edge-singles 2) (edge-margin 2) cards.wide-cell-readable cards.wide-cell-drawn;
-      narrow-hue = meets (edge 1) cards.narrowRing (edge-singles 1) (edge-margin 1) cards.narrow-ring-readable cards.narrow-ring-drawn;
+      wide-cell = wide-cell;
+      narrow-hue = narrow-hue;
     }
 
 pub premises-can-be-met-spec : {M : Type 1} → statement M
