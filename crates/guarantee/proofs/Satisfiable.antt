@@ -223,8 +223,9 @@ abbrev edgeNoise : ChannelStats
 edgeNoise =
     record { l0 = n 37; l1 = n 63; «sigma_l» = n 10; «sigma_ab» = n 1000; «sigma_ab_dark» = n 6; «sigma_ab_light» = n 18; samples = 0 }
 
--- The dark colours at L + sigma_l/2, which is 0, have a `luma_llr` of exactly 13, the light ones at L - sigma_l/2, which is 100, of exactly -13. Each colour's a and b differ from its hue point by exactly one
--- chroma sigma of its level, and the light colours' a from the other hue point by 73, more than four such sigmas by 1. Black and white are exactly half a sigma from the colours of hue 1 in L, a and b.
+-- The dark colours at L + sigma_l/2, which is 0, have a `luma_llr` of exactly 13, the light ones at L - sigma_l/2, which is 100, of exactly -13. Each colour's a and b differ from its hue point
+-- by exactly one chroma sigma of its level, and the light colours' a from the other hue point by 73, more than four such sigmas by 1. Black and white are exactly half a sigma from the
+-- colours of hue 1 in L, a and b. In order: the two levels, the points of hues 0 and 1, the dark colours of hues 0 and 1, the light ones.
 abbrev edgePalette : List Float
 edgePalette =
     n 0 ∷ n 100 ∷
@@ -375,7 +376,7 @@ pub narrow-other-drawn : bitsDrawn (edge 1) narrowOther ≡ 0 ∷ 1 ∷ 0 ∷ 0 
 unfolding computed bitsDrawn
 narrow-other-drawn = refl
 
--- a third card of cell size 1, whose bits are those of `narrowCard` but for the ring module's chroma bit. The grid modules are near colours of hue 1, and the ring module, which carries chroma, is drawn in hue 0
+-- a third card of cell size 1, whose bits are those of `narrowCard` but for the ring module's chroma bit: the ring module is drawn in hue 0, and the grid modules, which carry no chroma, are near colours of hue 1
 abbrev pub narrowRing : Card
 narrowRing = card 3 2 (1 ∷ 0 ∷ 1 ∷ 0 ∷ 0 ∷ []) (black (white (rose []))) (black [])
 
