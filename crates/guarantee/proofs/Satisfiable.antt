@@ -1,8 +1,8 @@
--- The guarantee's premises can be met: a card with chroma off, document 01's own case, and one with chroma on, with a cell and a ring module that carries chroma. antt computes each premise. Assumes nothing.
+-- The guarantee's premises can be met: document 01's own case, a card with chroma on, cards at the edge of the margin and of half a sigma, and one of one hue with a cell. antt computes each premise. Assumes nothing.
 use mathlib.Core.Path.{_≡_, refl}
-use mathlib.Core.Bool.{Bool, true, xor, _&&_}
+use mathlib.Core.Bool.{Bool, true, false, xor, _&&_}
 use mathlib.Core.List.{List, [], _∷_}
-use Prim.Native.Nat.{ℕ, zero, suc, _<_}
+use Prim.Native.Nat.{ℕ, zero, suc, _*_, _<_}
 use native.Mathlib.Omega.{arith}
 use lib.Dec.{T}
 use lib.IntN.{pos, negsuc}
@@ -12,6 +12,7 @@ use lib.Ieee.Fits.{and-l, and-r}
 use Rattle.limits.specs.Chroma.{chromaOn}
 use Rattle.color.specs.Color.{whole, fraction}
 use Rattle.illum.specs.Correct.{unitModel}
+use Rattle.stats.specs.declared.ChannelStats.{ChannelStats}
 use Rattle.stats.specs.Noise.{nominal}
 use lib.Ieee.{add, sub, mul, div, neg, lt, le, eq, isNan, ofInt, toUnsigned}
 use Rattle.sentences.specs.Sentences.{refusal, decided}
@@ -46,9 +47,8 @@ use Rattle.refine.specs.Calls.{shortSlices, wildNumbers, refinedOf, refineOf}
 use Rattle.refine.specs.Refine.{placeAt, refineAt, refined}
 use Rattle.guarantee.specs.Within.{halfApart, halfSigma}
 use Rattle.guarantee.specs.Card.{paletteColour, carriesChroma}
-use Rattle.guarantee.specs.Card.{Setting, Card, bitsDrawn, bitsRead}
+use Rattle.guarantee.specs.Card.{Setting, Card, bitsDrawn}
 use Rattle.guarantee.specs.Guarantee.{Singles, InMargin, NearModule, NearCell, Readable}
-use Rattle.guarantee.proofs.Guarantee.{read-as-drawn}
 
 -- ---- f32 values
 
@@ -62,10 +62,58 @@ each-fits [] t i = tt
 each-fits (x ∷ l) t zero = and-l (fits binary32 x) (allFit l) t
 each-fits (x ∷ l) t (suc i) = each-fits l (and-r (fits binary32 x) (allFit l) t) i
 
--- ---- chroma off: "side 21, version 1, hues 1, size 1, mask 0, grid 2; levels 0 and 100, hue point (0, 0), Lab (0,0,0) and (100,0,0)", the nominal noise and the model that corrects nothing
+-- ---- what the cards share
 
 abbrev n : ℕ → Float
 n = whole
+
+-- one colour more at the head of a list of raw colours: linear (0, 0, 0) or (1, 1, 1), in Lab exactly (0, 0, 0) or (100, 0, 0)
+abbrev black : List Float → List Float
+black l = n 0 ∷ n 0 ∷ n 0 ∷ l
+
+abbrev white : List Float → List Float
+white l = n 1 ∷ n 1 ∷ n 1 ∷ l
+
+-- a card of m modules and k chroma scores, from its bits and the raw colours of modules and cells. Lent memory may hold anything: here NaN, and 7, which is no bit, level or hue of these cards
+abbrev card : ℕ → ℕ → List ℕ → List Float → List Float → Card
+card m k bits raw craw =
+    record {
+      bits = bits;
+      raw = raw;
+      craw = craw;
+      levels = replicate m 7;
+      drawn = replicate 4 7;
+      luma = replicate m nan;
+      colours = replicate (3 * m) nan;
+      chroma = replicate k nan;
+      scratch = replicate 1089 nan;
+      lumaBits = replicate m 7;
+      chromaBits = replicate k 7;
+    }
+
+-- what holds of each of the first one, two or three numbers
+pub first-one : (P : ℕ → Type 0) → P 0 → (i : ℕ) → i < 1 → P i
+first-one P p zero h = p
+first-one P p (suc i) h = absurd (omega arith)
+
+pub first-two : (P : ℕ → Type 0) → P 0 → P 1 → (i : ℕ) → i < 2 → P i
+first-two P p q zero h = p
+first-two P p q (suc i) h = first-one (λ j. P (suc j)) q i (omega arith)
+
+pub first-three : (P : ℕ → Type 0) → P 0 → P 1 → P 2 → (i : ℕ) → i < 3 → P i
+first-three P p q r zero h = p
+first-three P p q r (suc i) h = first-two (λ j. P (suc j)) q r i (omega arith)
+
+-- whatever a premise asks where chroma is carried, of a module that carries none or of a card with chroma off
+none : {A : Type 0} → false ≡ true → A
+none e = let z : _≡_ {A = ℕ} 0 1 = cc in absurd (omega arith)
+
+-- all that the premises are computed by: to unfold this name is to unfold each of them
+unfoldable pub computed : Bool
+unfolding add sub mul div neg lt le eq round isNan fraction abs max min clamp refusal decided someOf anyUp turns forUp stats.sentencesOf badHues shortPalette badNumbers wild badNoiseNumbers wildFigure badSigmas badLevelSigma levelL hueAb paletteLab inMargin levelsFit levelFits colourFits sigmasFit darkClear lightClear lumaLlr chromaClear chromaOn hueClear apart near far otherFar sigmaAbAt between drawOf drawSentences badSide badCellSize badDrawLengths shortBits shortHues chromaLength symbolBits log2 halvings chromaEntries shape placement modulePlacement badCounts badModules badPositions misplaced outside badCell levelAt gridLevel ringLevel xor isOne bitOf lumaMask maskRules drawnHues hueAt pushBit cellHue ringHue chromaMaskApply chromaRotation chromaSymbolToHue grayInverse xorShifts unitModel moduleColour cellColour centre cellCentre ofInt linearAt mixed unshaded affineRow basisAt normalised termsUsed addTerm isHeld holdGain leastGain deshade toSingle linearToXyz xyzToLab lightness labF line cbrtOf digits iroot rootOfUnits mag scoredOf scoring.sentencesOf badLengths badModuleLengths badCellLengths shortChroma badInputs badCorrected wildLinear badModel badShape badTerms badModelSide notFiniteModel notFiniteAffine notFiniteGains notFiniteFlares toUnsigned writeModule lumaScore weighted weighed reliability closer distance weight sqrtOf chromaWritten ringChroma writeCell writeRing writeEntry putScore chromaScore putLikelihood hueLogLikelihood denominator bitLlr bettered bitOfHue symbolBit unmaskedHue hueToChromaSymbol gray chromaMaskRemove refineOf refinement.sentencesOf shortSlices wildNumbers refinedOf refined refineAt placeAt unmaskLumaOf unmaskSentences badLumaLengths unmaskAt maskedAt readListOf readSentences halfSigma halfApart hi lo paletteColour carriesChroma
+computed = true
+
+-- ---- chroma off: "side 21, version 1, hues 1, size 1, mask 0, grid 2; levels 0 and 100, hue point (0, 0), Lab (0,0,0) and (100,0,0)", the nominal noise and the model that corrects nothing
 
 abbrev plainPalette : List Float
 plainPalette = n 0 ∷ n 100 ∷ n 0 ∷ n 0 ∷ n 0 ∷ n 0 ∷ n 0 ∷ n 100 ∷ n 0 ∷ n 0 ∷ []
@@ -86,30 +134,7 @@ plain =
 
 -- "modules (0,0) black, (1,0) linear (1,1,1)": both bits are 1
 abbrev pub plainCard : Card
-plainCard =
-    record {
-      bits = 1 ∷ 1 ∷ [];
-      raw = n 0 ∷ n 0 ∷ n 0 ∷ n 1 ∷ n 1 ∷ n 1 ∷ [];
-      craw = [];
-      levels = 0 ∷ 0 ∷ [];
-      drawn = [];
-      luma = n 0 ∷ n 0 ∷ [];
-      colours = n 0 ∷ n 0 ∷ n 0 ∷ n 0 ∷ n 0 ∷ n 0 ∷ [];
-      chroma = [];
-      scratch = replicate 1089 (n 0);
-      lumaBits = 0 ∷ 0 ∷ [];
-      chromaBits = [];
-    }
-
--- of the first one or two numbers
-first-two : (P : ℕ → Type 0) → P 0 → P 1 → (i : ℕ) → i < 2 → P i
-first-two P p q zero h = p
-first-two P p q (suc zero) h = q
-first-two P p q (suc (suc i)) h = absurd (omega arith)
-
-first-one : (P : ℕ → Type 0) → P 0 → (i : ℕ) → i < 1 → P i
-first-one P p zero h = p
-first-one P p (suc i) h = absurd (omega arith)
+plainCard = card 2 0 (1 ∷ 1 ∷ []) (black (white [])) []
 
 plain-fits : T (allFit plainPalette)
 unfolding allFit fits fraction round
@@ -119,17 +144,26 @@ pub plain-singles : Singles plain
 unfolding fits fraction round levelL
 plain-singles = record { palette = each-fits plainPalette plain-fits; l0 = tt; l1 = tt; sigma-l = tt; sigma-ab = tt; sigma-ab-dark = tt; sigma-ab-light = tt }
 
-pub plain-meets : InMargin plain × Readable plain plainCard
-unfolding add sub mul div neg lt le eq round isNan fraction abs max min clamp refusal decided someOf anyUp turns forUp stats.sentencesOf badHues shortPalette badNumbers wild badNoiseNumbers wildFigure badSigmas badLevelSigma levelL hueAb paletteLab inMargin levelsFit levelFits colourFits sigmasFit darkClear lightClear lumaLlr chromaClear chromaOn hueClear apart near far otherFar sigmaAbAt between drawOf drawSentences badSide badCellSize badDrawLengths shortBits shortHues chromaLength symbolBits log2 halvings chromaEntries shape placement modulePlacement badCounts badModules badPositions misplaced outside badCell levelAt gridLevel ringLevel xor isOne bitOf lumaMask maskRules drawnHues hueAt pushBit cellHue ringHue chromaMaskApply chromaRotation chromaSymbolToHue grayInverse xorShifts unitModel moduleColour cellColour centre cellCentre ofInt linearAt mixed unshaded affineRow basisAt normalised termsUsed addTerm isHeld holdGain leastGain deshade toSingle linearToXyz xyzToLab lightness labF line cbrtOf digits iroot rootOfUnits mag scoredOf scoring.sentencesOf badLengths badModuleLengths badCellLengths shortChroma badInputs badCorrected wildLinear badModel badShape badTerms badModelSide notFiniteModel notFiniteAffine notFiniteGains notFiniteFlares toUnsigned writeModule lumaScore weighted weighed reliability closer distance weight sqrtOf chromaWritten ringChroma writeCell writeRing writeEntry putScore chromaScore putLikelihood hueLogLikelihood denominator bitLlr bettered bitOfHue symbolBit unmaskedHue hueToChromaSymbol gray chromaMaskRemove refineOf refinement.sentencesOf shortSlices wildNumbers refinedOf refined refineAt placeAt unmaskLumaOf unmaskSentences badLumaLengths unmaskAt maskedAt readListOf readSentences halfSigma halfApart hi lo paletteColour carriesChroma
-plain-meets = (
-  refl,
-  record {
-    drawing = refl;
-    accepted = record { scoring = refl; refinement = refl; unmasking = refl; luma = refl; chroma = refl };
-    module-near = first-two (NearModule plain plainCard) (record { hue = 0; below = omega arith; own = λ e. refl; near = refl }) (record { hue = 0; below = omega arith; own = λ e. refl; near = refl });
-    cell-near = λ on. λ j h. absurd (omega arith);
-  },
-)
+pub plain-margin : InMargin plain
+unfolding computed
+plain-margin = refl
+
+pub plain-readable : Readable plain plainCard
+unfolding computed
+plain-readable =
+    record {
+      drawing = refl;
+      accepted = record { scoring = refl; refinement = refl; unmasking = refl; luma = refl; chroma = refl };
+      module-near =
+          first-two (NearModule plain plainCard)
+          (record { hue = 0; below = omega arith; own = none; near = refl })
+          (record { hue = 0; below = omega arith; own = none; near = refl });
+      cell-near = λ on. λ j h. absurd (omega arith);
+    }
+
+pub plain-drawn : bitsDrawn plain plainCard ≡ 1 ∷ 1 ∷ []
+unfolding computed bitsDrawn
+plain-drawn = refl
 
 -- ---- chroma on: two hues, a grid module, a ring module that carries chroma, and a cell whose bit is 1, since the mask turns its hue by one
 
@@ -150,22 +184,8 @@ coloured =
       noise = nominal colouredPalette;
     }
 
--- both modules black, the cell white
 abbrev pub colouredCard : Card
-colouredCard =
-    record {
-      bits = 1 ∷ 0 ∷ 1 ∷ 0 ∷ [];
-      raw = n 0 ∷ n 0 ∷ n 0 ∷ n 0 ∷ n 0 ∷ n 0 ∷ [];
-      craw = n 1 ∷ n 1 ∷ n 1 ∷ [];
-      levels = 0 ∷ 0 ∷ [];
-      drawn = 0 ∷ 0 ∷ [];
-      luma = n 0 ∷ n 0 ∷ [];
-      colours = n 0 ∷ n 0 ∷ n 0 ∷ n 0 ∷ n 0 ∷ n 0 ∷ [];
-      chroma = n 0 ∷ n 0 ∷ [];
-      scratch = replicate 1089 (n 0);
-      lumaBits = 0 ∷ 0 ∷ [];
-      chromaBits = 0 ∷ 0 ∷ [];
-    }
+colouredCard = card 2 2 (1 ∷ 0 ∷ 1 ∷ 0 ∷ []) (black (black [])) (white [])
 
 coloured-fits : T (allFit colouredPalette)
 unfolding allFit fits fraction round
@@ -175,24 +195,256 @@ pub coloured-singles : Singles coloured
 unfolding fits fraction round levelL
 coloured-singles = record { palette = each-fits colouredPalette coloured-fits; l0 = tt; l1 = tt; sigma-l = tt; sigma-ab = tt; sigma-ab-dark = tt; sigma-ab-light = tt }
 
-pub coloured-meets : InMargin coloured × Readable coloured colouredCard
-unfolding add sub mul div neg lt le eq round isNan fraction abs max min clamp refusal decided someOf anyUp turns forUp stats.sentencesOf badHues shortPalette badNumbers wild badNoiseNumbers wildFigure badSigmas badLevelSigma levelL hueAb paletteLab inMargin levelsFit levelFits colourFits sigmasFit darkClear lightClear lumaLlr chromaClear chromaOn hueClear apart near far otherFar sigmaAbAt between drawOf drawSentences badSide badCellSize badDrawLengths shortBits shortHues chromaLength symbolBits log2 halvings chromaEntries shape placement modulePlacement badCounts badModules badPositions misplaced outside badCell levelAt gridLevel ringLevel xor isOne bitOf lumaMask maskRules drawnHues hueAt pushBit cellHue ringHue chromaMaskApply chromaRotation chromaSymbolToHue grayInverse xorShifts unitModel moduleColour cellColour centre cellCentre ofInt linearAt mixed unshaded affineRow basisAt normalised termsUsed addTerm isHeld holdGain leastGain deshade toSingle linearToXyz xyzToLab lightness labF line cbrtOf digits iroot rootOfUnits mag scoredOf scoring.sentencesOf badLengths badModuleLengths badCellLengths shortChroma badInputs badCorrected wildLinear badModel badShape badTerms badModelSide notFiniteModel notFiniteAffine notFiniteGains notFiniteFlares toUnsigned writeModule lumaScore weighted weighed reliability closer distance weight sqrtOf chromaWritten ringChroma writeCell writeRing writeEntry putScore chromaScore putLikelihood hueLogLikelihood denominator bitLlr bettered bitOfHue symbolBit unmaskedHue hueToChromaSymbol gray chromaMaskRemove refineOf refinement.sentencesOf shortSlices wildNumbers refinedOf refined refineAt placeAt unmaskLumaOf unmaskSentences badLumaLengths unmaskAt maskedAt readListOf readSentences halfSigma halfApart hi lo paletteColour carriesChroma
-coloured-meets = (
-  refl,
-  record {
-    drawing = refl;
-    accepted = record { scoring = refl; refinement = refl; unmasking = refl; luma = refl; chroma = refl };
-    module-near = first-two (NearModule coloured colouredCard) (record { hue = 0; below = omega arith; own = λ e. refl; near = refl }) (record { hue = 0; below = omega arith; own = λ e. refl; near = refl });
-    cell-near = λ on. first-one (NearCell coloured colouredCard) (record { level = 1; below = omega arith; near = refl });
-  },
-)
+pub coloured-margin : InMargin coloured
+unfolding computed
+coloured-margin = refl
 
--- so both are read as they were drawn
+pub coloured-readable : Readable coloured colouredCard
+unfolding computed
+coloured-readable =
+    record {
+      drawing = refl;
+      accepted = record { scoring = refl; refinement = refl; unmasking = refl; luma = refl; chroma = refl };
+      module-near =
+          first-two (NearModule coloured colouredCard)
+          (record { hue = 0; below = omega arith; own = λ e. refl; near = refl })
+          (record { hue = 0; below = omega arith; own = λ e. refl; near = refl });
+      cell-near = λ on. first-one (NearCell coloured colouredCard) (record { level = 1; below = omega arith; near = refl });
+    }
 
-pub plain-read : bitsRead plain plainCard ≡ 1 ∷ 1 ∷ []
-unfolding bitsDrawn isOne bitOf chromaLength chromaEntries symbolBits chromaOn
-plain-read = read-as-drawn plain plainCard plain-singles (plain-meets .0) (plain-meets .1) .same
+pub coloured-drawn : bitsDrawn coloured colouredCard ≡ 1 ∷ 0 ∷ 1 ∷ 0 ∷ []
+unfolding computed bitsDrawn
+coloured-drawn = refl
 
-pub coloured-read : bitsRead coloured colouredCard ≡ 1 ∷ 0 ∷ 1 ∷ 0 ∷ []
-unfolding bitsDrawn isOne bitOf chromaLength chromaEntries symbolBits log2 halvings chromaOn
-coloured-read = read-as-drawn coloured colouredCard coloured-singles (coloured-meets .0) (coloured-meets .1) .same
+-- ---- at the edge of the margin and of half a sigma
+
+-- the chroma sigma is 6 at the dark level and 18 at the light one. The pooled one, which is not used where the levels have their own, is the largest that the margin allows
+abbrev edgeNoise : ChannelStats
+edgeNoise =
+    record { l0 = n 37; l1 = n 63; «sigma_l» = n 10; «sigma_ab» = n 1000; «sigma_ab_dark» = n 6; «sigma_ab_light» = n 18; samples = 0 }
+
+-- The dark colours at L + sigma_l/2, which is 0, have a `luma_llr` of exactly 13, the light ones at L - sigma_l/2, which is 100, of exactly -13. Each colour's a and b differ from its hue point
+-- by exactly one chroma sigma of its level, and the light colours' a from the other hue point by 73, more than four such sigmas by 1. Black and white are exactly half a sigma from the
+-- colours of hue 1 in L, a and b. In order: the two levels, the points of hues 0 and 1, the dark colours of hues 0 and 1, the light ones.
+abbrev edgePalette : List Float
+edgePalette =
+    n 0 ∷ n 100 ∷
+    n 64 ∷ n 9 ∷
+    n 9 ∷ n 9 ∷
+    neg (n 5) ∷ n 70 ∷ n 3 ∷
+    neg (n 5) ∷ n 3 ∷ n 3 ∷
+    n 105 ∷ n 82 ∷ neg (n 9) ∷
+    n 105 ∷ neg (n 9) ∷ neg (n 9) ∷
+    []
+
+-- two grid modules, a ring module and a cell, of either cell size: the ring module carries chroma at 1 and not at 2
+abbrev pub edge : ℕ → Setting
+edge size =
+    record {
+      layout = record { side = 21; hues = 2; size = size; grid = 2 };
+      xs = pos 0 ∷ pos 2 ∷ negsuc 0 ∷ [];
+      ys = pos 0 ∷ pos 0 ∷ pos 0 ∷ [];
+      cxs = 1 ∷ [];
+      cys = 0 ∷ [];
+      palette = edgePalette;
+      mask = 0;
+      model = unitModel 21 4;
+      noise = edgeNoise;
+    }
+
+edge-fits : T (allFit edgePalette)
+unfolding allFit fits fraction round neg
+edge-fits = tt
+
+pub edge-singles : (size : ℕ) → Singles (edge size)
+unfolding fits fraction round
+edge-singles size = record { palette = each-fits edgePalette edge-fits; l0 = tt; l1 = tt; sigma-l = tt; sigma-ab = tt; sigma-ab-dark = tt; sigma-ab-light = tt }
+
+pub edge-margin : (size : ℕ) → InMargin (edge size)
+unfolding computed
+edge-margin size = refl
+
+-- linear (3, 0.5, 1.25), in Lab near (103, 86, -7): within half a sigma of the light colour of hue 0
+abbrev rose : List Float → List Float
+rose l = n 3 ∷ fraction 1 2 ∷ fraction 5 4 ∷ l
+
+-- Cell size 2, two cards whose luma bits all differ. No module carries chroma, so each is near a colour of hue 1 whatever hue stands at its place of the hue list: 7, which was lent.
+abbrev pub wideCard : Card
+wideCard = card 3 1 (1 ∷ 0 ∷ 1 ∷ 0 ∷ []) (black (white (white []))) (black [])
+
+abbrev pub wideOther : Card
+wideOther = card 3 1 (0 ∷ 1 ∷ 0 ∷ 0 ∷ []) (white (black (black []))) (white [])
+
+pub wide-readable : Readable (edge 2) wideCard
+unfolding computed
+wide-readable =
+    record {
+      drawing = refl;
+      accepted = record { scoring = refl; refinement = refl; unmasking = refl; luma = refl; chroma = refl };
+      module-near =
+          first-three (NearModule (edge 2) wideCard)
+          (record { hue = 1; below = omega arith; own = none; near = refl })
+          (record { hue = 1; below = omega arith; own = none; near = refl })
+          (record { hue = 1; below = omega arith; own = none; near = refl });
+      cell-near = λ on. first-one (NearCell (edge 2) wideCard) (record { level = 0; below = omega arith; near = refl });
+    }
+
+pub wide-drawn : bitsDrawn (edge 2) wideCard ≡ 1 ∷ 0 ∷ 1 ∷ 0 ∷ []
+unfolding computed bitsDrawn
+wide-drawn = refl
+
+pub wide-other-readable : Readable (edge 2) wideOther
+unfolding computed
+wide-other-readable =
+    record {
+      drawing = refl;
+      accepted = record { scoring = refl; refinement = refl; unmasking = refl; luma = refl; chroma = refl };
+      module-near =
+          first-three (NearModule (edge 2) wideOther)
+          (record { hue = 1; below = omega arith; own = none; near = refl })
+          (record { hue = 1; below = omega arith; own = none; near = refl })
+          (record { hue = 1; below = omega arith; own = none; near = refl });
+      cell-near = λ on. first-one (NearCell (edge 2) wideOther) (record { level = 1; below = omega arith; near = refl });
+    }
+
+pub wide-other-drawn : bitsDrawn (edge 2) wideOther ≡ 0 ∷ 1 ∷ 0 ∷ 0 ∷ []
+unfolding computed bitsDrawn
+wide-other-drawn = refl
+
+-- a third card of cell size 2, whose bits are those of `wideCard` but for the cell's
+abbrev pub wideCell : Card
+wideCell = card 3 1 (1 ∷ 0 ∷ 1 ∷ 1 ∷ []) (black (white (white []))) (rose [])
+
+pub wide-cell-readable : Readable (edge 2) wideCell
+unfolding computed
+wide-cell-readable =
+    record {
+      drawing = refl;
+      accepted = record { scoring = refl; refinement = refl; unmasking = refl; luma = refl; chroma = refl };
+      module-near =
+          first-three (NearModule (edge 2) wideCell)
+          (record { hue = 1; below = omega arith; own = none; near = refl })
+          (record { hue = 1; below = omega arith; own = none; near = refl })
+          (record { hue = 1; below = omega arith; own = none; near = refl });
+      cell-near = λ on. first-one (NearCell (edge 2) wideCell) (record { level = 1; below = omega arith; near = refl });
+    }
+
+pub wide-cell-drawn : bitsDrawn (edge 2) wideCell ≡ 1 ∷ 0 ∷ 1 ∷ 1 ∷ []
+unfolding computed bitsDrawn
+wide-cell-drawn = refl
+
+-- Cell size 1, two cards likewise: the ring module carries chroma, so it is near the colour of the hue that it is drawn in, which is 1.
+abbrev pub narrowCard : Card
+narrowCard = card 3 2 (1 ∷ 0 ∷ 1 ∷ 0 ∷ 1 ∷ []) (black (white (white []))) (black [])
+
+abbrev pub narrowOther : Card
+narrowOther = card 3 2 (0 ∷ 1 ∷ 0 ∷ 0 ∷ 1 ∷ []) (white (black (black []))) (white [])
+
+pub narrow-readable : Readable (edge 1) narrowCard
+unfolding computed
+narrow-readable =
+    record {
+      drawing = refl;
+      accepted = record { scoring = refl; refinement = refl; unmasking = refl; luma = refl; chroma = refl };
+      module-near =
+          first-three (NearModule (edge 1) narrowCard)
+          (record { hue = 1; below = omega arith; own = λ e. refl; near = refl })
+          (record { hue = 1; below = omega arith; own = λ e. refl; near = refl })
+          (record { hue = 1; below = omega arith; own = λ e. refl; near = refl });
+      cell-near = λ on. first-one (NearCell (edge 1) narrowCard) (record { level = 0; below = omega arith; near = refl });
+    }
+
+pub narrow-drawn : bitsDrawn (edge 1) narrowCard ≡ 1 ∷ 0 ∷ 1 ∷ 0 ∷ 1 ∷ []
+unfolding computed bitsDrawn
+narrow-drawn = refl
+
+pub narrow-other-readable : Readable (edge 1) narrowOther
+unfolding computed
+narrow-other-readable =
+    record {
+      drawing = refl;
+      accepted = record { scoring = refl; refinement = refl; unmasking = refl; luma = refl; chroma = refl };
+      module-near =
+          first-three (NearModule (edge 1) narrowOther)
+          (record { hue = 1; below = omega arith; own = λ e. refl; near = refl })
+          (record { hue = 1; below = omega arith; own = λ e. refl; near = refl })
+          (record { hue = 1; below = omega arith; own = λ e. refl; near = refl });
+      cell-near = λ on. first-one (NearCell (edge 1) narrowOther) (record { level = 1; below = omega arith; near = refl });
+    }
+
+pub narrow-other-drawn : bitsDrawn (edge 1) narrowOther ≡ 0 ∷ 1 ∷ 0 ∷ 0 ∷ 1 ∷ []
+unfolding computed bitsDrawn
+narrow-other-drawn = refl
+
+-- a third card of cell size 1, whose bits are those of `narrowCard` but for the ring module's chroma bit: the ring module is drawn in hue 0, and the grid modules, which carry no chroma, are near colours of hue 1
+abbrev pub narrowRing : Card
+narrowRing = card 3 2 (1 ∷ 0 ∷ 1 ∷ 0 ∷ 0 ∷ []) (black (white (rose []))) (black [])
+
+pub narrow-ring-readable : Readable (edge 1) narrowRing
+unfolding computed
+narrow-ring-readable =
+    record {
+      drawing = refl;
+      accepted = record { scoring = refl; refinement = refl; unmasking = refl; luma = refl; chroma = refl };
+      module-near =
+          first-three (NearModule (edge 1) narrowRing)
+          (record { hue = 1; below = omega arith; own = none; near = refl })
+          (record { hue = 1; below = omega arith; own = none; near = refl })
+          (record { hue = 0; below = omega arith; own = λ e. refl; near = refl });
+      cell-near = λ on. first-one (NearCell (edge 1) narrowRing) (record { level = 0; below = omega arith; near = refl });
+    }
+
+pub narrow-ring-drawn : bitsDrawn (edge 1) narrowRing ≡ 1 ∷ 0 ∷ 1 ∷ 0 ∷ 0 ∷ []
+unfolding computed bitsDrawn
+narrow-ring-drawn = refl
+
+-- ---- one hue: chroma is off, so the hue point may be anywhere, the ring module has no hue of its own at cell size 1, and the cell, which is red, is near no palette colour
+
+abbrev lonePalette : List Float
+lonePalette = n 0 ∷ n 100 ∷ n 200 ∷ n 200 ∷ neg (n 5) ∷ n 3 ∷ n 3 ∷ n 105 ∷ neg (n 9) ∷ neg (n 9) ∷ []
+
+abbrev pub lone : Setting
+lone =
+    record {
+      layout = record { side = 21; hues = 1; size = 1; grid = 1 };
+      xs = pos 0 ∷ negsuc 0 ∷ [];
+      ys = pos 0 ∷ pos 0 ∷ [];
+      cxs = 1 ∷ [];
+      cys = 0 ∷ [];
+      palette = lonePalette;
+      mask = 0;
+      model = unitModel 21 4;
+      noise = edgeNoise;
+    }
+
+abbrev pub loneCard : Card
+loneCard = card 2 0 (0 ∷ 0 ∷ []) (white (black [])) (n 1 ∷ n 0 ∷ n 0 ∷ [])
+
+lone-fits : T (allFit lonePalette)
+unfolding allFit fits fraction round neg
+lone-fits = tt
+
+pub lone-singles : Singles lone
+unfolding fits fraction round
+lone-singles = record { palette = each-fits lonePalette lone-fits; l0 = tt; l1 = tt; sigma-l = tt; sigma-ab = tt; sigma-ab-dark = tt; sigma-ab-light = tt }
+
+pub lone-margin : InMargin lone
+unfolding computed
+lone-margin = refl
+
+pub lone-readable : Readable lone loneCard
+unfolding computed
+lone-readable =
+    record {
+      drawing = refl;
+      accepted = record { scoring = refl; refinement = refl; unmasking = refl; luma = refl; chroma = refl };
+      module-near =
+          first-two (NearModule lone loneCard)
+          (record { hue = 0; below = omega arith; own = none; near = refl })
+          (record { hue = 0; below = omega arith; own = none; near = refl });
+      cell-near = none;
+    }
+
+pub lone-drawn : bitsDrawn lone loneCard ≡ 0 ∷ 0 ∷ []
+unfolding computed bitsDrawn
+lone-drawn = refl

@@ -33,8 +33,9 @@ pub fn program_reads()
     ensures { λ _. ⌜ ProgramReads ⌝ }
 {}
 
-// The guarantee's premises can be met, with chroma off and with chroma on: here are a card of each kind and the bits
-// that are read from it.
+// The guarantee's premises can be met, with chroma off and with chroma on, and at their edges: here are cards of each
+// kind and the bits that are read from them. Two pairs of cards, of cell sizes 1 and 2, have every colour exactly half
+// a sigma off and a palette that just passes the margin check; the cards of a pair share all but their bits and colours.
 pub fn premises_can_be_met()
     ensures { λ _. ⌜ Met ⌝ }
 {}
