@@ -1,11 +1,14 @@
 -- What lies within half a sigma of a colour: the rounded difference is at most half the sigma, since that half is a float, so divided by the sigma it is at most 1/2, and its square at most 1/4.
 -- Assumes nothing.
 use mathlib.Core.Path.{_≡_, refl}
-use mathlib.Core.Bool.{true, false, not, _&&_}
-use Prim.Native.Nat.{ℕ, _+_, _-_, _*_, _^_, _≤_, _<_}
+use mathlib.Core.Bool.{Bool, true, false, not, _&&_, cond}
+use Prim.Native.Nat.{ℕ, zero, suc, _+_, _-_, _*_, _^_, _≤_, _<_}
 use native.Mathlib.Nat.{mul-le-mul-left, mul-comm, mul-left-comm, zero-mul, le-trans, le-of-eq}
 use native.Mathlib.Omega.{arith}
-use lib.Dec.{T, leb, leb→le}
+use borrow.Author.Tests.{ltb-true, ltb-false}
+use lib.Dec.{T, leb, ltb, leb→le}
+use lib.IntN.{ℤ, pos, negsuc, natAbs, subℕ, _-ℤ_}
+use lib.Signed.{leZ}
 use lib.Ieee.{Float, nan, inf, fin, binary32, neg, mul, round, fits}
 use lib.Ieee.Scale.{finite}
 use Rattle.floatlaws.specs.Value.{unit, unit-pos, hi, lo, mag, negative, Num}
@@ -20,10 +23,58 @@ use Rattle.float.proofs.Select.{abs-num, abs-sides, abs-le}
 use Rattle.color.specs.Color.{whole, fraction}
 use Rattle.stats.specs.Arithmetic.{_⊖_, _⊗_, _⊘_, squared}
 use Rattle.stats.proofs.Reliable.{zero-is}
-use Rattle.guarantee.specs.Within.{halfApart}
+use Rattle.guarantee.specs.Within.{units, halfApart}
 use Rattle.guarantee.proofs.Range.{to-T, both}
 use Rattle.guarantee.proofs.Luma.{two-is}
 use Rattle.guarantee.proofs.Sigma.{Scale, half-is}
+
+-- ---- a whole number as the difference of two natural ones
+
+unfoldable above-zero : ℤ → ℕ
+above-zero (pos n) = n
+above-zero (negsuc n) = 0
+
+unfoldable below-zero : ℤ → ℕ
+below-zero (pos n) = 0
+below-zero (negsuc n) = suc n
+
+sub-parts : (a b : ℕ) → above-zero (subℕ a b) + b ≡ a + below-zero (subℕ a b)
+unfolding above-zero below-zero
+sub-parts a b = by-order (ltb a b) refl
+  where
+    by-order : (t : Bool) → ltb a b ≡ t → above-zero (cond t (negsuc (b - suc a)) (pos (a - b))) + b ≡ a + below-zero (cond t (negsuc (b - suc a)) (pos (a - b)))
+    by-order true e = let h = ltb-true a b e in omega arith
+    by-order false e = let h = ltb-false a b e in omega arith
+
+difference-parts : (x y : ℤ) → above-zero (x -ℤ y) + below-zero x + above-zero y ≡ below-zero (x -ℤ y) + above-zero x + below-zero y
+unfolding above-zero below-zero
+difference-parts (pos a) (pos zero) = omega arith
+difference-parts (pos a) (pos (suc b)) = omega (arith, sub-parts a (suc b))
+difference-parts (pos a) (negsuc b) = omega arith
+difference-parts (negsuc a) (pos zero) = omega (arith, sub-parts 0 (suc a))
+difference-parts (negsuc a) (pos (suc b)) = omega arith
+difference-parts (negsuc a) (negsuc b) = omega (arith, sub-parts (suc b) (suc a))
+
+size-parts : (z : ℤ) → natAbs z ≡ above-zero z + below-zero z
+unfolding above-zero below-zero
+size-parts (pos n) = omega arith
+size-parts (negsuc n) = omega arith
+
+at-most : (n : ℕ) (z : ℤ) → T (leZ (pos n) z) → n + below-zero z ≤ above-zero z
+unfolding above-zero below-zero
+at-most n (pos m) t = let h = leb→le n m t in omega arith
+at-most n (negsuc m) t = absurd t
+
+-- twice the distance of a - b and c - d is at most p - q
+module _ (a b c d p q : ℕ) (t : T (leZ (pos (2 * natAbs (subℕ a b -ℤ subℕ c d))) (subℕ p q))) where
+  abbrev apart : ℤ
+  apart = subℕ a b -ℤ subℕ c d
+
+  twice-up : 2 * (a + d) + q ≤ 2 * (c + b) + p
+  twice-up = omega (arith, at-most (2 * natAbs apart) (subℕ p q) t, size-parts apart, difference-parts (subℕ a b) (subℕ c d), sub-parts a b, sub-parts c d, sub-parts p q)
+
+  twice-down : 2 * (c + b) + q ≤ 2 * (a + d) + p
+  twice-down = omega (arith, at-most (2 * natAbs apart) (subℕ p q) t, size-parts apart, difference-parts (subℕ a b) (subℕ c d), sub-parts a b, sub-parts c d, sub-parts p q)
 
 -- ---- the premise, taken apart
 
@@ -34,16 +85,16 @@ pub record Close (s x y : Float) : Type 0 where
   pub down : 2 * (hi binary32 y + lo binary32 x) + lo binary32 s ≤ 2 * (hi binary32 x + lo binary32 y) + hi binary32 s
 
 pub close : (s x y : Float) → T (fits binary32 x) → T (fits binary32 y) → halfApart s x y ≡ true → Close s x y
-unfolding halfApart
+unfolding units halfApart
 close s x y f g e =
     let p = both (finite x && finite y) _ e in
     let q = both (finite x) (finite y) (p .0) in
-    let r = both (leb (2 * (hi binary32 x + lo binary32 y) + lo binary32 s) (2 * (hi binary32 y + lo binary32 x) + hi binary32 s)) _ (p .1) in
+    let t = to-T _ (p .1) in
     record {
       is = record { fit = f; finite = to-T (finite x) (q .0) };
       to = record { fit = g; finite = to-T (finite y) (q .1) };
-      up = leb→le (2 * (hi binary32 x + lo binary32 y) + lo binary32 s) (2 * (hi binary32 y + lo binary32 x) + hi binary32 s) (to-T _ (r .0));
-      down = leb→le (2 * (hi binary32 y + lo binary32 x) + lo binary32 s) (2 * (hi binary32 x + lo binary32 y) + hi binary32 s) (to-T _ (r .1));
+      up = twice-up (hi binary32 x) (lo binary32 x) (hi binary32 y) (lo binary32 y) (hi binary32 s) (lo binary32 s) t;
+      down = twice-down (hi binary32 x) (lo binary32 x) (hi binary32 y) (lo binary32 y) (hi binary32 s) (lo binary32 s) t;
     }
 
 -- ---- squares of numbers of either sign

@@ -45,7 +45,7 @@ use Rattle.demod.specs.Call.{badModuleLengths, badCellLengths, shortChroma, bad
 use Rattle.refine.specs.Calls as refinement
 use Rattle.refine.specs.Calls.{shortSlices, wildNumbers, refinedOf, refineOf}
 use Rattle.refine.specs.Refine.{placeAt, refineAt, refined}
-use Rattle.guarantee.specs.Within.{halfApart, halfSigma}
+use Rattle.guarantee.specs.Within.{units, halfApart, halfSigma}
 use Rattle.guarantee.specs.Card.{paletteColour, carriesChroma}
 use Rattle.guarantee.specs.Card.{Setting, Card, bitsDrawn}
 use Rattle.guarantee.specs.Guarantee.{Singles, InMargin, NearModule, NearCell, Readable}
@@ -110,7 +110,7 @@ none e = let z : _≡_ {A = ℕ} 0 1 = cc in absurd (omega arith)
 
 -- all that the premises are computed by: to unfold this name is to unfold each of them
 unfoldable pub computed : Bool
-unfolding add sub mul div neg lt le eq round isNan fraction abs max min clamp refusal decided someOf anyUp turns forUp stats.sentencesOf badHues shortPalette badNumbers wild badNoiseNumbers wildFigure badSigmas badLevelSigma levelL hueAb paletteLab inMargin levelsFit levelFits colourFits sigmasFit darkClear lightClear lumaLlr chromaClear chromaOn hueClear apart near far otherFar sigmaAbAt between drawOf drawSentences badSide badCellSize badDrawLengths shortBits shortHues chromaLength symbolBits log2 halvings chromaEntries shape placement modulePlacement badCounts badModules badPositions misplaced outside badCell levelAt gridLevel ringLevel xor isOne bitOf lumaMask maskRules drawnHues hueAt pushBit cellHue ringHue chromaMaskApply chromaRotation chromaSymbolToHue grayInverse xorShifts unitModel moduleColour cellColour centre cellCentre ofInt linearAt mixed unshaded affineRow basisAt normalised termsUsed addTerm isHeld holdGain leastGain deshade toSingle linearToXyz xyzToLab lightness labF line cbrtOf digits iroot rootOfUnits mag scoredOf scoring.sentencesOf badLengths badModuleLengths badCellLengths shortChroma badInputs badCorrected wildLinear badModel badShape badTerms badModelSide notFiniteModel notFiniteAffine notFiniteGains notFiniteFlares toUnsigned writeModule lumaScore weighted weighed reliability closer distance weight sqrtOf chromaWritten ringChroma writeCell writeRing writeEntry putScore chromaScore putLikelihood hueLogLikelihood denominator bitLlr bettered bitOfHue symbolBit unmaskedHue hueToChromaSymbol gray chromaMaskRemove refineOf refinement.sentencesOf shortSlices wildNumbers refinedOf refined refineAt placeAt unmaskLumaOf unmaskSentences badLumaLengths unmaskAt maskedAt readListOf readSentences halfSigma halfApart hi lo paletteColour carriesChroma
+unfolding add sub mul div neg lt le eq round isNan fraction abs max min clamp refusal decided someOf anyUp turns forUp stats.sentencesOf badHues shortPalette badNumbers wild badNoiseNumbers wildFigure badSigmas badLevelSigma levelL hueAb paletteLab inMargin levelsFit levelFits colourFits sigmasFit darkClear lightClear lumaLlr chromaClear chromaOn hueClear apart near far otherFar sigmaAbAt between drawOf drawSentences badSide badCellSize badDrawLengths shortBits shortHues chromaLength symbolBits log2 halvings chromaEntries shape placement modulePlacement badCounts badModules badPositions misplaced outside badCell levelAt gridLevel ringLevel xor isOne bitOf lumaMask maskRules drawnHues hueAt pushBit cellHue ringHue chromaMaskApply chromaRotation chromaSymbolToHue grayInverse xorShifts unitModel moduleColour cellColour centre cellCentre ofInt linearAt mixed unshaded affineRow basisAt normalised termsUsed addTerm isHeld holdGain leastGain deshade toSingle linearToXyz xyzToLab lightness labF line cbrtOf digits iroot rootOfUnits mag scoredOf scoring.sentencesOf badLengths badModuleLengths badCellLengths shortChroma badInputs badCorrected wildLinear badModel badShape badTerms badModelSide notFiniteModel notFiniteAffine notFiniteGains notFiniteFlares toUnsigned writeModule lumaScore weighted weighed reliability closer distance weight sqrtOf chromaWritten ringChroma writeCell writeRing writeEntry putScore chromaScore putLikelihood hueLogLikelihood denominator bitLlr bettered bitOfHue symbolBit unmaskedHue hueToChromaSymbol gray chromaMaskRemove refineOf refinement.sentencesOf shortSlices wildNumbers refinedOf refined refineAt placeAt unmaskLumaOf unmaskSentences badLumaLengths unmaskAt maskedAt readListOf readSentences halfSigma halfApart units hi lo paletteColour carriesChroma
 computed = true
 
 -- ---- chroma off: "side 21, version 1, hues 1, size 1, mask 0, grid 2; levels 0 and 100, hue point (0, 0), Lab (0,0,0) and (100,0,0)", the nominal noise and the model that corrects nothing

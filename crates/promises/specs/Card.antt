@@ -1,12 +1,12 @@
 -- Whole cards (crate `guarantee`): that the read guarantee speaks of cards that exist and of what the calls leave, and that the definitions give the worked examples. Definitions only.
 use mathlib.Core.Path.{_≡_}
-use mathlib.Core.Bool.{Bool, true, false, _&&_, _||_}
+use mathlib.Core.Bool.{Bool, true, false, _&&_}
 use mathlib.Core.List.{List, [], _∷_, _++_, map}
-use Prim.Native.Nat.{ℕ, _+_, _*_, _<_}
-use lib.Dec.{eqb}
+use Prim.Native.Nat.{ℕ, _*_, _<_}
+use lib.IntN.{pos, natAbs, _-ℤ_}
+use lib.Signed.{leZ}
 use lib.ListN.{length, take, getD}
-use lib.Ieee.{Float, binary32, neg}
-use Rattle.floatlaws.specs.Value.{hi, lo}
+use lib.Ieee.{Float, neg}
 use Rattle.float.specs.Select.{abs}
 use Rattle.limits.specs.Chroma.{chromaOn}
 use Rattle.color.specs.declared.Lab.{Lab}
@@ -22,7 +22,7 @@ use Rattle.modulate.specs.Score.{unmaskLumaOf}
 use Rattle.modulate.specs.Read.{readListOf}
 use Rattle.demod.specs.Call as scoring
 use Rattle.refine.specs.Calls as refinement
-use Rattle.guarantee.specs.Within.{halfApart}
+use Rattle.guarantee.specs.Within.{units, halfApart}
 use Rattle.guarantee.specs.Card.{Setting, Card, modules, chromaScores, drawnCard, toScore, bitsDrawn, bitsRead, moduleLab, cellLab, paletteColour, carriesChroma}
 use Rattle.guarantee.specs.Guarantee.{Singles, InMargin, NearModule, NearCell, Readable}
 use Rattle.guarantee.specs.Table.{Row, table}
@@ -53,12 +53,9 @@ pub record AtMargin (s : Setting) (h : ℕ) : Type 0 where
   pub light : lumaLlr (s .noise) (paletteColour s 1 h .l ⊖ s .noise .«sigma_l» ⊘ whole 2) ≡ neg (whole 13)
   pub off : (level : ℕ) → level < 2 → OffHuePoint s h level
 
--- x and y, both finite, differ by exactly s/2: within it (`halfApart` of `guarantee`), and at its bound from one side or the other
+-- x and y, both finite, differ by exactly s/2: by at most s/2 (`halfApart` of `guarantee`), and by no less
 unfoldable pub halfOff : Float → Float → Float → Bool
-halfOff s x y =
-    halfApart s x y
-    && (eqb (2 * (hi binary32 x + lo binary32 y) + lo binary32 s) (2 * (hi binary32 y + lo binary32 x) + hi binary32 s)
-    || eqb (2 * (hi binary32 y + lo binary32 x) + lo binary32 s) (2 * (hi binary32 x + lo binary32 y) + hi binary32 s))
+halfOff s x y = halfApart s x y && leZ (units s) (pos (2 * natAbs (units x -ℤ units y)))
 
 -- the colour p is exactly half a sigma from the palette colour c in L, in a and in b
 pub record AtCorner (n : ChannelStats) (p c : Lab) : Type 0 where
