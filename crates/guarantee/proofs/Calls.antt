@@ -1,5 +1,5 @@
 -- The calls' contracts joined: whatever the five calls of a card give and leave, each handed what the one before it left, their bits are the bits read that the guarantee speaks of, and the card is accepted
--- where each is done; so what a program reads from a card inside the margin is what the card was drawn from. Assumes nothing.
+-- where none is refused; so what a program reads from a card inside the margin is what the card was drawn from. Assumes nothing.
 use mathlib.Core.Path.{_≡_, sym, ap, _∙_}
 use mathlib.Core.List.{List, _++_}
 use mathlib.Core.Bool.{true}
@@ -8,8 +8,7 @@ use lib.ListN.{length, take}
 use lib.Ieee.{Float}
 use Rattle.limits.specs.Chroma.{chromaOn}
 use Rattle.answers.specs.declared.Outcome.{Outcome}
-use Rattle.answers.specs.declared.Outcome.the-variants as outcome
-use Rattle.answers.specs.Answers.{ended}
+use Rattle.answers.specs.Answers.{outcomeNumber, ended}
 use Rattle.modulate.specs.Score.{unmaskLumaOf}
 use Rattle.modulate.specs.Read.{readListOf}
 use Rattle.demod.specs.Call as scoring
@@ -41,18 +40,18 @@ module _ (s : Setting) (c : Card) (r : Outcome) (luma colours chroma : List Floa
   unfolding bitsRead
   joined = ap (λ x. take (modules s) (x .list) ++ take (chromaScores s) chromaBits) luma-is ∙ ap (λ x. take (modules s) (lumaRead s c .list) ++ take (chromaScores s) (x .list)) chroma-is
 
-  module _ (p : r ≡ outcome.Done) (q : r₂ ≡ outcome.Done) (u : r₃ ≡ outcome.Done) (v : r₄ ≡ outcome.Done) (w : r₅ ≡ outcome.Done) where
-    pub all-done : Accepted s c
-    all-done =
+  module _ (p : outcomeNumber r ≡ 0) (q : outcomeNumber r₂ ≡ 0) (u : outcomeNumber r₃ ≡ 0) (v : outcomeNumber r₄ ≡ 0) (w : outcomeNumber r₅ ≡ 0) where
+    pub all-accepted : Accepted s c
+    all-accepted =
         record {
-          scoring = ap (λ x. x .answer) (sym e) ∙ p;
-          refinement = ap (λ x. x .answer) (sym refine-is) ∙ q;
-          unmasking = ap (λ x. x .answer) (sym unmask-is) ∙ u;
-          luma = ap (λ x. x .answer) (sym luma-is) ∙ v;
-          chroma = ap (λ x. x .answer) (sym chroma-is) ∙ w;
+          scoring = ap (λ x. outcomeNumber (x .answer)) (sym e) ∙ p;
+          refinement = ap (λ x. x .number) (sym refine-is) ∙ q;
+          unmasking = ap (λ x. x .number) (sym unmask-is) ∙ u;
+          luma = ap (λ x. x .number) (sym luma-is) ∙ v;
+          chroma = ap (λ x. x .number) (sym chroma-is) ∙ w;
         }
 
     -- inside the margin, and near what was drawn, the program has the bits drawn
-    pub program-reads : Singles s → InMargin s → drawnCard s c .answer ≡ outcome.Done → ((i : ℕ) → i < modules s → NearModule s c i) →
+    pub program-reads : Singles s → InMargin s → drawnCard s c .number ≡ 0 → ((i : ℕ) → i < modules s → NearModule s c i) →
         (chromaOn (s .layout .hues) ≡ true → (j : ℕ) → j < length (s .cxs) → NearCell s c j) → take (modules s) bits ++ take (chromaScores s) chromaBits ≡ bitsDrawn s c
-    program-reads S M D N C = joined ∙ read-as-drawn s c S M (record { drawing = D; accepted = all-done; module-near = N; cell-near = C }) .same
+    program-reads S M D N C = joined ∙ read-as-drawn s c S M (record { drawing = D; accepted = all-accepted; module-near = N; cell-near = C }) .same

@@ -9,23 +9,26 @@ use borrow.Author.Tests.{ltb-false}
 use lib.Dec.{ltb}
 use lib.ListN.{length, getD}
 use lib.Ieee.{Float, nan}
-use Rattle.sentences.specs.Sentences.{refusal, decided, at, sound, fresh}
+use Rattle.sentences.specs.Sentences.{Sentence, refusal, decided, at, sound, fresh}
 use Rattle.color.specs.Color.{whole}
+use Rattle.answers.specs.declared.Outcome.{Outcome}
 use Rattle.answers.specs.declared.Outcome.the-variants as outcome
 use Rattle.modulate.specs.Gray.{chromaSymbolToHue}
 use Rattle.modulate.specs.Mask.{chromaMaskApply}
+use Rattle.modulate.specs.Draw as drawing
 use Rattle.modulate.specs.Draw.{gridLevel, ringLevel, cellHue, ringHue, levelAt, hueAt, entriesOf}
 use Rattle.modulate.specs.Score.{unmasked, unmaskSentences, unmaskLumaOf}
 use Rattle.modulate.specs.Read.{reads, readAt, readList, readSentences, readListOf}
 use Rattle.modulate.proofs.Symbols.{bit-lt}
 use Rattle.lists.proofs.Laws.{Reached, reached}
-use Rattle.answers.specs.Answers.{outcomeNumber}
+use Rattle.answers.specs.Answers.{outcomeNumber, ended, writtenOr}
 use Rattle.answers.proofs.Answers.{list-done, none-of}
 use Rattle.modulate.proofs.Accepted.{IsDrawn, drawn-done}
 use Rattle.limits.specs.Chroma.{chromaOn}
 use Rattle.stats.specs.Margin.{inMargin}
 use Rattle.stats.specs.Calls as stats
 use Rattle.stats.proofs.Range.{Held}
+use Rattle.demod.specs.Call as scoring
 use Rattle.demod.proofs.Accepted as scored
 use Rattle.demod.proofs.Outcome.{IsDone, at-done}
 use Rattle.refine.specs.Calls as refinement
@@ -34,12 +37,24 @@ use Rattle.guarantee.specs.Card.{Setting, Card, modules, toDraw, drawnCa
 use Rattle.guarantee.specs.Guarantee.{Singles, InMargin, Readable}
 use Rattle.guarantee.proofs.Sample.{Fits, said-yes}
 
+-- ---- a call whose number is 0 is done: a refused one has the number that it is refused by
+
+done-at : {A : Type 0} (number : A → ℕ) (answer : A → Outcome) (refused : ℕ → A) (accepted : A) → ((n : ℕ) → number (refused n) ≡ n) → answer accepted ≡ outcome.Done →
+    (n : ℕ) → number (decided n refused accepted) ≡ 0 → answer (decided n refused accepted) ≡ outcome.Done
+unfolding decided
+done-at number answer refused accepted same done zero e = done
+done-at number answer refused accepted same done (suc n) e = absurd (omega (arith, same (suc n)))
+
+list-zero : {A : Type 0} (ss : List Sentence) (before after : List A) → writtenOr ss before after .number ≡ 0 → (0 ≡ refusal ss) × (writtenOr ss before after .list ≡ after)
+list-zero ss before after z =
+    list-done ss before after (done-at (λ x. x .number) (λ x. x .answer) (λ n. ended (outcome.Refused n) before) (ended outcome.Done after) (λ n. refl) refl (refusal ss) z)
+
 -- ---- a call that reads a list
 
-module _ (scores : List Float) (bits : List ℕ) (done : readListOf scores bits .answer ≡ outcome.Done) where
+module _ (scores : List Float) (bits : List ℕ) (done : readListOf scores bits .number ≡ 0) where
   was-done : (0 ≡ refusal (readSentences scores bits)) × (readListOf scores bits .list ≡ readList scores bits)
   unfolding readListOf
-  was-done = list-done (readSentences scores bits) bits (readList scores bits) done
+  was-done = list-zero (readSentences scores bits) bits (readList scores bits) done
 
   read-room : length scores ≤ length bits
   unfolding readSentences at sound fresh
@@ -54,14 +69,23 @@ module _ (scores : List Float) (bits : List ℕ) (done : readListOf scores bits 
   pub read-long : length scores ≤ length (readListOf scores bits .list)
   read-long = rw (was-done .1) (omega (arith, all-read .long, read-room))
 
--- ---- refinement's number
+-- ---- drawing, scoring, and refinement's number
 
-refine-by : (q : refinement.Request) (n : ℕ) → outcomeNumber (decided n (refinement.turnedAway q) (refinement.finalOf (refinement.refinedOf q)) .answer) ≡ n
+draw-zero : (q : drawing.Card) → drawing.drawOf q .number ≡ 0 → drawing.drawOf q .answer ≡ outcome.Done
+unfolding drawing.drawOf
+draw-zero q =
+    done-at (λ x. x .number) (λ x. x .answer) (drawing.notDrawn q) (drawing.drawn outcome.Done (drawing.levelsOf q) (drawing.huesOf q)) (λ n. refl) refl (refusal (drawing.drawSentences q))
+
+score-zero : (q : scoring.Request) → outcomeNumber (scoring.scoredOf q .answer) ≡ 0 → scoring.scoredOf q .answer ≡ outcome.Done
+unfolding scoring.scoredOf
+score-zero q = done-at (λ x. outcomeNumber (x .answer)) (λ x. x .answer) (scoring.turnedAway q) (scoring.done q) (λ n. refl) refl (refusal (scoring.sentencesOf q))
+
+refine-by : (q : refinement.Request) (n : ℕ) → decided n (refinement.turnedAway q) (refinement.finalOf (refinement.refinedOf q)) .number ≡ n
 unfolding decided
 refine-by q zero = refl
 refine-by q (suc n) = refl
 
-refine-number : (q : refinement.Request) → outcomeNumber (refinement.refineOf q .answer) ≡ refusal (refinement.sentencesOf q)
+refine-number : (q : refinement.Request) → refinement.refineOf q .number ≡ refusal (refinement.sentencesOf q)
 unfolding refinement.refineOf
 refine-number q = refine-by q (refusal (refinement.sentencesOf q))
 
@@ -82,7 +106,7 @@ hue-below bits hues m cxs cys j h = either (ltb j (length cxs)) _ _ hues (mod-lt
 module _ (s : Setting) (c : Card) (R : Readable s c) where
   -- drawing
   pub is-drawn : IsDrawn (toDraw s c)
-  is-drawn = drawn-done (toDraw s c) (R .drawing)
+  is-drawn = drawn-done (toDraw s c) (draw-zero (toDraw s c) (R .drawing))
 
   pub drawn-level : (i : ℕ) → i < modules s → getD (drawnCard s c .levels) i 0 ≡ levelAt (c .bits) (s .xs) (s .ys) (s .layout .grid) (s .mask) i
   drawn-level i h = ap (λ d. getD (d .levels) i 0) (is-drawn .left) ∙ is-drawn .level i h
@@ -93,14 +117,14 @@ module _ (s : Setting) (c : Card) (R : Readable s c) where
 
   -- scoring
   pub scored-card : IsDone (toScore s c)
-  scored-card = at-done (toScore s c) (R .accepted .scoring)
+  scored-card = at-done (toScore s c) (score-zero (toScore s c) (R .accepted .scoring))
 
   pub scoring-knows : scored.Accepted (toScore s c)
   scoring-knows = scored-card .fit
 
   -- refinement
   refine-zero : 0 ≡ refusal (refinement.sentencesOf (toRefine s c))
-  refine-zero = sym (ap outcomeNumber (R .accepted .refinement)) ∙ refine-number (toRefine s c)
+  refine-zero = sym (R .accepted .refinement) ∙ refine-number (toRefine s c)
 
   pub refined-is : refinement.finalOf (refinement.refinedOf (toRefine s c)) ≡ refinedCard s c
   refined-is = refining.at-done (toRefine s c) 0 refine-zero refl
@@ -109,7 +133,7 @@ module _ (s : Setting) (c : Card) (R : Readable s c) where
   pub unmasked-is : unmaskedCard s c .list ≡ unmasked (s .mask) (s .xs) (s .ys) (s .layout .grid) (refinedCard s c .luma)
   unfolding unmaskLumaOf
   unmasked-is =
-      list-done (unmaskSentences (refinedCard s c .luma) (s .layout .side) (s .xs) (s .ys) (s .layout .grid)) (refinedCard s c .luma)
+      list-zero (unmaskSentences (refinedCard s c .luma) (s .layout .side) (s .xs) (s .ys) (s .layout .grid)) (refinedCard s c .luma)
       (unmasked (s .mask) (s .xs) (s .ys) (s .layout .grid) (refinedCard s c .luma)) (R .accepted .unmasking) .1
 
 -- ---- the setting's numbers

@@ -12,10 +12,9 @@ use Rattle.layout.specs.declared.Layout.{Layout}
 use Rattle.color.specs.declared.Lab.{Lab}
 use Rattle.color.specs.Color.{linearToLab}
 use Rattle.color.specs.Palette.{paletteLab}
-use Rattle.answers.specs.declared.Outcome.the-variants as outcome
 use Rattle.modulate.specs.Draw as drawing
 use Rattle.modulate.specs.Draw.{Drawn, drawOf, isOne, bitOf}
-use Rattle.answers.specs.Answers.{Ended}
+use Rattle.answers.specs.Answers.{outcomeNumber, Ended}
 use Rattle.modulate.specs.Score.{unmaskLumaOf}
 use Rattle.modulate.specs.Read.{readListOf}
 use Rattle.illum.specs.declared.IlluminationModel.{IlluminationModel}
@@ -94,13 +93,13 @@ lumaRead s c = readListOf (unmaskedCard s c .list) (c .lumaBits)
 abbrev pub chromaRead : Setting → Card → Ended ℕ
 chromaRead s c = readListOf (scoredCard s c .chroma) (c .chromaBits)
 
--- "It is accepted when none of these calls .. is refused"
+-- "It is accepted when none of these calls .. is refused": a refusal gives its number, which is above 0, and an accepted call's number is 0
 pub record Accepted (s : Setting) (c : Card) : Type 0 where
-  pub scoring : scoredCard s c .answer ≡ outcome.Done
-  pub refinement : refinedCard s c .answer ≡ outcome.Done
-  pub unmasking : unmaskedCard s c .answer ≡ outcome.Done
-  pub luma : lumaRead s c .answer ≡ outcome.Done
-  pub chroma : chromaRead s c .answer ≡ outcome.Done
+  pub scoring : outcomeNumber (scoredCard s c .answer) ≡ 0
+  pub refinement : refinedCard s c .number ≡ 0
+  pub unmasking : unmaskedCard s c .number ≡ 0
+  pub luma : lumaRead s c .number ≡ 0
+  pub chroma : chromaRead s c .number ≡ 0
 
 -- ---- "A card's bits, drawn or read, are one for each listed module in list order, then, with chroma on, its symbols' bits in the order of the chroma score list."
 

@@ -7,7 +7,6 @@ use lib.Dec.{T}
 use lib.ListN.{length, getD}
 use lib.Ieee.{nan, binary32, fits}
 use Rattle.limits.specs.Chroma.{chromaOn}
-use Rattle.answers.specs.declared.Outcome.the-variants as outcome
 use Rattle.stats.specs.declared.Verdict.the-variants as verdict
 use Rattle.stats.specs.Calls.{marginAnswer}
 use Rattle.guarantee.specs.Within.{halfSigma}
@@ -38,7 +37,7 @@ pub record NearCell (s : Setting) (c : Card) (j : ℕ) : Type 0 where
 
 -- a card that is drawn, accepted, and near what was drawn; "with chroma off, cells are neither corrected nor scored"
 pub record Readable (s : Setting) (c : Card) : Type 0 where
-  pub drawing : drawnCard s c .answer ≡ outcome.Done
+  pub drawing : drawnCard s c .number ≡ 0
   pub accepted : Accepted s c
   pub module-near : (i : ℕ) → i < modules s → NearModule s c i
   pub cell-near : chromaOn (s .layout .hues) ≡ true → (j : ℕ) → j < length (s .cxs) → NearCell s c j

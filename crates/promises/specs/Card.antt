@@ -16,8 +16,7 @@ use Rattle.stats.specs.declared.ChannelStats.{ChannelStats}
 use Rattle.stats.specs.Arithmetic.{_⊕_, _⊖_, _⊘_}
 use Rattle.stats.specs.Noise.{sigmaAbAt, lumaLlr}
 use Rattle.answers.specs.declared.Outcome.{Outcome}
-use Rattle.answers.specs.declared.Outcome.the-variants.{Done}
-use Rattle.answers.specs.Answers.{ended}
+use Rattle.answers.specs.Answers.{outcomeNumber, ended}
 use Rattle.modulate.specs.Score.{unmaskLumaOf}
 use Rattle.modulate.specs.Read.{readListOf}
 use Rattle.demod.specs.Call as scoring
@@ -131,17 +130,17 @@ pub record Called (s : Setting) (c : Card) : Type 0 where
 abbrev pub bitsHad : (s : Setting) (c : Card) → Called s c → List ℕ
 bitsHad s c p = take (modules s) (p .luma-bits) ++ take (chromaScores s) (p .chroma-bits)
 
--- none of the calls is refused
-pub record AllDone (s : Setting) (c : Card) (p : Called s c) : Type 0 where
-  pub score : p .score-answer ≡ Done
-  pub refine : p .refine-answer ≡ Done
-  pub unmask : p .unmask-answer ≡ Done
-  pub luma : p .luma-answer ≡ Done
-  pub chroma : p .chroma-answer ≡ Done
+-- none of the calls is refused: each number is 0
+pub record AllAccepted (s : Setting) (c : Card) (p : Called s c) : Type 0 where
+  pub score : outcomeNumber (p .score-answer) ≡ 0
+  pub refine : outcomeNumber (p .refine-answer) ≡ 0
+  pub unmask : outcomeNumber (p .unmask-answer) ≡ 0
+  pub luma : outcomeNumber (p .luma-answer) ≡ 0
+  pub chroma : outcomeNumber (p .chroma-answer) ≡ 0
 
 pub record ProgramReads : Type 0 where
   -- they are the bits read that the guarantee speaks of
   pub had : (s : Setting) (c : Card) (p : Called s c) → bitsHad s c p ≡ bitsRead s c
   -- and inside the margin, near what was drawn, the bits drawn
-  pub drawn : (s : Setting) (c : Card) (p : Called s c) → AllDone s c p → Singles s → InMargin s → drawnCard s c .answer ≡ Done → ((i : ℕ) → i < modules s → NearModule s c i) →
+  pub drawn : (s : Setting) (c : Card) (p : Called s c) → AllAccepted s c p → Singles s → InMargin s → drawnCard s c .number ≡ 0 → ((i : ℕ) → i < modules s → NearModule s c i) →
       (chromaOn (s .layout .hues) ≡ true → (j : ℕ) → j < length (s .cxs) → NearCell s c j) → bitsHad s c p ≡ bitsDrawn s c
