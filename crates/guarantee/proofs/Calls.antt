@@ -2,11 +2,9 @@
 -- where none is refused; so what a program reads from a card inside the margin is what the card was drawn from. Assumes nothing.
 use mathlib.Core.Path.{_≡_, sym, ap, _∙_}
 use mathlib.Core.List.{List, _++_}
-use mathlib.Core.Bool.{true}
-use Prim.Native.Nat.{ℕ, _<_}
-use lib.ListN.{length, take}
+use Prim.Native.Nat.{ℕ}
+use lib.ListN.{take}
 use lib.Ieee.{Float}
-use Rattle.limits.specs.Chroma.{chromaOn}
 use Rattle.answers.specs.declared.Outcome.{Outcome}
 use Rattle.answers.specs.Answers.{outcomeNumber, ended}
 use Rattle.modulate.specs.Score.{unmaskLumaOf}
@@ -14,7 +12,7 @@ use Rattle.modulate.specs.Read.{readListOf}
 use Rattle.demod.specs.Call as scoring
 use Rattle.refine.specs.Calls as refinement
 use Rattle.guarantee.specs.Card.{Setting, Card, modules, chromaScores, drawnCard, toScore, refinedCard, unmaskedCard, lumaRead, chromaRead, Accepted, bitsDrawn, bitsRead}
-use Rattle.guarantee.specs.Guarantee.{Singles, InMargin, NearModule, NearCell}
+use Rattle.guarantee.specs.Guarantee.{Singles, InMargin, Near}
 use Rattle.guarantee.proofs.Guarantee.{read-as-drawn}
 
 -- `score`, `add_local_luma`, `unmask_luma` and `read_list` twice: e, f, g, h and k are what their contracts say
@@ -52,6 +50,5 @@ module _ (s : Setting) (c : Card) (r : Outcome) (luma colours chroma : List Floa
         }
 
     -- inside the margin, and near what was drawn, the program has the bits drawn
-    pub program-reads : Singles s → InMargin s → drawnCard s c .number ≡ 0 → ((i : ℕ) → i < modules s → NearModule s c i) →
-        (chromaOn (s .layout .hues) ≡ true → (j : ℕ) → j < length (s .cxs) → NearCell s c j) → take (modules s) bits ++ take (chromaScores s) chromaBits ≡ bitsDrawn s c
-    program-reads S M D N C = joined ∙ read-as-drawn s c S M (record { drawing = D; accepted = all-accepted; module-near = N; cell-near = C }) .same
+    pub program-reads : Singles s → InMargin s → drawnCard s c .number ≡ 0 → Near s c → take (modules s) bits ++ take (chromaScores s) chromaBits ≡ bitsDrawn s c
+    program-reads S M D N = joined ∙ read-as-drawn s c S M (record { drawn = D; accepted = all-accepted; near = N }) .same

@@ -106,7 +106,7 @@ hue-below bits hues m cxs cys j h = either (ltb j (length cxs)) _ _ hues (mod-lt
 module _ (s : Setting) (c : Card) (R : Readable s c) where
   -- drawing
   pub is-drawn : IsDrawn (toDraw s c)
-  is-drawn = drawn-done (toDraw s c) (draw-zero (toDraw s c) (R .drawing))
+  is-drawn = drawn-done (toDraw s c) (draw-zero (toDraw s c) (R .drawn))
 
   pub drawn-level : (i : ℕ) → i < modules s → getD (drawnCard s c .levels) i 0 ≡ levelAt (c .bits) (s .xs) (s .ys) (s .layout .grid) (s .mask) i
   drawn-level i h = ap (λ d. getD (d .levels) i 0) (is-drawn .left) ∙ is-drawn .level i h

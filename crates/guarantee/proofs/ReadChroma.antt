@@ -88,7 +88,7 @@ module _ (s : Setting) (c : Card) (S : Singles s) (M : InMargin s) (R : Readable
   -- cell e
   cell-led : (e : ℕ) → e < entries → e < length (s .cxs) → Led (cellLab s c e) (drawnHue e)
   cell-led e h l =
-      let p = R .cell-near on e l in
+      let p = R .near .each-cell on e l in
       by-level (cellColours (toScore s c) e) (p .level) (drawnHue e) (p .below) (drawn-below e) (rw (drawn-hue s c R on e h) at (p .near))
 
   -- ring module i, which is entry e
@@ -98,7 +98,7 @@ module _ (s : Setting) (c : Card) (S : Singles s) (M : InMargin s) (R : Readable
 
   ring-led : (e i : ℕ) → e < entries → eqb (s .layout .size) 1 ≡ true → s .layout .grid ≤ i → i < modules s → length (s .cxs) + (i - s .layout .grid) ≡ e → Led (moduleLab s c i) (drawnHue e)
   ring-led e i h z g l q =
-      let p = R .module-near i l in
+      let p = R .near .each-module i l in
       let a : p .hue ≡ drawnHue e = p .own (carries i z g) ∙ ap (λ (j : ℕ). getD (drawnCard s c .hues) j 0) q ∙ drawn-hue s c R on e h in
       let n = rw (drawn-level s c R i l) at (p .near) in
       by-level (moduleColours (toScore s c) i) (levelAt (c .bits) (s .xs) (s .ys) (s .layout .grid) (s .mask) i) (drawnHue e) (level-two (c .bits) s i) (drawn-below e)

@@ -67,7 +67,7 @@ module _ (s : Setting) (c : Card) (S : Singles s) (M : InMargin s) (R : Readable
   clearly : (i : ℕ) → i < modules s → Clearly (levelAt (c .bits) (s .xs) (s .ys) (s .layout .grid) (s .mask) i) (scoreOf i)
   clearly i h =
       let d = drawn-level s c R i h in
-      let p = R .module-near i h in
+      let p = R .near .each-module i h in
       by-level (levelAt (c .bits) (s .xs) (s .ys) (s .layout .grid) (s .mask) i) (p .hue) (level-two (c .bits) s i) (p .below) i (rw d at (p .near))
 
   -- what scoring left

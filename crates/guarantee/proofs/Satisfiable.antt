@@ -152,13 +152,16 @@ pub plain-readable : Readable plain plainCard
 unfolding computed
 plain-readable =
     record {
-      drawing = refl;
+      drawn = refl;
       accepted = record { scoring = refl; refinement = refl; unmasking = refl; luma = refl; chroma = refl };
-      module-near =
-          first-two (NearModule plain plainCard)
-          (record { hue = 0; below = omega arith; own = none; near = refl })
-          (record { hue = 0; below = omega arith; own = none; near = refl });
-      cell-near = λ on. λ j h. absurd (omega arith);
+      near =
+          record {
+            each-module =
+                first-two (NearModule plain plainCard)
+                (record { hue = 0; below = omega arith; own = none; near = refl })
+                (record { hue = 0; below = omega arith; own = none; near = refl });
+            each-cell = λ on. λ j h. absurd (omega arith);
+          };
     }
 
 pub plain-drawn : bitsDrawn plain plainCard ≡ 1 ∷ 1 ∷ []
@@ -203,13 +206,16 @@ pub coloured-readable : Readable coloured colouredCard
 unfolding computed
 coloured-readable =
     record {
-      drawing = refl;
+      drawn = refl;
       accepted = record { scoring = refl; refinement = refl; unmasking = refl; luma = refl; chroma = refl };
-      module-near =
-          first-two (NearModule coloured colouredCard)
-          (record { hue = 0; below = omega arith; own = λ e. refl; near = refl })
-          (record { hue = 0; below = omega arith; own = λ e. refl; near = refl });
-      cell-near = λ on. first-one (NearCell coloured colouredCard) (record { level = 1; below = omega arith; near = refl });
+      near =
+          record {
+            each-module =
+                first-two (NearModule coloured colouredCard)
+                (record { hue = 0; below = omega arith; own = λ e. refl; near = refl })
+                (record { hue = 0; below = omega arith; own = λ e. refl; near = refl });
+            each-cell = λ on. first-one (NearCell coloured colouredCard) (record { level = 1; below = omega arith; near = refl });
+          };
     }
 
 pub coloured-drawn : bitsDrawn coloured colouredCard ≡ 1 ∷ 0 ∷ 1 ∷ 0 ∷ []
@@ -279,14 +285,17 @@ pub wide-readable : Readable (edge 2) wideCard
 unfolding computed
 wide-readable =
     record {
-      drawing = refl;
+      drawn = refl;
       accepted = record { scoring = refl; refinement = refl; unmasking = refl; luma = refl; chroma = refl };
-      module-near =
-          first-three (NearModule (edge 2) wideCard)
-          (record { hue = 1; below = omega arith; own = none; near = refl })
-          (record { hue = 1; below = omega arith; own = none; near = refl })
-          (record { hue = 1; below = omega arith; own = none; near = refl });
-      cell-near = λ on. first-one (NearCell (edge 2) wideCard) (record { level = 0; below = omega arith; near = refl });
+      near =
+          record {
+            each-module =
+                first-three (NearModule (edge 2) wideCard)
+                (record { hue = 1; below = omega arith; own = none; near = refl })
+                (record { hue = 1; below = omega arith; own = none; near = refl })
+                (record { hue = 1; below = omega arith; own = none; near = refl });
+            each-cell = λ on. first-one (NearCell (edge 2) wideCard) (record { level = 0; below = omega arith; near = refl });
+          };
     }
 
 pub wide-drawn : bitsDrawn (edge 2) wideCard ≡ 1 ∷ 0 ∷ 1 ∷ 0 ∷ []
@@ -297,14 +306,17 @@ pub wide-other-readable : Readable (edge 2) wideOther
 unfolding computed
 wide-other-readable =
     record {
-      drawing = refl;
+      drawn = refl;
       accepted = record { scoring = refl; refinement = refl; unmasking = refl; luma = refl; chroma = refl };
-      module-near =
-          first-three (NearModule (edge 2) wideOther)
-          (record { hue = 1; below = omega arith; own = none; near = refl })
-          (record { hue = 1; below = omega arith; own = none; near = refl })
-          (record { hue = 1; below = omega arith; own = none; near = refl });
-      cell-near = λ on. first-one (NearCell (edge 2) wideOther) (record { level = 1; below = omega arith; near = refl });
+      near =
+          record {
+            each-module =
+                first-three (NearModule (edge 2) wideOther)
+                (record { hue = 1; below = omega arith; own = none; near = refl })
+                (record { hue = 1; below = omega arith; own = none; near = refl })
+                (record { hue = 1; below = omega arith; own = none; near = refl });
+            each-cell = λ on. first-one (NearCell (edge 2) wideOther) (record { level = 1; below = omega arith; near = refl });
+          };
     }
 
 pub wide-other-drawn : bitsDrawn (edge 2) wideOther ≡ 0 ∷ 1 ∷ 0 ∷ 0 ∷ []
@@ -319,14 +331,17 @@ pub wide-cell-readable : Readable (edge 2) wideCell
 unfolding computed
 wide-cell-readable =
     record {
-      drawing = refl;
+      drawn = refl;
       accepted = record { scoring = refl; refinement = refl; unmasking = refl; luma = refl; chroma = refl };
-      module-near =
-          first-three (NearModule (edge 2) wideCell)
-          (record { hue = 1; below = omega arith; own = none; near = refl })
-          (record { hue = 1; below = omega arith; own = none; near = refl })
-          (record { hue = 1; below = omega arith; own = none; near = refl });
-      cell-near = λ on. first-one (NearCell (edge 2) wideCell) (record { level = 1; below = omega arith; near = refl });
+      near =
+          record {
+            each-module =
+                first-three (NearModule (edge 2) wideCell)
+                (record { hue = 1; below = omega arith; own = none; near = refl })
+                (record { hue = 1; below = omega arith; own = none; near = refl })
+                (record { hue = 1; below = omega arith; own = none; near = refl });
+            each-cell = λ on. first-one (NearCell (edge 2) wideCell) (record { level = 1; below = omega arith; near = refl });
+          };
     }
 
 pub wide-cell-drawn : bitsDrawn (edge 2) wideCell ≡ 1 ∷ 0 ∷ 1 ∷ 1 ∷ []
@@ -344,14 +359,17 @@ pub narrow-readable : Readable (edge 1) narrowCard
 unfolding computed
 narrow-readable =
     record {
-      drawing = refl;
+      drawn = refl;
       accepted = record { scoring = refl; refinement = refl; unmasking = refl; luma = refl; chroma = refl };
-      module-near =
-          first-three (NearModule (edge 1) narrowCard)
-          (record { hue = 1; below = omega arith; own = λ e. refl; near = refl })
-          (record { hue = 1; below = omega arith; own = λ e. refl; near = refl })
-          (record { hue = 1; below = omega arith; own = λ e. refl; near = refl });
-      cell-near = λ on. first-one (NearCell (edge 1) narrowCard) (record { level = 0; below = omega arith; near = refl });
+      near =
+          record {
+            each-module =
+                first-three (NearModule (edge 1) narrowCard)
+                (record { hue = 1; below = omega arith; own = λ e. refl; near = refl })
+                (record { hue = 1; below = omega arith; own = λ e. refl; near = refl })
+                (record { hue = 1; below = omega arith; own = λ e. refl; near = refl });
+            each-cell = λ on. first-one (NearCell (edge 1) narrowCard) (record { level = 0; below = omega arith; near = refl });
+          };
     }
 
 pub narrow-drawn : bitsDrawn (edge 1) narrowCard ≡ 1 ∷ 0 ∷ 1 ∷ 0 ∷ 1 ∷ []
@@ -362,14 +380,17 @@ pub narrow-other-readable : Readable (edge 1) narrowOther
 unfolding computed
 narrow-other-readable =
     record {
-      drawing = refl;
+      drawn = refl;
       accepted = record { scoring = refl; refinement = refl; unmasking = refl; luma = refl; chroma = refl };
-      module-near =
-          first-three (NearModule (edge 1) narrowOther)
-          (record { hue = 1; below = omega arith; own = λ e. refl; near = refl })
-          (record { hue = 1; below = omega arith; own = λ e. refl; near = refl })
-          (record { hue = 1; below = omega arith; own = λ e. refl; near = refl });
-      cell-near = λ on. first-one (NearCell (edge 1) narrowOther) (record { level = 1; below = omega arith; near = refl });
+      near =
+          record {
+            each-module =
+                first-three (NearModule (edge 1) narrowOther)
+                (record { hue = 1; below = omega arith; own = λ e. refl; near = refl })
+                (record { hue = 1; below = omega arith; own = λ e. refl; near = refl })
+                (record { hue = 1; below = omega arith; own = λ e. refl; near = refl });
+            each-cell = λ on. first-one (NearCell (edge 1) narrowOther) (record { level = 1; below = omega arith; near = refl });
+          };
     }
 
 pub narrow-other-drawn : bitsDrawn (edge 1) narrowOther ≡ 0 ∷ 1 ∷ 0 ∷ 0 ∷ 1 ∷ []
@@ -384,14 +405,17 @@ pub narrow-ring-readable : Readable (edge 1) narrowRing
 unfolding computed
 narrow-ring-readable =
     record {
-      drawing = refl;
+      drawn = refl;
       accepted = record { scoring = refl; refinement = refl; unmasking = refl; luma = refl; chroma = refl };
-      module-near =
-          first-three (NearModule (edge 1) narrowRing)
-          (record { hue = 1; below = omega arith; own = none; near = refl })
-          (record { hue = 1; below = omega arith; own = none; near = refl })
-          (record { hue = 0; below = omega arith; own = λ e. refl; near = refl });
-      cell-near = λ on. first-one (NearCell (edge 1) narrowRing) (record { level = 0; below = omega arith; near = refl });
+      near =
+          record {
+            each-module =
+                first-three (NearModule (edge 1) narrowRing)
+                (record { hue = 1; below = omega arith; own = none; near = refl })
+                (record { hue = 1; below = omega arith; own = none; near = refl })
+                (record { hue = 0; below = omega arith; own = λ e. refl; near = refl });
+            each-cell = λ on. first-one (NearCell (edge 1) narrowRing) (record { level = 0; below = omega arith; near = refl });
+          };
     }
 
 pub narrow-ring-drawn : bitsDrawn (edge 1) narrowRing ≡ 1 ∷ 0 ∷ 1 ∷ 0 ∷ 0 ∷ []
@@ -436,13 +460,16 @@ pub lone-readable : Readable lone loneCard
 unfolding computed
 lone-readable =
     record {
-      drawing = refl;
+      drawn = refl;
       accepted = record { scoring = refl; refinement = refl; unmasking = refl; luma = refl; chroma = refl };
-      module-near =
-          first-two (NearModule lone loneCard)
-          (record { hue = 0; below = omega arith; own = none; near = refl })
-          (record { hue = 0; below = omega arith; own = none; near = refl });
-      cell-near = none;
+      near =
+          record {
+            each-module =
+                first-two (NearModule lone loneCard)
+                (record { hue = 0; below = omega arith; own = none; near = refl })
+                (record { hue = 0; below = omega arith; own = none; near = refl });
+            each-cell = none;
+          };
     }
 
 pub lone-drawn : bitsDrawn lone loneCard ≡ 0 ∷ 0 ∷ []

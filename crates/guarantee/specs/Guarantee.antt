@@ -1,5 +1,7 @@
--- The read guarantee (document 01, demand 3): two cards of one layout, palette, mask, model and noise record, drawn from any bits, whose calls are accepted and whose corrected colours lie within half a
--- sigma of a drawn colour, are read as they were drawn, so they are read as equal exactly when they were drawn from equal bits. `proofs/Guarantee.antt` proves it. Definitions only.
+-- The read guarantee (document 01, demand 3; README, promise 3): "Inside the margin, with each corrected colour within half a sigma of its drawn colour, the bits read are the bits drawn, place for place,
+-- none missing, none added." Two cards share layout, palette, mask, model and noise record, which hold f32 values (`Singles`). The margin check says yes (`InMargin`); each card is drawn from its bits,
+-- accepted, and near what was drawn (`Readable`). Then each is read as it was drawn (`ReadAsDrawn`), so the two are read as equal exactly when they were drawn from equal bits. `proofs/Guarantee.antt`
+-- proves it. Definitions only.
 use mathlib.Core.Path.{_≡_}
 use mathlib.Core.Bool.{true}
 use Prim.Native.Nat.{ℕ, _+_, _<_}
@@ -22,6 +24,10 @@ pub record Singles (s : Setting) : Type 0 where
   pub sigma-ab-dark : T (fits binary32 (s .noise .«sigma_ab_dark»))
   pub sigma-ab-light : T (fits binary32 (s .noise .«sigma_ab_light»))
 
+-- "Inside the margin": the margin check says yes, so it is not refused
+abbrev pub InMargin : Setting → Type 0
+InMargin s = marginAnswer (s .noise) (s .palette) (s .layout .hues) ≡ verdict.Yes
+
 -- module i is within half a sigma of its drawn colour: "A module's drawn colour is a palette colour of its level, and of its hue too where a ring module carries chroma"
 pub record NearModule (s : Setting) (c : Card) (i : ℕ) : Type 0 where
   pub hue : ℕ
@@ -35,24 +41,24 @@ pub record NearCell (s : Setting) (c : Card) (j : ℕ) : Type 0 where
   pub below : level < 2
   pub near : halfSigma (s .noise) (cellLab s c j) (paletteColour s level (getD (drawnCard s c .hues) j 0)) ≡ true
 
--- a card that is drawn, accepted, and near what was drawn; "with chroma off, cells are neither corrected nor scored"
-pub record Readable (s : Setting) (c : Card) : Type 0 where
-  pub drawing : drawnCard s c .number ≡ 0
-  pub accepted : Accepted s c
-  pub module-near : (i : ℕ) → i < modules s → NearModule s c i
-  pub cell-near : chromaOn (s .layout .hues) ≡ true → (j : ℕ) → j < length (s .cxs) → NearCell s c j
+-- "with each corrected colour within half a sigma of its drawn colour": every module's, and with chroma on every cell's, since "With chroma off, cells are neither corrected nor scored."
+pub record Near (s : Setting) (c : Card) : Type 0 where
+  pub each-module : (i : ℕ) → i < modules s → NearModule s c i
+  pub each-cell : chromaOn (s .layout .hues) ≡ true → (j : ℕ) → j < length (s .cxs) → NearCell s c j
 
--- "the bits read are the bits drawn, place for place, with equal lengths"
+-- a card that is drawn, drawing not being refused, that is accepted, and that is near what was drawn
+pub record Readable (s : Setting) (c : Card) : Type 0 where
+  pub drawn : drawnCard s c .number ≡ 0
+  pub accepted : Accepted s c
+  pub near : Near s c
+
+-- "the bits read are the bits drawn, place for place, none missing, none added"
 pub record ReadAsDrawn (s : Setting) (c : Card) : Type 0 where
   pub drawn-length : length (bitsDrawn s c) ≡ modules s + chromaScores s
   pub read-length : length (bitsRead s c) ≡ modules s + chromaScores s
   pub same : bitsRead s c ≡ bitsDrawn s c
 
--- the margin check says yes, so it is not refused
-abbrev pub InMargin : Setting → Type 0
-InMargin s = marginAnswer (s .noise) (s .palette) (s .layout .hues) ≡ verdict.Yes
-
--- the guarantee
+-- the guarantee, of two cards
 pub record Guaranteed (s : Setting) (a b : Card) : Type 0 where
   pub first : ReadAsDrawn s a
   pub second : ReadAsDrawn s b

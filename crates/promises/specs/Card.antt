@@ -23,7 +23,7 @@ use Rattle.demod.specs.Call as scoring
 use Rattle.refine.specs.Calls as refinement
 use Rattle.guarantee.specs.Within.{units, halfApart}
 use Rattle.guarantee.specs.Card.{Setting, Card, modules, chromaScores, drawnCard, toScore, bitsDrawn, bitsRead, moduleLab, cellLab, paletteColour, carriesChroma}
-use Rattle.guarantee.specs.Guarantee.{Singles, InMargin, NearModule, NearCell, Readable}
+use Rattle.guarantee.specs.Guarantee.{Singles, InMargin, Near, Readable}
 use Rattle.guarantee.specs.Table.{Row, table}
 
 -- a card of the setting s that meets the guarantee's premises, and the bits that it is drawn from and that are read from it
@@ -141,6 +141,5 @@ pub record AllAccepted (s : Setting) (c : Card) (p : Called s c) : Type 0 where
 pub record ProgramReads : Type 0 where
   -- they are the bits read that the guarantee speaks of
   pub had : (s : Setting) (c : Card) (p : Called s c) → bitsHad s c p ≡ bitsRead s c
-  -- and inside the margin, near what was drawn, the bits drawn
-  pub drawn : (s : Setting) (c : Card) (p : Called s c) → AllAccepted s c p → Singles s → InMargin s → drawnCard s c .number ≡ 0 → ((i : ℕ) → i < modules s → NearModule s c i) →
-      (chromaOn (s .layout .hues) ≡ true → (j : ℕ) → j < length (s .cxs) → NearCell s c j) → bitsHad s c p ≡ bitsDrawn s c
+  -- and inside the margin, of a card that is drawn, accepted and near what was drawn, the bits drawn
+  pub drawn : (s : Setting) (c : Card) (p : Called s c) → Singles s → InMargin s → drawnCard s c .number ≡ 0 → AllAccepted s c p → Near s c → bitsHad s c p ≡ bitsDrawn s c

@@ -8,8 +8,8 @@ returns c =
     record {
       had = λ s c p. calls.joined s c (p .score-answer) (p .luma) (p .colours) (p .chroma) (p .score-is) (p .refine-answer) (p .refined) (p .scratch) (p .refine-is) (p .unmask-answer) (p .unmasked) (p .unmask-is)
           (p .luma-answer) (p .luma-bits) (p .luma-is) (p .chroma-answer) (p .chroma-bits) (p .chroma-is);
-      drawn = λ s c p d. calls.program-reads s c (p .score-answer) (p .luma) (p .colours) (p .chroma) (p .score-is) (p .refine-answer) (p .refined) (p .scratch) (p .refine-is) (p .unmask-answer) (p .unmasked) (p .unmask-is)
-          (p .luma-answer) (p .luma-bits) (p .luma-is) (p .chroma-answer) (p .chroma-bits) (p .chroma-is) (d .score) (d .refine) (d .unmask) (d .luma) (d .chroma);
+      drawn = λ s c p S M D a N. calls.program-reads s c (p .score-answer) (p .luma) (p .colours) (p .chroma) (p .score-is) (p .refine-answer) (p .refined) (p .scratch) (p .refine-is) (p .unmask-answer) (p .unmasked) (p .unmask-is)
+          (p .luma-answer) (p .luma-bits) (p .luma-is) (p .chroma-answer) (p .chroma-bits) (p .chroma-is) (a .score) (a .refine) (a .unmask) (a .luma) (a .chroma) S M D N;
     }
 
 pub program-reads-spec : {M : Type 1} → statement M
