@@ -1,6 +1,7 @@
--- The promises that the contracts of this crate cite, by subject. `Card` (crate `guarantee`), `Floats` (`float`), `Colour` (`color`), `Systems` (`math`), `Order` (`order`), `Symbols` (`modulate`), `Model` (`illum`, `fit`), `Noise` (`stats`,
+-- The promises that the contracts of this crate cite, by subject. `Card`, `Premises` (crate `guarantee`), `Floats` (`float`), `Colour` (`color`), `Systems` (`math`), `Order` (`order`), `Symbols` (`modulate`), `Model` (`illum`, `fit`), `Noise` (`stats`,
 -- `measure`), `Scores` (`demod`), `Window` (`refine`), `Reading` (`readout`, `reader`), `CardFile` (`card`, `reader`). Each is stated over the definitions of its crate.
 pub mod Card
+pub mod Premises
 pub mod Floats
 pub mod Colour
 pub mod Systems

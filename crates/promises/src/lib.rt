@@ -5,6 +5,7 @@
 
 ghost use Rattle.guarantee.specs.Guarantee.{ReadGuarantee};
 ghost use Rattle.promises.specs.Card.{ProgramReads, Met, Worked};
+ghost use Rattle.promises.specs.Premises.{ReadableAreSingles, DrawingAfterScoring};
 ghost use Rattle.promises.specs.Floats.{NearestRoots};
 ghost use Rattle.promises.specs.Colour.{SrgbFormula, NearestSrgb, BothWays, LightnessRises};
 ghost use Rattle.promises.specs.Systems.{SolveKeepsTails};
@@ -38,6 +39,19 @@ pub fn program_reads()
 // a sigma off and a palette that just passes the margin check; the cards of a pair share all but their bits and colours.
 pub fn premises_can_be_met()
     ensures { λ _. ⌜ Met ⌝ }
+{}
+
+// The guarantee's premise that the palette and the noise record hold f32 values holds of every card that `readcard`
+// reads: the palette is decoded from the file, and the noise record measured, whatever the model.
+pub fn readable_cards_are_singles()
+    ensures { λ _. ⌜ ReadableAreSingles ⌝ }
+{}
+
+// Drawing in a layout and at places that scoring has accepted is refused by 5 or not at all: not exactly where there is
+// a bit for each module and each chroma score, room for a level a module and, with chroma on, for a hue a place of the
+// chroma list.
+pub fn drawing_after_scoring()
+    ensures { λ _. ⌜ DrawingAfterScoring ⌝ }
 {}
 
 // The definitions give document 01's worked examples, row by row.
