@@ -1,7 +1,7 @@
 -- The read guarantee (document 01, demand 3; README, promise 3): "Inside the margin, with each corrected colour within half a sigma of its drawn colour, the bits read are the bits drawn, place for place,
--- none missing, none added." Two cards share layout, palette, mask, model and noise record; palette and record hold f32 values (`Singles`). The margin check says yes (`InMargin`); each card is drawn from its bits,
--- accepted, and near what was drawn (`Readable`). Then each is read as it was drawn (`ReadAsDrawn`), so the two are read as equal exactly when they were drawn from equal bits. `proofs/Guarantee.antt`
--- proves it. Definitions only.
+-- none missing, none added." Two cards share layout, palette, mask, model and noise record; palette and record hold f32 values (`Singles`). The margin check says yes (`InMargin`); each card is drawn from
+-- its bits, accepted, and near what was drawn (`Readable`). Then each is read as it was drawn (`ReadAsDrawn`), so the two are read as equal exactly when they were drawn from equal bits.
+-- `proofs/Guarantee.antt` proves it. Definitions only.
 use mathlib.Core.Path.{_≡_}
 use mathlib.Core.Bool.{true}
 use Prim.Native.Nat.{ℕ, _+_, _<_}
