@@ -7,10 +7,7 @@ use mathlib.Core.List.{List, [], _∷_}
 use Prim.Native.Nat.{ℕ, zero, suc, _+_, _*_}
 use native.Mathlib.Omega.{arith}
 use borrow.Author.Tests.{le-ltb}
-use lib.Dec.{T}
-use lib.ListN.{length, getD}
-use lib.Ieee.{Float, nan, binary32, fits}
-use lib.Ieee.Bits.{ofBits-fits}
+use lib.ListN.{length}
 use Rattle.sentences.specs.Sentences.{_when_, refusal, decided, sound, fresh}
 use Rattle.sentences.proofs.Laws.{holds, passed, behind, split, or-eq, or-ge}
 use Rattle.limits.specs.Chroma.{chromaOn}
@@ -25,33 +22,18 @@ use Rattle.illum.specs.declared.IlluminationModel.{IlluminationModel}
 use Rattle.stats.specs.declared.ChannelStats.{ChannelStats}
 use Rattle.stats.specs.declared.Noise.the-variants as noise
 use Rattle.measure.specs.Measure.{measureOf}
-use Rattle.measure.proofs.Passes.{F32, answered-passes}
+use Rattle.measure.proofs.Passes.{answered-passes}
 use Rattle.demod.specs.Call as scoring
 use Rattle.demod.proofs.Accepted as scored
 use Rattle.guarantee.specs.Card.{Setting, Card, modules, chromaScores, toDraw, drawnCard, toScore, scoredCard}
 use Rattle.guarantee.specs.Guarantee.{Singles}
 use Rattle.card.specs.declared.Card as opened
-use Rattle.card.specs.Number.{u32At, f32At}
-use Rattle.card.specs.Sections.{floatAt}
-use Rattle.reader.specs.File.{listFrom, listOf, floatsOf, sheetOf, referencesOf}
+use Rattle.reader.specs.File.{sheetOf, referencesOf}
 use Rattle.reader.specs.Fitting.{toMeasure}
+use Rattle.reader.proofs.Listed.{floats-fit}
 use Rattle.promises.specs.Premises.{settingOf, DrawingRoom, RefusedByLength}
 
--- ---- the floats of a file are f32 values
-
-none-fits : (i : ℕ) → T (fits binary32 (getD [] i nan))
-unfolding fits
-none-fits i = tt
-
-from-fits : (f : ℕ → Float) → ((i : ℕ) → T (fits binary32 (f i))) → (k i j : ℕ) → T (fits binary32 (getD (listFrom f k i) j nan))
-unfolding listFrom
-from-fits f h zero i j = none-fits j
-from-fits f h (suc k) i zero = h i
-from-fits f h (suc k) i (suc j) = from-fits f h k (suc i) j
-
-floats-fit : (s : List ℕ) (at n : ℕ) → F32 (floatsOf s at n)
-unfolding listOf f32At
-floats-fit s at n i = from-fits (floatAt s at) (λ j. ofBits-fits binary32 (u32At s (at + 4 * j))) n 0 i
+-- ---- the palette and the noise record of a file are f32 values
 
 pub file-singles : (s : List ℕ) (card : opened.Card) (m : IlluminationModel) (r : ChannelStats) → measureOf (toMeasure (sheetOf s card) (referencesOf s card) m) .answer ≡ noise.Record r →
     Singles (settingOf (sheetOf s card) m r)

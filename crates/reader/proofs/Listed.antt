@@ -40,7 +40,7 @@ from-fits f h zero i j = none-fits j
 from-fits f h (suc k) i zero = h i
 from-fits f h (suc k) i (suc j) = from-fits f h k (suc i) j
 
-floats-fit : (s : List ℕ) (at n : ℕ) → F32 (floatsOf s at n)
+pub floats-fit : (s : List ℕ) (at n : ℕ) → F32 (floatsOf s at n)
 unfolding listOf f32At
 floats-fit s at n i = from-fits (floatAt s at) (λ j. ofBits-fits binary32 (u32At s (at + 4 * j))) n 0 i
 
