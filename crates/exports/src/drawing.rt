@@ -3,9 +3,9 @@ ghost use mathlib.Core.Path.{_≡_};
 ghost use Rattle.limits.specs.Chroma as symbols;
 ghost use Rattle.answers.specs.Answers as told;
 ghost use Rattle.modulate.specs.Draw as drawing_spec;
-ghost use Rattle.modulate.specs.Gray as gray_code;
-ghost use Rattle.modulate.specs.Mask as masks;
-ghost use Rattle.modulate.specs.Read as reading;
+ghost use Rattle.symbols.specs.Gray as gray_code;
+ghost use Rattle.symbols.specs.Mask as masks;
+ghost use Rattle.reading.specs.Read as reading;
 ghost use Rattle.modulate.specs.Score as scores;
 ghost use Rattle.exports.specs.Replies as spec;
 ghost use Rattle.exports.specs.Exits as exits;
@@ -19,7 +19,7 @@ use layout::Layout;
 pub extern "C" fn purdolve_gray(n: usize) -> usize
     ensures { λ r. ⌜ r ≡ gray_code.gray n ⌝ }
 {
-    modulate::gray(n)
+    symbols::gray(n)
 }
 
 // The number whose reflected binary code is g.
@@ -27,7 +27,7 @@ pub extern "C" fn purdolve_gray(n: usize) -> usize
 pub extern "C" fn purdolve_gray_inverse(g: usize) -> usize
     ensures { λ r. ⌜ r ≡ gray_code.grayInverse g ⌝ }
 {
-    modulate::gray_inverse(g)
+    symbols::gray_inverse(g)
 }
 
 // The hue state of a chroma symbol. Refused: 3.
@@ -35,7 +35,7 @@ pub extern "C" fn purdolve_gray_inverse(g: usize) -> usize
 pub extern "C" fn purdolve_chroma_symbol_to_hue(symbol: usize, hues: usize) -> NumberAnswer
     ensures { λ r. ⌜ r ≡ spec.saidAnswer (told.answered (told.huesOnly hues) (gray_code.chromaSymbolToHue symbol hues)) ⌝ }
 {
-    replies::number_answer(modulate::chroma_symbol_to_hue(symbol, hues))
+    replies::number_answer(symbols::chroma_symbol_to_hue(symbol, hues))
 }
 
 // The chroma symbol of a hue state. Refused: 3.
@@ -43,7 +43,7 @@ pub extern "C" fn purdolve_chroma_symbol_to_hue(symbol: usize, hues: usize) -> N
 pub extern "C" fn purdolve_hue_to_chroma_symbol(hue: usize, hues: usize) -> NumberAnswer
     ensures { λ r. ⌜ r ≡ spec.saidAnswer (told.answered (told.huesOnly hues) (gray_code.hueToChromaSymbol hue hues)) ⌝ }
 {
-    replies::number_answer(modulate::hue_to_chroma_symbol(hue, hues))
+    replies::number_answer(symbols::hue_to_chroma_symbol(hue, hues))
 }
 
 // Whether mask `id`, of which the low three bits count, turns the luma bit of the module at (x, y).
@@ -51,7 +51,7 @@ pub extern "C" fn purdolve_hue_to_chroma_symbol(hue: usize, hues: usize) -> Numb
 pub extern "C" fn purdolve_luma_mask(id: u8, x: u16, y: u16) -> bool
     ensures { λ r. ⌜ r ≡ masks.lumaMask id x y ⌝ }
 {
-    modulate::luma_mask(id, x, y)
+    symbols::luma_mask(id, x, y)
 }
 
 // By how many hues the cell (cx, cy) is rotated. Refused: 3, 7.
@@ -59,7 +59,7 @@ pub extern "C" fn purdolve_luma_mask(id: u8, x: u16, y: u16) -> bool
 pub extern "C" fn purdolve_chroma_rotation(cx: u16, cy: u16, hues: usize) -> NumberAnswer
     ensures { λ r. ⌜ r ≡ spec.saidAnswer (told.answered (told.huesAndCell hues cx cy) (masks.chromaRotation cx cy hues)) ⌝ }
 {
-    replies::number_answer(modulate::chroma_rotation(cx, cy, hues))
+    replies::number_answer(symbols::chroma_rotation(cx, cy, hues))
 }
 
 // The hue that the cell (cx, cy) draws for `hue`, of which the remainder by `hues` counts. Refused: 3, 7.
@@ -72,7 +72,7 @@ pub extern "C" fn purdolve_chroma_mask_apply(
 ) -> NumberAnswer
     ensures { λ r. ⌜ r ≡ spec.saidAnswer (told.answered (told.huesAndCell hues cx cy) (masks.chromaMaskApply hue cx cy hues)) ⌝ }
 {
-    replies::number_answer(modulate::chroma_mask_apply(hue, cx, cy, hues))
+    replies::number_answer(symbols::chroma_mask_apply(hue, cx, cy, hues))
 }
 
 // The hue that the cell (cx, cy) drew as `hue`, of which the remainder by `hues` counts. Refused: 3, 7.
@@ -85,7 +85,7 @@ pub extern "C" fn purdolve_chroma_mask_remove(
 ) -> NumberAnswer
     ensures { λ r. ⌜ r ≡ spec.saidAnswer (told.answered (told.huesAndCell hues cx cy) (masks.chromaMaskRemove hue cx cy hues)) ⌝ }
 {
-    replies::number_answer(modulate::chroma_mask_remove(hue, cx, cy, hues))
+    replies::number_answer(symbols::chroma_mask_remove(hue, cx, cy, hues))
 }
 
 // The log2(hues) bit scores of a chroma entry from its hue likelihoods `ll`: of the cell (cx, cy), or, where `masked` is false, of
@@ -131,7 +131,7 @@ pub extern "C" fn purdolve_unmask_luma(
 pub extern "C" fn purdolve_read(score: f32) -> u8
     ensures { λ r. ⌜ r ≡ reading.reads score ⌝ }
 {
-    modulate::read(score)
+    reading::read(score)
 }
 
 // The bits of a list of scores, one a score. Answers document 01's number. Refused: 5; nothing is written then.
@@ -139,7 +139,7 @@ pub extern "C" fn purdolve_read(score: f32) -> u8
 pub extern "C" fn purdolve_read_list(scores: &[f32], bits: &mut [u8]) -> u32
     ensures { λ r. ⌜ exits.exit1 r (now (bits .exit)) ≡ exits.writeExit (reading.readListOf (now (scores .entry)) (now (bits .entry))) ⌝ }
 {
-    answers::outcome_number(modulate::read_list(scores, bits))
+    answers::outcome_number(reading::read_list(scores, bits))
 }
 
 // The level of a grid module, 1 for light: its bit, other than 0 for 1, turned where the mask turns it.

@@ -8,7 +8,7 @@ use lib.Ieee.{Float}
 use Rattle.answers.specs.declared.Outcome.{Outcome}
 use Rattle.answers.specs.Answers.{outcomeNumber, ended}
 use Rattle.modulate.specs.Score.{unmaskLumaOf}
-use Rattle.modulate.specs.Read.{readListOf}
+use Rattle.reading.specs.Read.{readListOf}
 use Rattle.demod.specs.Call as scoring
 use Rattle.refine.specs.Calls as refinement
 use Rattle.guarantee.specs.Card.{Setting, Card, modules, chromaScores, drawnCard, toScore, refinedCard, unmaskedCard, lumaRead, chromaRead, Accepted, bitsDrawn, bitsRead}

@@ -13,12 +13,12 @@ use Rattle.sentences.specs.Sentences.{Sentence, refusal, decided, at, sound, fr
 use Rattle.color.specs.Color.{whole}
 use Rattle.answers.specs.declared.Outcome.{Outcome}
 use Rattle.answers.specs.declared.Outcome.the-variants as outcome
-use Rattle.modulate.specs.Gray.{chromaSymbolToHue}
-use Rattle.modulate.specs.Mask.{chromaMaskApply}
+use Rattle.symbols.specs.Gray.{chromaSymbolToHue}
+use Rattle.symbols.specs.Mask.{chromaMaskApply}
 use Rattle.modulate.specs.Draw as drawing
 use Rattle.modulate.specs.Draw.{gridLevel, ringLevel, cellHue, ringHue, levelAt, hueAt, entriesOf}
 use Rattle.modulate.specs.Score.{unmasked, unmaskSentences, unmaskLumaOf}
-use Rattle.modulate.specs.Read.{reads, readAt, readList, readSentences, readListOf}
+use Rattle.reading.specs.Read.{reads, readAt, readList, readSentences, readListOf}
 use Rattle.modulate.proofs.Symbols.{bit-lt}
 use Rattle.lists.proofs.Laws.{Reached, reached}
 use Rattle.answers.specs.Answers.{outcomeNumber, ended, writtenOr}

@@ -24,8 +24,9 @@ use Rattle.color.specs.Color.{whole}
 use Rattle.color.specs.Palette.{hueAb, paletteLab}
 use Rattle.modulate.specs.declared.Cell.{Cell}
 use Rattle.modulate.specs.Score.{bitOfHue, bitLlr}
-use Rattle.modulate.specs.Read.{reads}
-use Rattle.modulate.proofs.Decided.{Leads, for-zero, for-one, bit-lt, read-zero, read-one}
+use Rattle.reading.specs.Read.{reads}
+use Rattle.reading.proofs.Sign.{read-zero, read-one}
+use Rattle.modulate.proofs.Decided.{Leads, for-zero, for-one, bit-lt}
 use Rattle.lists.proofs.Laws.{reached}
 use Rattle.stats.specs.declared.ChannelStats.{ChannelStats}
 use Rattle.stats.specs.Arithmetic.{_⊖_, _⊗_}

@@ -20,7 +20,7 @@ use Rattle.modulate.specs.declared.Cell.{Cell}
 use Rattle.modulate.specs.declared.Cell.the-variants.{Unmasked, At}
 use Rattle.modulate.specs.Draw.{isOne, bitOf, levelAt, hueAt}
 use Rattle.modulate.specs.Score.{bitLlr}
-use Rattle.modulate.specs.Read.{reads}
+use Rattle.reading.specs.Read.{reads}
 use Rattle.modulate.proofs.ReadBack.{read-cell, read-ring}
 use Rattle.stats.specs.Noise.{reliability}
 use Rattle.stats.proofs.Clear.{Apart}

@@ -14,7 +14,7 @@ use Rattle.limits.specs.Chroma.{weighted}
 use Rattle.color.specs.Palette.{paletteLab}
 use Rattle.modulate.specs.Draw.{isOne, bitOf, levelAt}
 use Rattle.modulate.specs.Score.{unmaskAt, unmasked}
-use Rattle.modulate.specs.Read.{reads}
+use Rattle.reading.specs.Read.{reads}
 use Rattle.modulate.proofs.ReadBack.{Says, read-grid, read-ring-luma}
 use Rattle.lists.proofs.Laws.{Reached, reached}
 use Rattle.demod.specs.Score.{lumaScore}

@@ -30,10 +30,10 @@ use Rattle.color.specs.Palette.{levelL, hueAb, paletteLab, linearAt, wild, wild
 use Rattle.illum.specs.Surface.{leastGain, termsUsed, normalised, basisAt, addTerm, isHeld, holdGain, deshade}
 use Rattle.illum.specs.Correct.{affineRow, unshaded, mixed}
 use Rattle.illum.specs.Refusals.{badTerms, badModelSide, notFiniteAffine, notFiniteGains, notFiniteFlares, notFiniteModel, badShape, badModel}
-use Rattle.modulate.specs.Gray.{gray, xorShifts, grayInverse, chromaSymbolToHue, hueToChromaSymbol}
-use Rattle.modulate.specs.Mask.{maskRules, lumaMask, chromaRotation, chromaMaskApply, chromaMaskRemove}
+use Rattle.symbols.specs.Gray.{gray, xorShifts, grayInverse, chromaSymbolToHue, hueToChromaSymbol}
+use Rattle.symbols.specs.Mask.{maskRules, lumaMask, chromaRotation, chromaMaskApply, chromaMaskRemove}
 use Rattle.modulate.specs.Score.{unmaskedHue, symbolBit, bitOfHue, bettered, bitLlr, maskedAt, unmaskAt, badLumaLengths, unmaskSentences, unmaskLumaOf}
-use Rattle.modulate.specs.Read.{readSentences, readListOf}
+use Rattle.reading.specs.Read.{readSentences, readListOf}
 use Rattle.modulate.specs.Draw.{isOne, bitOf, gridLevel, ringLevel, pushBit, cellHue, ringHue, levelAt, hueAt, drawnHues, shortBits, shortHues, badDrawLengths, drawSentences, drawOf}
 use Rattle.stats.specs.Noise.{between, sigmaAbAt, lumaLlr, distance, closer, weight, reliability, denominator, hueLogLikelihood, putLikelihood}
 use Rattle.stats.specs.Margin.{levelFits, colourFits, levelsFit, sigmasFit, darkClear, lightClear, near, far, otherFar, apart, hueClear, chromaClear, inMargin}

@@ -11,8 +11,8 @@ use Rattle.order.specs.Median.{medianOf}
 use Rattle.order.specs.Deviation.{scale, deviation, sigmaOf}
 use Rattle.color.specs.Color.{fraction, linearToXyz, line, labF, lightness, xyzToLab}
 use Rattle.color.specs.Srgb.{curve, srgbToLinear}
-use Rattle.modulate.specs.Gray.{gray, hueToChromaSymbol}
-use Rattle.modulate.specs.Mask.{chromaRotation, chromaMaskRemove}
+use Rattle.symbols.specs.Gray.{gray, hueToChromaSymbol}
+use Rattle.symbols.specs.Mask.{chromaRotation, chromaMaskRemove}
 use Rattle.modulate.specs.Score.{unmaskedHue, symbolBit, bitOfHue, bettered, bitLlr}
 use Rattle.stats.specs.Noise.{between, sigmaAbAt, lumaLlr}
 use Rattle.guarantee.specs.Table.{Row, table}

@@ -16,7 +16,7 @@ use Rattle.modulate.specs.Draw as drawing
 use Rattle.modulate.specs.Draw.{Drawn, drawOf, isOne, bitOf}
 use Rattle.answers.specs.Answers.{outcomeNumber, Ended}
 use Rattle.modulate.specs.Score.{unmaskLumaOf}
-use Rattle.modulate.specs.Read.{readListOf}
+use Rattle.reading.specs.Read.{readListOf}
 use Rattle.illum.specs.declared.IlluminationModel.{IlluminationModel}
 use Rattle.stats.specs.declared.ChannelStats.{ChannelStats}
 use Rattle.demod.specs.Score.{moduleColour, cellColour}

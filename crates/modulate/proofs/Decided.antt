@@ -26,13 +26,14 @@ use Rattle.limits.proofs.Laws.{hues-in}
 use Rattle.modulate.specs.declared.Cell.{Cell}
 use Rattle.modulate.specs.declared.Cell.the-variants.{Unmasked, At}
 use Rattle.modulate.specs.declared.Best.{Best}
-use Rattle.modulate.specs.Gray.{chromaSymbolToHue, hueToChromaSymbol}
-use Rattle.modulate.specs.Mask.{chromaMaskApply, chromaMaskRemove}
+use Rattle.symbols.specs.Gray.{chromaSymbolToHue, hueToChromaSymbol}
+use Rattle.symbols.specs.Mask.{chromaMaskApply, chromaMaskRemove}
 use Rattle.modulate.specs.Score.{unmaskedHue, symbolBit, bitOfHue, best, bettered, betterAt, bestOf, bitLlr}
-use Rattle.modulate.specs.Read.{reads}
+use Rattle.reading.specs.Read.{reads}
+use Rattle.reading.proofs.Sign.{read-zero, read-one}
 use Rattle.modulate.specs.Draw.{cellHue, ringHue}
-use Rattle.modulate.proofs.GrayCode.{symbol-of-hue, hue-lt}
-use Rattle.modulate.proofs.Rotations.{remove-apply}
+use Rattle.symbols.proofs.GrayCode.{symbol-of-hue, hue-lt}
+use Rattle.symbols.proofs.Rotations.{remove-apply}
 
 -- ---- `max`, of a leader and of what lies at most at y
 
@@ -83,30 +84,6 @@ least f y p = let q = infinite-sides f in let u = fin-under p in let v = limit-b
 lowest : (y : Float) → Fin binary32 y → Low y (inf true)
 unfolding Low
 lowest y p = (record { fit = unfold fits in tt; real = unfold isNan in tt }, least binary32 y p)
-
--- ---- what reading says of a score's sign
-
-module _ (f : Format) (x : Float) (q : Num f x) where
-  not-below : 0 < hi f x → (b : Bool) → lt x (fin false 0 (pos 0)) ≡ b → b ≡ false
-  not-below a false e = refl
-  not-below a true e =
-      let u = of-lt q (zero-num f false) (subst T (sym e) tt) in
-      let z = zero-sides f false in
-      let o = above-none f x a in
-      absurd (omega arith)
-
-  is-below : 0 < lo f x → lt x (fin false 0 (pos 0)) ≡ true
-  is-below a =
-      let z = zero-sides f false in
-      is-true (lt x (fin false 0 (pos 0))) (to-lt q (zero-num f false) (⊎-elim (λ (e : hi f x ≡ 0). record { lt = omega arith }) (λ (e : lo f x ≡ 0). absurd (omega arith)) (one-side f x)))
-
-pub read-zero : (x : Float) → Num binary32 x → 0 < hi binary32 x → reads x ≡ 0
-unfolding reads
-read-zero x q a = rw (not-below binary32 x q a (lt x (fin false 0 (pos 0))) refl)
-
-pub read-one : (x : Float) → Num binary32 x → 0 < lo binary32 x → reads x ≡ 1
-unfolding reads
-read-one x q a = rw (is-below binary32 x q a)
 
 -- ---- the best of the hues whose bit is n
 

@@ -1,7 +1,5 @@
--- Laws of the definitions, for callers: `GrayCode`, `Rotations`, `Symbols` (undo each other), `Written` (lists, entry by entry; unmasking twice), `Decided` (the sign of a bit score), `ReadBack` (what is
--- drawn is what is read), `Accepted`, `Lengths` (what an accepted call knows), `Worked` (document 01's table). `Xor`: the law of xor that Gray code rests on. `Ready`: what the functions behind the calls ask.
-pub mod GrayCode
-pub mod Rotations
+-- Laws of the definitions, for callers: `Symbols` (the bits of a symbol), `Written` (lists, entry by entry; unmasking twice), `Decided` (the sign of a bit score), `ReadBack` (what is
+-- drawn is what is read), `Accepted`, `Lengths` (what an accepted call knows), `Worked` (document 01's table). `Ready`: what the functions behind the calls ask.
 pub mod Symbols
 pub mod Written
 pub mod Decided
@@ -9,5 +7,4 @@ pub mod ReadBack
 pub mod Accepted
 pub mod Lengths
 pub mod Worked
-mod Xor
 mod Ready

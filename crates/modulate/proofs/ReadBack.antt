@@ -16,10 +16,11 @@ use Rattle.limits.specs.Chroma.{log2, chromaOn, symbolBits}
 use Rattle.limits.proofs.Laws.{hues-in, symbol-bits-on}
 use Rattle.modulate.specs.declared.Cell.the-variants.{Unmasked, At}
 use Rattle.modulate.specs.Score.{bitOfHue, symbolBit, bitLlr, coordinate, maskedAt, unmaskAt}
-use Rattle.modulate.specs.Read.{reads}
+use Rattle.reading.specs.Read.{reads}
+use Rattle.reading.proofs.Sign.{read-zero, read-one}
 use Rattle.modulate.specs.Draw.{isOne, bitOf, gridLevel, ringLevel, symbolAt, cellHue, ringHue, levelAt, hueAt}
 use Rattle.modulate.proofs.Symbols.{symbol-lt, symbol-bit}
-use Rattle.modulate.proofs.Decided.{Leads, read-back, cell-bit, ring-bit, read-zero, read-one}
+use Rattle.modulate.proofs.Decided.{Leads, read-back, cell-bit, ring-bit}
 
 -- ---- chroma: place j of the chroma list, bit b of its symbol
 

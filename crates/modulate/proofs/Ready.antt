@@ -10,7 +10,7 @@ use Rattle.places.proofs.Placed.{in-grid}
 use Rattle.limits.specs.Limits.{badHues}
 use Rattle.limits.proofs.Laws.{hues-in}
 use Rattle.layout.specs.Groups.{PositionAt}
-use Rattle.modulate.specs.Ready.{HueCount}
+use Rattle.symbols.specs.Ready.{HueCount}
 
 pub hue-count : (k : ℕ) → badHues k ≡ false → HueCount k
 hue-count k h = let p = hues-in k h in record { least = p .least; most = p .most }

@@ -12,8 +12,8 @@ use Rattle.sentences.specs.Sentences.{refusal, decided}
 use Rattle.modulate.specs.declared.Cell.{Cell}
 use Rattle.modulate.specs.declared.Cell.the-variants.{Unmasked, At}
 use Rattle.answers.specs.declared.Outcome.the-variants.{Done}
-use Rattle.modulate.specs.Gray.{gray, hueToChromaSymbol}
-use Rattle.modulate.specs.Mask.{chromaRotation, chromaMaskRemove}
+use Rattle.symbols.specs.Gray.{gray, hueToChromaSymbol}
+use Rattle.symbols.specs.Mask.{chromaRotation, chromaMaskRemove}
 use Rattle.answers.specs.Answers.{Ended, ended}
 use Rattle.modulate.specs.Score.{unmaskedHue, symbolBit, bitOfHue, bettered, bitLlr, badCellOf, badScoreLengths, llrSentences, chromaBitLlrsOf}
 

@@ -14,8 +14,8 @@ use Rattle.layout.specs.Groups.{shape, placement}
 use Rattle.answers.specs.declared.Outcome.{Outcome}
 use Rattle.answers.specs.declared.Outcome.the-variants.{Refused, Done}
 use Rattle.answers.specs.Answers.{outcomeNumber}
-use Rattle.modulate.specs.Gray.{chromaSymbolToHue}
-use Rattle.modulate.specs.Mask.{lumaMask, chromaMaskApply}
+use Rattle.symbols.specs.Gray.{chromaSymbolToHue}
+use Rattle.symbols.specs.Mask.{lumaMask, chromaMaskApply}
 use Rattle.lists.specs.Lists.{replaced}
 use Rattle.modulate.specs.Score.{coordinate}
 

@@ -17,8 +17,8 @@ use Rattle.modulate.specs.declared.Cell.{Cell}
 use Rattle.modulate.specs.declared.Cell.the-variants.{Unmasked, At}
 use Rattle.modulate.specs.declared.Best.{Best}
 use Rattle.answers.specs.Answers.{Ended, writtenOr}
-use Rattle.modulate.specs.Gray.{hueToChromaSymbol}
-use Rattle.modulate.specs.Mask as mask
+use Rattle.symbols.specs.Gray.{hueToChromaSymbol}
+use Rattle.symbols.specs.Mask as mask
 
 -- ---- bit scores
 

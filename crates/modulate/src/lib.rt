@@ -1,9 +1,8 @@
-// What stands between a card's bits and its colours: Gray code, masks, the hues of symbols and the bit scores of hues
-// (the Rust's symbol.rs, mask.rs and modulate.rs), drawing, unmasking and reading.
+// What stands between a card's bits and its colours: drawing, the bit scores of hues (the Rust's modulate.rs), and unmasking.
 //
 // A first use: `draw` gives each module its level and each cell its hue from a card's bits. On the way back
-// `chroma_bit_llrs` turns hue likelihoods into bit scores, `unmask_luma` takes the mask off the luma scores, and
-// `read_list` makes bits of scores.
+// `chroma_bit_llrs` turns hue likelihoods into bit scores, and `unmask_luma` takes the mask off the luma scores, which
+// `reading::read_list` makes bits of.
 ghost use mathlib.Core.Path.{_≡_};
 ghost use mathlib.Core.Bool.{false};
 ghost use Prim.Native.Nat.{_+_, _*_, _%_, _≤_, _<_};
@@ -15,11 +14,8 @@ ghost use Rattle.limits.specs.Limits.{badHues};
 ghost use Rattle.limits.specs.Chroma.{log2, symbolBits};
 ghost use Rattle.layout.specs.Groups.{Shaped, Positions, PositionAt};
 ghost use Rattle.answers.specs.Answers.{said, answered, huesOnly, huesAndCell, ended};
-ghost use Rattle.modulate.specs.Ready.{HueCount};
-ghost use Rattle.modulate.specs.Gray as gray_code;
-ghost use Rattle.modulate.specs.Mask as masks;
+ghost use Rattle.symbols.specs.Ready.{HueCount};
 ghost use Rattle.modulate.specs.Score as scores;
-ghost use Rattle.modulate.specs.Read as reading;
 ghost use Rattle.modulate.specs.Draw as drawing;
 use answers::Number;
 use answers::Outcome;
@@ -29,182 +25,6 @@ use layout::Layout;
 pub enum Cell {
     Unmasked,
     At(u16, u16),
-}
-
-// ---- Gray code
-
-// The reflected binary code of n: the codes of n and n + 1 differ in one bit. Refuses nothing.
-pub fn gray(n: usize) -> usize
-    ensures { λ r. ⌜ r ≡ gray_code.gray n ⌝ }
-{
-    n ^ (n / 2)
-}
-
-// The number whose reflected binary code is g. Refuses nothing.
-pub fn gray_inverse(g: usize) -> usize
-    ensures { λ r. ⌜ r ≡ gray_code.grayInverse g ⌝ }
-{
-    let mut n: usize = 0;
-    let mut left = g;
-    while left != 0 {
-        n = n ^ left;
-        left = left / 2;
-    }
-    n
-}
-
-// The remainder by the hue count: by a constant, which takes no division, for the counts above 1 that cards have.
-fn remainder(n: usize, hues: usize) -> usize
-    requires { ⌜ 0 < hues ⌝ }
-    ensures { λ r. ⌜ r ≡ n % hues ⌝ }
-{
-    if hues == 2 {
-        return n % 2;
-    }
-    if hues == 4 {
-        return n % 4;
-    }
-    if hues == 8 {
-        return n % 8;
-    }
-    if hues == 16 {
-        return n % 16;
-    }
-    n % hues
-}
-
-fn symbol_hue(symbol: usize, hues: usize) -> usize
-    requires { ⌜ 0 < hues ⌝ }
-    ensures { λ r. ⌜ r ≡ gray_code.chromaSymbolToHue symbol hues ⌝ }
-{
-    remainder(gray_inverse(remainder(symbol, hues)), hues)
-}
-
-fn hue_symbol(hue: usize, hues: usize) -> usize
-    requires { ⌜ 0 < hues ⌝ }
-    ensures { λ r. ⌜ r ≡ gray_code.hueToChromaSymbol hue hues ⌝ }
-{
-    remainder(gray(remainder(hue, hues)), hues)
-}
-
-// The hue state of a chroma symbol: neighbours on the colour wheel differ in one bit of the symbol. Refused: 3.
-pub fn chroma_symbol_to_hue(symbol: usize, hues: usize) -> Number
-    ensures { λ r. ⌜ said r ≡ answered (huesOnly hues) (gray_code.chromaSymbolToHue symbol hues) ⌝ }
-{
-    if limits::bad_hues(hues) {
-        return Number::Refused(3);
-    }
-    Number::Is(symbol_hue(symbol, hues))
-}
-
-// The chroma symbol of a hue state. Refused: 3.
-pub fn hue_to_chroma_symbol(hue: usize, hues: usize) -> Number
-    ensures { λ r. ⌜ said r ≡ answered (huesOnly hues) (gray_code.hueToChromaSymbol hue hues) ⌝ }
-{
-    if limits::bad_hues(hues) {
-        return Number::Refused(3);
-    }
-    Number::Is(hue_symbol(hue, hues))
-}
-
-// ---- masks
-
-// Whether mask `id`, of which the low three bits count, turns the luma bit of the module at (x, y). Refuses nothing.
-pub fn luma_mask(id: u8, x: u16, y: u16) -> bool
-    ensures { λ r. ⌜ r ≡ masks.lumaMask id x y ⌝ }
-{
-    let rule = id % 8;
-    let c = x as u32;
-    let r = y as u32;
-    if rule == 0 {
-        return (r + c) % 2 == 0;
-    }
-    if rule == 1 {
-        return r % 2 == 0;
-    }
-    if rule == 2 {
-        return c % 3 == 0;
-    }
-    if rule == 3 {
-        return (r + c) % 3 == 0;
-    }
-    if rule == 4 {
-        return (r / 2 + c / 3) % 2 == 0;
-    }
-    if rule == 5 {
-        return r * c % 2 + r * c % 3 == 0;
-    }
-    if rule == 6 {
-        return (r * c % 2 + r * c % 3) % 2 == 0;
-    }
-    ((r + c) % 2 + r * c % 3) % 2 == 0
-}
-
-fn rotation(cx: u16, cy: u16, hues: usize) -> usize
-    requires { ⌜ 0 < hues ⌝ }
-    ensures { λ r. ⌜ (r ≡ masks.chromaRotation cx cy hues) × (r < hues) ⌝ }
-{
-    remainder(cx as usize + cy as usize, hues)
-}
-
-fn apply(hue: usize, cx: u16, cy: u16, hues: usize) -> usize
-    requires { ⌜ HueCount hues ⌝ }
-    ensures { λ r. ⌜ r ≡ masks.chromaMaskApply hue cx cy hues ⌝ }
-{
-    remainder(remainder(hue, hues) + rotation(cx, cy, hues), hues)
-}
-
-fn remove(hue: usize, cx: u16, cy: u16, hues: usize) -> usize
-    requires { ⌜ HueCount hues ⌝ }
-    ensures { λ r. ⌜ r ≡ masks.chromaMaskRemove hue cx cy hues ⌝ }
-{
-    remainder(remainder(hue, hues) + hues - rotation(cx, cy, hues), hues)
-}
-
-// The number of the first sentence on a hue count and a cell that holds, or 0.
-fn refused_cell(hues: usize, cx: u16, cy: u16) -> u32
-    ensures { λ r. ⌜ r ≡ refusal (huesAndCell hues cx cy) ⌝ }
-{
-    if limits::bad_hues(hues) {
-        return 3;
-    }
-    if limits::bad_cell(cx, cy) {
-        return 7;
-    }
-    0
-}
-
-// By how many hues the cell (cx, cy) is rotated. Refused: 3, 7.
-pub fn chroma_rotation(cx: u16, cy: u16, hues: usize) -> Number
-    ensures { λ r. ⌜ said r ≡ answered (huesAndCell hues cx cy) (masks.chromaRotation cx cy hues) ⌝ }
-{
-    let n = refused_cell(hues, cx, cy);
-    if n != 0 {
-        return Number::Refused(n);
-    }
-    Number::Is(rotation(cx, cy, hues))
-}
-
-// The hue that the cell (cx, cy) draws for `hue`, of which the remainder by `hues` counts. Refused: 3, 7.
-pub fn chroma_mask_apply(hue: usize, cx: u16, cy: u16, hues: usize) -> Number
-    ensures { λ r. ⌜ said r ≡ answered (huesAndCell hues cx cy) (masks.chromaMaskApply hue cx cy hues) ⌝ }
-{
-    let n = refused_cell(hues, cx, cy);
-    if n != 0 {
-        return Number::Refused(n);
-    }
-    Number::Is(apply(hue, cx, cy, hues))
-}
-
-// The hue that the cell (cx, cy) drew as `hue`, of which the remainder by `hues` counts. Refused: 3, 7.
-pub fn chroma_mask_remove(hue: usize, cx: u16, cy: u16, hues: usize) -> Number
-    ensures { λ r. ⌜ said r ≡ answered (huesAndCell hues cx cy) (masks.chromaMaskRemove hue cx cy hues) ⌝ }
-{
-    let n = refused_cell(hues, cx, cy);
-    if n != 0 {
-        return Number::Refused(n);
-    }
-    Number::Is(remove(hue, cx, cy, hues))
 }
 
 // ---- bit scores
@@ -238,7 +58,7 @@ fn unmasked_hue(cell: Cell, hues: usize, h: usize) -> usize
 {
     match cell {
         Cell::Unmasked => h,
-        Cell::At(cx, cy) => remove(h, cx, cy, hues),
+        Cell::At(cx, cy) => symbols::remove(h, cx, cy, hues),
     }
 }
 
@@ -247,7 +67,7 @@ fn bit_of_hue(cell: Cell, hues: usize, bits: usize, b: usize, h: usize) -> usize
     requires { ⌜ HueCount hues × (bits ≡ log2 hues) × (bits ≤ 4) × (b < bits) ⌝ }
     ensures { λ r. ⌜ r ≡ scores.bitOfHue cell hues b h ⌝ }
 {
-    let symbol = hue_symbol(unmasked_hue(cell, hues, h), hues);
+    let symbol = symbols::hue_symbol(unmasked_hue(cell, hues, h), hues);
     (symbol >> (bits - 1 - b)) % 2
 }
 
@@ -334,7 +154,7 @@ fn masked_at(mask: u8, side: usize, xs: &[i32], ys: &[i32], grid: usize, i: usiz
 {
     let x = places::coordinate_at(side, xs, i);
     let y = places::coordinate_at(side, ys, i);
-    luma_mask(mask, x, y)
+    symbols::luma_mask(mask, x, y)
 }
 
 fn unmask_at(mask: u8, side: usize, xs: &[i32], ys: &[i32], grid: usize, i: usize, luma: &mut [f32])
@@ -398,38 +218,6 @@ pub fn unmask_luma(
     Outcome::Done
 }
 
-// ---- reading
-
-// The bit that a score stands for: 1 below zero, and else, NaN included, 0. Refuses nothing.
-pub fn read(score: f32) -> u8
-    ensures { λ r. ⌜ r ≡ reading.reads score ⌝ }
-{
-    if score < 0.0 {
-        return 1;
-    }
-    0
-}
-
-fn read_all(scores: &[f32], bits: &mut [u8])
-    requires { ⌜ length (now scores) ≤ length (now bits) ⌝ }
-    ensures { λ _. ⌜ now (bits .exit) ≡ reading.readList (now (scores .entry)) (now (bits .entry)) ⌝ }
-{
-    for i in 0..scores.len() {
-        bits[i] = read(scores[i]);
-    }
-}
-
-// The bits of a list of scores, one a score. Refused: 5; nothing is written then.
-pub fn read_list(scores: &[f32], bits: &mut [u8]) -> Outcome
-    ensures { λ r. ⌜ ended r (now (bits .exit)) ≡ reading.readListOf (now (scores .entry)) (now (bits .entry)) ⌝ }
-{
-    if bits.len() < scores.len() {
-        return Outcome::Refused(5);
-    }
-    read_all(scores, bits);
-    Outcome::Done
-}
-
 // ---- drawing: one element
 
 // Whether a byte stands for the bit 1.
@@ -444,7 +232,7 @@ fn is_one(bit: u8) -> bool
 pub fn grid_level(bit: u8, mask: u8, x: u16, y: u16) -> u8
     ensures { λ r. ⌜ r ≡ drawing.gridLevel bit mask x y ⌝ }
 {
-    let turned = luma_mask(mask, x, y);
+    let turned = symbols::luma_mask(mask, x, y);
     if is_one(bit) {
         if turned {
             return 0;
@@ -515,18 +303,18 @@ pub fn symbol_of_bits(bits: &[u8], hues: usize) -> Number
 pub fn cell_hue(symbol: usize, cx: u16, cy: u16, hues: usize) -> Number
     ensures { λ r. ⌜ said r ≡ answered (huesAndCell hues cx cy) (drawing.cellHue symbol cx cy hues) ⌝ }
 {
-    let n = refused_cell(hues, cx, cy);
+    let n = symbols::refused_cell(hues, cx, cy);
     if n != 0 {
         return Number::Refused(n);
     }
-    Number::Is(apply(symbol_hue(symbol, hues), cx, cy, hues))
+    Number::Is(symbols::apply(symbols::symbol_hue(symbol, hues), cx, cy, hues))
 }
 
 // The hue that a ring module is drawn in for its symbol: no mask lies on it. Refused: 3.
 pub fn ring_hue(symbol: usize, hues: usize) -> Number
     ensures { λ r. ⌜ said r ≡ answered (huesOnly hues) (drawing.ringHue symbol hues) ⌝ }
 {
-    chroma_symbol_to_hue(symbol, hues)
+    symbols::chroma_symbol_to_hue(symbol, hues)
 }
 
 // ---- drawing: the whole list
@@ -566,9 +354,9 @@ fn hue_at(bits: &[u8], hues: usize, modules: usize, cxs: &[u16], cys: &[u16], j:
     ensures { λ r. ⌜ r ≡ drawing.hueAt (now (bits .entry)) hues modules (now (cxs .entry)) (now (cys .entry)) j ⌝ }
 {
     let q = limits::symbol_bits(hues);
-    let hue = symbol_hue(symbol_at(bits, modules + q * j, q), hues);
+    let hue = symbols::symbol_hue(symbol_at(bits, modules + q * j, q), hues);
     if j < cxs.len() {
-        return apply(hue, cxs[j], cys[j], hues);
+        return symbols::apply(hue, cxs[j], cys[j], hues);
     }
     hue
 }

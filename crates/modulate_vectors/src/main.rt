@@ -45,7 +45,7 @@ fn luma_mask_row(row: &[u64]) -> u64 {
     for i in 0..64u64 {
         if i < vectors::word_at(row, 3, 0) {
             let x = vectors::u16_of(std::num::wrapping_add_u64(vectors::word_at(row, 1, 0), i));
-            if modulate::luma_mask(id, x, y) {
+            if symbols::luma_mask(id, x, y) {
                 bits = std::num::wrapping_add_u64(bits, value);
             }
         }
@@ -56,21 +56,21 @@ fn luma_mask_row(row: &[u64]) -> u64 {
 
 fn of_numbers(function: usize, row: &[u64], got: &mut [u64]) -> usize {
     if function == 0 {
-        return vectors::put(got, 0, modulate::gray(count(row, 0)) as u64);
+        return vectors::put(got, 0, symbols::gray(count(row, 0)) as u64);
     }
     if function == 1 {
-        return vectors::put(got, 0, modulate::gray_inverse(count(row, 0)) as u64);
+        return vectors::put(got, 0, symbols::gray_inverse(count(row, 0)) as u64);
     }
     if function == 2 {
         return put_number(
             got,
-            modulate::chroma_symbol_to_hue(count(row, 0), count(row, 1)),
+            symbols::chroma_symbol_to_hue(count(row, 0), count(row, 1)),
         );
     }
     if function == 3 {
         return put_number(
             got,
-            modulate::hue_to_chroma_symbol(count(row, 0), count(row, 1)),
+            symbols::hue_to_chroma_symbol(count(row, 0), count(row, 1)),
         );
     }
     if function == 4 {
@@ -79,13 +79,13 @@ fn of_numbers(function: usize, row: &[u64], got: &mut [u64]) -> usize {
     if function == 5 {
         return put_number(
             got,
-            modulate::chroma_rotation(coordinate(row, 0), coordinate(row, 1), count(row, 2)),
+            symbols::chroma_rotation(coordinate(row, 0), coordinate(row, 1), count(row, 2)),
         );
     }
     if function == 6 {
         return put_number(
             got,
-            modulate::chroma_mask_apply(
+            symbols::chroma_mask_apply(
                 count(row, 0),
                 coordinate(row, 1),
                 coordinate(row, 2),
@@ -96,7 +96,7 @@ fn of_numbers(function: usize, row: &[u64], got: &mut [u64]) -> usize {
     if function == 7 {
         return put_number(
             got,
-            modulate::chroma_mask_remove(
+            symbols::chroma_mask_remove(
                 count(row, 0),
                 coordinate(row, 1),
                 coordinate(row, 2),
@@ -105,7 +105,7 @@ fn of_numbers(function: usize, row: &[u64], got: &mut [u64]) -> usize {
         );
     }
     let score = vectors::f32_of(vectors::word_at(row, 0, 0));
-    vectors::put(got, 0, vectors::word_of_u8(modulate::read(score)))
+    vectors::put(got, 0, vectors::word_of_u8(reading::read(score)))
 }
 
 // ---- the functions of slices: from the inputs in a row to the answers in another, and how many these are
@@ -172,7 +172,7 @@ fn unmask_luma(row: &[u64], got: &mut [u64]) -> usize {
 }
 
 fn read_list_in(scores: &[f32], bits: &mut [u8], got: &mut [u64]) -> usize {
-    let outcome = modulate::read_list(scores, bits);
+    let outcome = reading::read_list(scores, bits);
     let to_bits = vectors::put(got, 0, outcome_number(outcome) as u64);
     vectors::store_u8(bits, got, to_bits)
 }

@@ -18,9 +18,9 @@ use Rattle.color.specs.Palette.{levelL, hueAb, paletteLab, linearAt, wild, wild
 use Rattle.illum.specs.Surface.{leastGain, termsUsed, normalised, basisAt, addTerm, isHeld, holdGain, deshade}
 use Rattle.illum.specs.Correct.{unitModel, affineRow, unshaded, mixed}
 use Rattle.illum.specs.Refusals.{badTerms, badModelSide, notFiniteAffine, notFiniteGains, notFiniteFlares, notFiniteModel, badShape, badModel}
-use Rattle.modulate.specs.Mask.{maskRules, lumaMask}
+use Rattle.symbols.specs.Mask.{maskRules, lumaMask}
 use Rattle.modulate.specs.Score.{maskedAt, unmaskAt, badLumaLengths, unmaskSentences, unmaskLumaOf}
-use Rattle.modulate.specs.Read.{reads, readSentences, readListOf}
+use Rattle.reading.specs.Read.{reads, readSentences, readListOf}
 use Rattle.stats.specs.Noise.{between, sigmaAbAt, lumaLlr, distance, closer, weight, reliability}
 use Rattle.stats.specs.Calls.{shortPalette, wildFigure, badNoiseNumbers, badLevelSigma, badSigmas, badNumbers}
 use Rattle.references.specs.References.{shortScratch, tooMany, referencePlacement}

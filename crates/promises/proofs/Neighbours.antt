@@ -8,8 +8,8 @@ use native.Mathlib.Numerals.{add-one}
 use native.Mathlib.Omega.{arith}
 use lib.Bits.{xor-shr, xor-add-and}
 use lib.Pow.{pow-pos}
-use Rattle.modulate.specs.Gray.{gray, hueToChromaSymbol}
-use Rattle.modulate.proofs.GrayCode.{gray-lt}
+use Rattle.symbols.specs.Gray.{gray, hueToChromaSymbol}
+use Rattle.symbols.proofs.GrayCode.{gray-lt}
 use Rattle.promises.specs.Symbols.{OneBitApart, NeighbouringHues}
 
 -- ---- one bit apart, by the lowest place and the halves

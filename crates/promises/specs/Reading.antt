@@ -6,7 +6,7 @@ use lib.ListN.{length, take, drop}
 use lib.Ieee.{Float}
 use Rattle.answers.specs.declared.Outcome.the-variants as outcome
 use Rattle.modulate.specs.Score.{unmaskLumaOf, unmasked}
-use Rattle.modulate.specs.Read.{readList, readListOf}
+use Rattle.reading.specs.Read.{readList, readListOf}
 use Rattle.illum.specs.declared.IlluminationModel.{IlluminationModel}
 use Rattle.stats.specs.declared.ChannelStats.{ChannelStats}
 use Rattle.stats.specs.declared.Noise.the-variants as noise

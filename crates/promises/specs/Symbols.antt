@@ -12,10 +12,10 @@ use Rattle.floatlaws.specs.Finite.{Fin}
 use Rattle.limits.specs.Limits.{badHues}
 use Rattle.limits.specs.Chroma.{chromaOn, symbolBits}
 use Rattle.modulate.specs.declared.Cell.the-variants.{Unmasked, At}
-use Rattle.modulate.specs.Gray.{gray, grayInverse, chromaSymbolToHue, hueToChromaSymbol}
-use Rattle.modulate.specs.Mask.{chromaRotation, chromaMaskApply, chromaMaskRemove}
+use Rattle.symbols.specs.Gray.{gray, grayInverse, chromaSymbolToHue, hueToChromaSymbol}
+use Rattle.symbols.specs.Mask.{chromaRotation, chromaMaskApply, chromaMaskRemove}
 use Rattle.modulate.specs.Score.{bitLlr, unmaskAt, unmasked}
-use Rattle.modulate.specs.Read.{reads}
+use Rattle.reading.specs.Read.{reads}
 use Rattle.modulate.specs.Draw.{isOne, bitOf, levelAt, hueAt}
 
 -- Gray code and its inverse undo each other and stay below a power of two; so do a symbol and its hue, of 2 ^ q hues

@@ -26,7 +26,7 @@ use Rattle.color.proofs.Rises.{fin-of-fraction}
 use Rattle.answers.specs.declared.Outcome.the-variants as outcome
 use Rattle.answers.specs.Answers.{outcomeNumber, ended}
 use Rattle.modulate.specs.Score.{badLumaLengths, unmaskAt, unmasked, unmaskSentences, unmaskLumaOf}
-use Rattle.modulate.specs.Read.{readList, readSentences, readListOf}
+use Rattle.reading.specs.Read.{readList, readSentences, readListOf}
 use Rattle.lists.proofs.Laws.{reached}
 use Rattle.illum.specs.declared.IlluminationModel.{IlluminationModel}
 use Rattle.stats.specs.declared.ChannelStats.{ChannelStats}

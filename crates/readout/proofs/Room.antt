@@ -26,7 +26,7 @@ use Rattle.answers.specs.declared.Outcome.the-variants as outcome
 use Rattle.answers.specs.Answers.{outcomeNumber, ended, writtenOr}
 use Rattle.lists.specs.Lists.{replaceAt}
 use Rattle.modulate.specs.Score.{unmaskSentences, unmaskLumaOf}
-use Rattle.modulate.specs.Read.{reads, readAt, readList, readSentences, readListOf}
+use Rattle.reading.specs.Read.{reads, readAt, readList, readSentences, readListOf}
 use Rattle.illum.specs.declared.IlluminationModel.{IlluminationModel}
 use Rattle.stats.specs.declared.ChannelStats.{ChannelStats}
 use Rattle.demod.specs.Call as scoring

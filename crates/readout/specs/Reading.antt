@@ -13,7 +13,7 @@ use Rattle.answers.specs.declared.Outcome.{Outcome}
 use Rattle.answers.specs.declared.Outcome.the-variants as outcome
 use Rattle.answers.specs.Answers.{Ended}
 use Rattle.modulate.specs.Score.{unmaskLumaOf}
-use Rattle.modulate.specs.Read.{readListOf}
+use Rattle.reading.specs.Read.{readListOf}
 use Rattle.illum.specs.declared.IlluminationModel.{IlluminationModel}
 use Rattle.stats.specs.declared.ChannelStats.{ChannelStats}
 use Rattle.demod.specs.Call as scoring

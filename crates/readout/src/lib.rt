@@ -9,7 +9,7 @@
 ghost use mathlib.Core.Path.{_≡_};
 ghost use Prim.Native.Nat.{_+_, _*_, _≤_};
 ghost use lib.ListN.{length};
-ghost use Rattle.modulate.specs.Read.{readListOf};
+ghost use Rattle.reading.specs.Read.{readListOf};
 ghost use Rattle.listing.specs.Text.{text, written};
 ghost use Rattle.readout.specs.Sheet.{sheet, Few, Scored};
 ghost use Rattle.readout.specs.Reading as spec;
@@ -35,7 +35,7 @@ fn list_card(
     requires { ⌜ Scored (now xs) (now ys) (now luma) × (length (now bits) ≡ length (now xs)) × (length (now symbols) ≡ length (now chroma)) ⌝ }
     ensures { λ r. ⌜ text r (now (out .exit)) ≡ written (spec.afterSymbols model (now (xs .entry)) (now (ys .entry)) (now (luma .entry)) (now (bits .entry)) (now (chroma .entry)) (readListOf (now (chroma .entry)) (now (symbols .entry)))) (text 0 (now (out .entry))) ⌝ }
 {
-    match modulate::read_list(chroma, symbols) {
+    match reading::read_list(chroma, symbols) {
         Outcome::Refused(n) => listing::refused_line(out, n),
         Outcome::Done => listing::listing(
             out,
@@ -69,7 +69,7 @@ fn read_bits(
     requires { ⌜ Scored (now xs) (now ys) (now luma) × (length (now bits) ≡ length (now xs)) × (now symbols ≡ spec.noBits (length (now chroma))) ⌝ }
     ensures { λ r. ⌜ text r (now (out .exit)) ≡ written (spec.afterBits model (now (xs .entry)) (now (ys .entry)) (now (luma .entry)) (now (chroma .entry)) (readListOf (now (unmasked .entry)) (now (bits .entry)))) (text 0 (now (out .entry))) ⌝ }
 {
-    match modulate::read_list(unmasked, bits) {
+    match reading::read_list(unmasked, bits) {
         Outcome::Refused(n) => listing::refused_line(out, n),
         Outcome::Done => list_card(model, xs, ys, luma, bits, chroma, symbols, out),
     }

@@ -86,7 +86,7 @@ fn demodulate(
 
 // Reads scores, and puts their bits or the refusal's number.
 fn put_read(got: &mut [u64], at: usize, scores: &[f32], bits: &mut [u8]) -> usize {
-    let n = outcome_number(modulate::read_list(scores, bits));
+    let n = outcome_number(reading::read_list(scores, bits));
     if n != 0 {
         return vectors::put(got, at, n as u64);
     }

@@ -4,7 +4,7 @@ use borrow.Author.Needs.{needs}
 use Prim.Native.Nat.{ℕ, _-_, _/_, _%_, _^_}
 use Rattle.limits.specs.Chroma.{log2}
 use Rattle.modulate.specs.declared.Cell.{Cell}
-use Rattle.modulate.specs.Gray.{hueToChromaSymbol}
+use Rattle.symbols.specs.Gray.{hueToChromaSymbol}
 use Rattle.modulate.specs.Score.{unmaskedHue, symbolBit, bitOfHue}
 use Rattle.modulate.proofs.bit_of_hue.Statement.{statement}
 use Rattle.modulate.proofs.bit_of_hue.Tie as tie

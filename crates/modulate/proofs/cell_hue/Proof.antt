@@ -2,8 +2,8 @@
 use mathlib.Core.Path.{_≡_, refl, sym, ap, _∙_}
 use borrow.Author.Needs.{needs}
 use Prim.Native.Nat.{ℕ}
-use Rattle.modulate.specs.Gray.{chromaSymbolToHue}
-use Rattle.modulate.specs.Mask.{chromaMaskApply}
+use Rattle.symbols.specs.Gray.{chromaSymbolToHue}
+use Rattle.symbols.specs.Mask.{chromaMaskApply}
 use Rattle.modulate.specs.Draw.{cellHue}
 use Rattle.answers.proofs.Answers.{number-refused, number-given, cell-hues-some, cell-hues-few}
 use Rattle.modulate.proofs.cell_hue.Statement.{statement}

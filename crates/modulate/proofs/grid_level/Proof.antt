@@ -3,7 +3,7 @@ use mathlib.Core.Path.{_≡_, refl, sym, ap, _∙_}
 use borrow.Author.Needs.{needs}
 use mathlib.Core.Bool.{Bool, true, false, xor}
 use Prim.Native.Nat.{ℕ}
-use Rattle.modulate.specs.Mask.{lumaMask}
+use Rattle.symbols.specs.Mask.{lumaMask}
 use Rattle.modulate.specs.Draw.{isOne, bitOf, gridLevel}
 use Rattle.modulate.proofs.grid_level.Statement.{statement}
 use Rattle.modulate.proofs.grid_level.Tie as tie

@@ -9,8 +9,8 @@ use lib.ListN.{length, getD}
 use mir.Syntax.{w64}
 use mir.Val.{Fits}
 use Rattle.limits.specs.Chroma.{symbolBits}
-use Rattle.modulate.specs.Gray.{chromaSymbolToHue}
-use Rattle.modulate.specs.Mask.{chromaMaskApply}
+use Rattle.symbols.specs.Gray.{chromaSymbolToHue}
+use Rattle.symbols.specs.Mask.{chromaMaskApply}
 use Rattle.modulate.specs.Draw.{symbolAt, cellHue, ringHue, hueAt}
 use Rattle.modulate.proofs.hue_at.Statement.{statement}
 use Rattle.modulate.proofs.hue_at.Tie as tie

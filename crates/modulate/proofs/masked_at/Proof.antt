@@ -6,7 +6,7 @@ use mathlib.Core.List.{List}
 use Prim.Native.Nat.{ℕ}
 use lib.IntN.{ℤ, pos, natAbs}
 use lib.ListN.{getD}
-use Rattle.modulate.specs.Mask.{lumaMask}
+use Rattle.symbols.specs.Mask.{lumaMask}
 use Rattle.modulate.specs.Score.{coordinate, maskedAt}
 use Rattle.modulate.proofs.Ready.{column-in-grid, row-in-grid}
 use Rattle.modulate.proofs.masked_at.Statement.{statement}

@@ -4,7 +4,7 @@ use borrow.Author.Needs.{needs}
 use Prim.Native.Nat.{ℕ}
 use Rattle.modulate.specs.declared.Cell.{Cell}
 use Rattle.modulate.specs.declared.Cell.the-variants.{Unmasked, At}
-use Rattle.modulate.specs.Mask.{chromaMaskRemove}
+use Rattle.symbols.specs.Mask.{chromaMaskRemove}
 use Rattle.modulate.specs.Score.{unmaskedHue}
 use Rattle.modulate.proofs.unmasked_hue.Statement.{statement}
 use Rattle.modulate.proofs.unmasked_hue.Tie as tie

@@ -5,7 +5,7 @@ use lib.Ieee.{Float}
 use lib.ListN.{length}
 use Rattle.answers.specs.declared.Outcome.the-variants as outcome
 use Rattle.answers.specs.Answers.{Ended}
-use Rattle.modulate.specs.Read.{readListOf}
+use Rattle.reading.specs.Read.{readListOf}
 use Rattle.demod.specs.Call as scoring
 use Rattle.refine.specs.Calls as refining
 use Rattle.readout.specs.Reading.{noBits}

@@ -1,5 +1,5 @@
 -- `promises::gray_code` meets its contract: the theorems of `modulate`. Assumes nothing.
-use Rattle.modulate.proofs.GrayCode as code
+use Rattle.symbols.proofs.GrayCode as code
 use Rattle.promises.proofs.gray_code.Statement.{statement}
 use Rattle.promises.proofs.gray_code.Tie as tie
 

@@ -1,5 +1,5 @@
 -- `promises::hue_rotations` meets its contract: the theorems of `modulate`. Assumes nothing.
-use Rattle.modulate.proofs.Rotations as turns
+use Rattle.symbols.proofs.Rotations as turns
 use Rattle.promises.proofs.hue_rotations.Statement.{statement}
 use Rattle.promises.proofs.hue_rotations.Tie as tie
 

@@ -1,4 +1,4 @@
--- `exports::drawing::purdolve_chroma_mask_remove` meets its contract: it is `modulate::chroma_mask_remove`, its answer turned for C. Assumes nothing.
+-- `exports::drawing::purdolve_chroma_mask_remove` meets its contract: it is `symbols::chroma_mask_remove`, its answer turned for C. Assumes nothing.
 use borrow.Author.Needs.{needs}
 use Rattle.exports.proofs.Laws.{said-answer}
 use Rattle.exports.proofs.drawing.purdolve_chroma_mask_remove.Statement.{statement}

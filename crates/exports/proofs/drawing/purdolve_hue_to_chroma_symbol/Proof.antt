@@ -1,4 +1,4 @@
--- `exports::drawing::purdolve_hue_to_chroma_symbol` meets its contract: it is `modulate::hue_to_chroma_symbol`, its answer turned for C. Assumes nothing.
+-- `exports::drawing::purdolve_hue_to_chroma_symbol` meets its contract: it is `symbols::hue_to_chroma_symbol`, its answer turned for C. Assumes nothing.
 use borrow.Author.Needs.{needs}
 use Rattle.exports.proofs.Laws.{said-answer}
 use Rattle.exports.proofs.drawing.purdolve_hue_to_chroma_symbol.Statement.{statement}

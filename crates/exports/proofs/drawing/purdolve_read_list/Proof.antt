@@ -1,4 +1,4 @@
--- `exports::drawing::purdolve_read_list` meets its contract: it is `modulate::read_list`, its answer turned for C. Assumes nothing.
+-- `exports::drawing::purdolve_read_list` meets its contract: it is `reading::read_list`, its answer turned for C. Assumes nothing.
 use borrow.Author.Needs.{needs}
 use Rattle.exports.proofs.Laws.{write-exit}
 use Rattle.exports.proofs.drawing.purdolve_read_list.Statement.{statement}

@@ -1,0 +1,2 @@
+-- For callers: `Sign`, what reading says of a score's sign.
+pub mod Sign

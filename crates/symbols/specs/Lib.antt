@@ -1,0 +1,4 @@
+-- `Gray` pairs symbols and hues, `Mask` has the masks and the rotations; `Ready` says what the cores ask of a hue count.
+pub mod Ready
+pub mod Gray
+pub mod Mask
