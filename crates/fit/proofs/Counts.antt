@@ -11,7 +11,7 @@ use lib.Ieee.{Float, nan, eq, lt}
 use Rattle.loops.specs.Loops.{turns, forUp}
 use Rattle.loops.proofs.Laws.{forUp-same, forUp-to, forUp-done}
 use Rattle.equations.specs.Live.{liveMark, droppedMark, allLive, isLive, countAt, liveCount}
-use Rattle.fit.specs.Residual.{Rejection, rejection, rejectAt, rejectAbove}
+use Rattle.residuals.specs.Residual.{Rejection, rejection, rejectAt, rejectAbove}
 
 -- ---- the last turn of a loop
 

@@ -15,7 +15,7 @@ use Rattle.illum.specs.Correct.{unitModel, noModel}
 use Rattle.illum.specs.Refusals.{badModel, modelled, refusedModel}
 use Rattle.illum.proofs.Passes.{unit-four-passes, unit-nine-passes}
 use Rattle.equations.specs.Live.{allLive, liveCount}
-use Rattle.fit.specs.Residual.{residualsOf, limitOf, rejectAbove}
+use Rattle.residuals.specs.Residual.{residualsOf, limitOf, rejectAbove}
 use Rattle.fit.specs.Fit.{withCounts, passOf, ran, concluded, droppedOf, refitted, firstPass, fitted, termsFor, Request, sentencesOf, turnedAway, done, fitOf}
 use Rattle.fit.proofs.Accepted.{Accepted, accepted}
 use Rattle.fit.proofs.Counts.{each-counted}

@@ -11,7 +11,7 @@ use Rattle.illum.specs.Refusals.{badTerms, badModelSide, notFiniteAffine, notFi
 use Rattle.fit.specs.declared.Pass.{Pass}
 use Rattle.equations.specs.Once.{fitOnce}
 use Rattle.equations.proofs.Alike.{Alike, itself, fit-once-alike}
-use Rattle.fit.specs.Residual.{residualsOf}
+use Rattle.residuals.specs.Residual.{residualsOf}
 use Rattle.fit.specs.Fit.{withCounts, badPass, pass, measured, passOf}
 
 measured-alike : (m k : IlluminationModel) (residuals live : List Float) (n : ℕ) → Alike m k → Alike m (measured k residuals live n .model)

@@ -17,7 +17,7 @@ use Rattle.fit.specs.declared.Pass.{Pass}
 use Rattle.references.specs.References.{badColours, shortScratch, referencePlacement}
 use Rattle.equations.specs.Live.{allLive, liveCount}
 use Rattle.equations.specs.Once.{fitOnce}
-use Rattle.fit.specs.Residual.{residualsOf, rmsOf, limitOf, Rejection, rejectAbove}
+use Rattle.residuals.specs.Residual.{residualsOf, rmsOf, limitOf, Rejection, rejectAbove}
 
 -- ---- the model's counts and its residual
 

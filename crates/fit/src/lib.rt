@@ -13,13 +13,10 @@ ghost use Prim.Native.Nat.{_*_, _≤_};
 ghost use lib.ListN.{length, take, drop};
 ghost use Rattle.sentences.specs.Sentences.{refusal};
 ghost use Rattle.references.specs.Ready.{Scratch, Lent};
-ghost use Rattle.fit.specs.Residual.{residualsOf};
+ghost use Rattle.residuals.specs.Residual.{residualsOf};
 ghost use Rattle.fit.specs.Fit as spec;
 ghost use Rattle.fit.specs.Fit.{final, request, flatRequest, ran, dropped};
-ghost use Rattle.fit.specs.Ready.{Residuals};
-
-mod residual;
-
+ghost use Rattle.residuals.specs.Ready.{Residuals};
 use equations::live;
 use illum::IlluminationModel;
 use illum::Modelled;
@@ -61,7 +58,7 @@ fn bad_pass(m: IlluminationModel, residuals: &[f32], n: usize) -> bool
     if illum::not_finite_model(m) {
         return true;
     }
-    residual::not_finite_in(residuals, n)
+    residuals::not_finite_in(residuals, n)
 }
 
 // A solved pass, with the root mean square of its residuals.
@@ -69,7 +66,7 @@ fn measure(m: IlluminationModel, residuals: &[f32], live: &[f32], n: usize) -> P
     requires { ⌜ (n ≤ 16384) × Residuals n (now residuals) (now live) ⌝ }
     ensures { λ r. ⌜ r ≡ spec.measured m (now (residuals .entry)) (now (live .entry)) n ⌝ }
 {
-    let model = with_rms(m, residual::residual_rms(residuals, live, n));
+    let model = with_rms(m, residuals::residual_rms(residuals, live, n));
     let bad = bad_pass(model, residuals, n);
     Pass {
         solved: true,
@@ -92,7 +89,7 @@ fn run_pass(m: IlluminationModel, flat: &[f32], n: usize, s: &mut [f32]) -> Pass
         };
     }
     let model = o.model;
-    residual::write_residuals(&mut s[n..2 * n], model, flat, n);
+    residuals::write_residuals(&mut s[n..2 * n], model, flat, n);
     let w = &s[..];
     measure(model, &w[n..2 * n], &w[..n], n)
 }
@@ -102,8 +99,8 @@ fn drop_outliers(m: IlluminationModel, n: usize, s: &mut [f32]) -> IlluminationM
     requires { ⌜ (1 ≤ n) × Scratch n (now s) ⌝ }
     ensures { λ r. ⌜ dropped r (take n (now (s .exit))) ≡ spec.droppedOf m (take n (drop n (now (s .entry)))) (take n (now (s .entry))) n ⌝ }
 {
-    let sigma = residual::sigma_in(&mut s[n..3 * n], n);
-    let rejected = residual::reject(&mut s[..2 * n], n, residual::limit(sigma));
+    let sigma = residuals::sigma_in(&mut s[n..3 * n], n);
+    let rejected = residuals::reject(&mut s[..2 * n], n, residuals::limit(sigma));
     with_counts(m, rejected as u32, m.kept)
 }
 
@@ -140,7 +137,7 @@ pub fn fit_live(flat: &[f32], n: usize, side: usize, terms: usize, s: &mut [f32]
     requires { ⌜ Lent n (now flat) (now s) × (side ≤ 1024) ⌝ }
     ensures { λ r. ⌜ ran r (take n (now (s .exit))) ≡ spec.fitted (now (flat .entry)) n side terms ⌝ }
 {
-    residual::revive(&mut s[..n]);
+    residuals::revive(&mut s[..n]);
     let start = illum::unit_model(side, terms);
     if n < 8 {
         return Modelled {

@@ -10,9 +10,9 @@ use lib.Seq.{length-take-le, take-append-le, take-take}
 use lib.Ieee.{Float}
 use Rattle.order.specs.Deviation.{sigmaOf}
 use Rattle.illum.specs.declared.IlluminationModel.{IlluminationModel}
-use Rattle.fit.specs.Residual.{threeSigma, limitOf, rejection, rejectAbove}
+use Rattle.residuals.specs.Residual.{threeSigma, limitOf, rejection, rejectAbove}
 use Rattle.fit.specs.Fit.{withCounts, dropped, counted, droppedOf}
-use Rattle.fit.proofs.Parts.{part-before, part-is, second-half}
+use Rattle.residuals.proofs.Parts.{part-before, part-is, second-half}
 use borrow.Author.Needs.{needs}
 use Rattle.fit.proofs.drop_outliers.Statement.{statement}
 use Rattle.fit.proofs.drop_outliers.Tie as tie

@@ -15,7 +15,7 @@ use Rattle.illum.specs.Correct.{noModel, unitModel}
 use Rattle.illum.specs.Refusals.{modelled}
 use Rattle.fit.specs.declared.Pass.{Pass}
 use Rattle.equations.specs.Live.{liveMark, allLive}
-use Rattle.fit.specs.Residual.{residualsOf}
+use Rattle.residuals.specs.Residual.{residualsOf}
 use Rattle.fit.specs.Fit.{passOf, ran, refitted, firstPass, fitted}
 use borrow.Author.Needs.{needs}
 use Rattle.fit.proofs.fit_live.Statement.{statement}

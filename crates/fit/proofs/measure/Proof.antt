@@ -6,7 +6,7 @@ use mathlib.Core.List.{List}
 use Prim.Native.Nat.{ℕ}
 use lib.Ieee.{Float}
 use Rattle.illum.specs.declared.IlluminationModel.{IlluminationModel}
-use Rattle.fit.specs.Residual.{rmsOf}
+use Rattle.residuals.specs.Residual.{rmsOf}
 use Rattle.fit.specs.Fit.{withRms, badPass, pass, measured}
 use borrow.Author.Needs.{needs}
 use Rattle.fit.proofs.measure.Statement.{statement}

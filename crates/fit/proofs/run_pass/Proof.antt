@@ -12,19 +12,25 @@ use lib.ListN.{length, take, drop}
 use lib.Seq.{length-take-le, take-all}
 use lib.Ieee.{Float}
 use Rattle.illum.specs.declared.IlluminationModel.{IlluminationModel}
+use Rattle.illum.specs.Correct.{mixed, unshaded}
 use Rattle.fit.specs.declared.Pass.{Pass}
 use Rattle.equations.specs.declared.Once.{Once}
 use Rattle.equations.specs.Once.{fitOnce}
 use Rattle.equations.specs.Ready.{Marked}
 use Rattle.references.specs.Ready.{Lent}
-use Rattle.fit.specs.Residual.{residualsOf, rmsOf}
-use Rattle.fit.specs.Fit.{pass, measured, passOf}
-use Rattle.fit.specs.Ready.{Residuals}
-use Rattle.fit.proofs.Listed.{residuals-length, rms-apart}
-use Rattle.fit.proofs.Parts.{part-before, part-is}
+use Rattle.residuals.specs.Residual.{residual, residualsOf, rmsOf}
+use Rattle.fit.specs.Fit.{pass, withRms, measured, passOf}
+use Rattle.residuals.specs.Ready.{Residuals}
+use Rattle.residuals.proofs.Listed.{residuals-length}
+use Rattle.residuals.proofs.Parts.{part-before, part-is}
 use borrow.Author.Needs.{needs}
 use Rattle.fit.proofs.run_pass.Statement.{statement}
 use Rattle.fit.proofs.run_pass.Tie as tie
+
+-- the root mean square is no part of the correction
+rms-apart : (m : IlluminationModel) (v : Float) (flat : List Float) (n : ℕ) → residualsOf (withRms m v) flat n ≡ residualsOf m flat n
+unfolding residualsOf residual mixed unshaded
+rms-apart m v flat n = refl
 
 no : {A : Type 0} → false ≡ true → A
 no e = let z : _≡_ {A = ℕ} 0 1 = cc in absurd (omega arith)
