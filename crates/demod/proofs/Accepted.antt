@@ -3,6 +3,7 @@ use mathlib.Core.Path.{_≡_, refl, sym, _∙_}
 use mathlib.Core.Bool.{true, false, not, cond}
 use mathlib.Core.List.{List, [], _∷_}
 use Prim.Native.Nat.{ℕ, zero, suc, _*_, _≤_, _<_}
+use native.Mathlib.Omega.{arith}
 use borrow.Author.Tests.{ltb-false, not-false, eqb-true}
 use lib.Dec.{ltb, eqb}
 use lib.IntN.{ℤ}
@@ -22,6 +23,7 @@ use Rattle.stats.specs.declared.ChannelStats.{ChannelStats}
 use Rattle.stats.specs.Calls.{shortPalette, badNoiseNumbers, badNumbers, badSigmas}
 use Rattle.stats.proofs.Passed.{palette-long}
 use Rattle.demod.specs.Ready.{Sampled}
+use Rattle.answers.specs.declared.Outcome.the-variants.{Done}
 use Rattle.answers.specs.Answers.{outcomeNumber}
 use Rattle.demod.specs.Call.{badModuleLengths, badCellLengths, shortChroma, badLengths, badInputs, wildColourAt, wildColours, badCorrected, Request, moduleColours, cellColours, sentencesOf, turnedAway, done, scoredOf}
 use Rattle.demod.proofs.Places.{exact-xs, exact-ys}
@@ -163,12 +165,31 @@ module _ (q : Request) where
             cells-tame = cells-tame (q .layout .hues) (moduleColours q) (length (q .xs)) (cellColours q) (length (q .cxs)) (none 12);
           }
 
--- the answer's number is that of the first sentence that holds
-number-of : (q : Request) (n : ℕ) → outcomeNumber (decided n (turnedAway q) (done q) .answer) ≡ n
-unfolding decided
-number-of q zero = refl
-number-of q (suc n) = refl
+-- the number is that of the first sentence that holds, and the answer's; where it is 0 the call is done
+module _ (q : Request) where
+  number-of : (n : ℕ) → decided n (turnedAway q) (done q) .number ≡ n
+  unfolding decided
+  number-of zero = refl
+  number-of (suc n) = refl
 
-pub number : (q : Request) → outcomeNumber (scoredOf q .answer) ≡ refusal (sentencesOf q)
-unfolding scoredOf
-number q = number-of q (refusal (sentencesOf q))
+  answer-of : (n : ℕ) → outcomeNumber (decided n (turnedAway q) (done q) .answer) ≡ decided n (turnedAway q) (done q) .number
+  unfolding decided
+  answer-of zero = refl
+  answer-of (suc n) = refl
+
+  done-of : (n : ℕ) → n ≡ 0 → decided n (turnedAway q) (done q) .answer ≡ Done
+  unfolding decided
+  done-of zero z = refl
+  done-of (suc n) z = absurd (omega arith)
+
+  pub number : scoredOf q .number ≡ refusal (sentencesOf q)
+  unfolding scoredOf
+  number = number-of (refusal (sentencesOf q))
+
+  pub answer-number : outcomeNumber (scoredOf q .answer) ≡ scoredOf q .number
+  unfolding scoredOf
+  answer-number = answer-of (refusal (sentencesOf q))
+
+  pub done-answer : scoredOf q .number ≡ 0 → scoredOf q .answer ≡ Done
+  unfolding scoredOf
+  done-answer z = done-of (refusal (sentencesOf q)) (sym (number-of (refusal (sentencesOf q))) ∙ z)

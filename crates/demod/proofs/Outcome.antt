@@ -13,11 +13,11 @@ use lib.Ieee.{Float, nan}
 use Rattle.sentences.specs.Sentences.{refusal, at, before}
 use Rattle.limits.specs.Chroma.{chromaOn, symbolBits, ringModules, chromaEntries, chromaLength}
 use Rattle.modulate.specs.declared.Cell.the-variants.{Unmasked, At}
-use Rattle.answers.specs.declared.Outcome.the-variants.{Refused, Done}
+use Rattle.answers.specs.declared.Outcome.the-variants.{Done}
 use Rattle.answers.specs.Answers.{outcomeNumber}
 use Rattle.demod.specs.Score.{writeCells, writeRings, ringChroma, chromaWritten}
 use Rattle.demod.specs.Call.{Request, moduleColours, cellColours, sentencesOf, turnedAway, done, writtenModules, writtenChroma, scoredOf}
-use Rattle.demod.proofs.Accepted.{Accepted, accepted, number, given, first, turned-away, taken}
+use Rattle.demod.proofs.Accepted.{Accepted, accepted, number, answer-number, given, first, turned-away, taken}
 use Rattle.demod.proofs.Written.{Modules, modules-are, Entries, entryScore, place, cells-are, cellOf, rings-are, ring-has, ring-long, ring-below, ring-past}
 
 -- the chroma list of an accepted call, with chroma on
@@ -123,7 +123,7 @@ module _ (q : Request) where
 
   pub at-done : scoredOf q .answer ≡ Done → IsDone
   at-done h =
-      let e : 0 ≡ refusal (sentencesOf q) = sym (ap outcomeNumber h) ∙ number q in
+      let e : 0 ≡ refusal (sentencesOf q) = sym (ap outcomeNumber h) ∙ (answer-number q ∙ number q) in
       let a = accepted q 0 e refl in
       record {
         fit = a;
@@ -138,7 +138,7 @@ module _ (q : Request) where
     pub holds : at n (sentencesOf q) ≡ true
     pub earlier : (m : ℕ) → at m (before n (sentencesOf q)) ≡ false
 
-  pub at-refused : (n : ℕ) → (n ≡ 0 → ⊥) → scoredOf q .answer ≡ Refused n → IsRefused n
+  pub at-refused : (n : ℕ) → (n ≡ 0 → ⊥) → scoredOf q .number ≡ n → IsRefused n
   at-refused n z h =
-      let e : n ≡ refusal (sentencesOf q) = sym (ap outcomeNumber h) ∙ number q in
+      let e : n ≡ refusal (sentencesOf q) = sym h ∙ number q in
       record { left = sym (turned-away q n e z); holds = given q n e z; earlier = first q n e }

@@ -15,6 +15,7 @@ use Rattle.color.specs.declared.Linear.{Linear}
 use Rattle.color.specs.Palette.{wildLinear, wildIn}
 use Rattle.answers.specs.declared.Outcome.{Outcome}
 use Rattle.answers.specs.declared.Outcome.the-variants.{Refused, Done}
+use Rattle.answers.specs.Answers.{outcomeNumber}
 use Rattle.illum.specs.declared.IlluminationModel.{IlluminationModel}
 use Rattle.illum.specs.Refusals.{badModel}
 use Rattle.stats.specs.declared.ChannelStats.{ChannelStats}
@@ -105,15 +106,16 @@ writtenModules q = writeModules (q .noise) (q .palette) (q .layout .hues) (modul
 abbrev pub writtenChroma : Request → List Float
 writtenChroma q = chromaWritten (q .layout) (q .noise) (q .palette) (moduleColours q) (length (q .xs)) (q .cxs) (q .cys) (cellColours q) (q .chroma)
 
--- what it gives back: its answer, and the three lent slices
+-- what it gives back: document 01's number, its answer, and the three lent slices
 pub record Final : Type 0 where
+  pub number : ℕ
   pub answer : Outcome
   pub luma : List Float
   pub colours : List Float
   pub chroma : List Float
 
 abbrev pub final : Outcome → List Float → List Float → List Float → Final
-final r luma colours chroma = record { answer = r; luma = luma; colours = colours; chroma = chroma }
+final r luma colours chroma = record { number = outcomeNumber r; answer = r; luma = luma; colours = colours; chroma = chroma }
 
 -- refused by sentence n: nothing changes
 abbrev pub turnedAway : Request → ℕ → Final

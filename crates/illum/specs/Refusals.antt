@@ -10,6 +10,7 @@ use lib.Ieee.Scale.{finite}
 use Rattle.loops.specs.Loops.{anyUp}
 use Rattle.sentences.specs.Sentences.{Sentence, _when_, refusal, decided}
 use Rattle.limits.specs.Limits.{badSide}
+use Rattle.answers.specs.Answers.{Said, refusedBy, gives, answered}
 use Rattle.color.specs.declared.Linear.{Linear}
 use Rattle.color.specs.Palette.{wildLinear}
 use Rattle.illum.specs.declared.IlluminationModel.{IlluminationModel}
@@ -92,10 +93,10 @@ identityOf side = decided (refusal ((2 when badSide side) ∷ [])) refusedModel 
 unfoldable pub sentencesOf : IlluminationModel → Linear → List Sentence
 sentencesOf m c = (8 when wildLinear c) ∷ (10 when badModel m) ∷ []
 
-unfoldable pub correctOf : IlluminationModel → Float → Float → Linear → Correction
-correctOf m x y c = decided (refusal (sentencesOf m c)) Refused (Corrected (corrected m x y c .colour))
+-- what each case of the answer says
+abbrev pub correctionSaid : Correction → Said Linear
+correctionSaid (Refused n) = refusedBy n
+correctionSaid (Corrected c) = gives c
 
--- document 01's number of an answer: 0 where the call is accepted
-unfoldable pub numberOf : Correction → ℕ
-numberOf (Refused n) = n
-numberOf (Corrected c) = 0
+unfoldable pub correctOf : IlluminationModel → Float → Float → Linear → Said Linear
+correctOf m x y c = answered (sentencesOf m c) (corrected m x y c .colour)

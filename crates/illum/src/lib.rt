@@ -13,7 +13,7 @@ ghost use Rattle.color.specs.Palette.{wild, wildLinear};
 ghost use Rattle.illum.specs.Surface.{termsUsed, basisAt, summed, isHeld, holdGain, inverted, deshade, normalised};
 ghost use Rattle.illum.specs.Correct as spec;
 ghost use Rattle.illum.specs.Reach.{Typed, Placed, largeUpTo, largeAffine, largeGains, largeFlares, inScale, reachOf, isWithin};
-ghost use Rattle.illum.specs.Refusals.{badTerms, badModelSide, notFinite, notFinite4, notFiniteUpTo, notFiniteRows, notFiniteSurfaces, notFiniteModel, badModel, identityOf, correctOf};
+ghost use Rattle.illum.specs.Refusals.{badTerms, badModelSide, notFinite, notFinite4, notFiniteUpTo, notFiniteRows, notFiniteSurfaces, notFiniteModel, badModel, identityOf, correctionSaid, correctOf};
 ghost use Rattle.illum.specs.Shown.{leavesOpen};
 use color::Linear;
 
@@ -777,7 +777,7 @@ pub fn correct_lent<'a>(
     y: f32,
     colour: Linear,
 ) -> Correction
-    ensures { λ r. ⌜ r ≡ correctOf (spec.lentModel terms side «residual_rms» (now («affine_r» .entry)) (now («affine_g» .entry)) (now («affine_b» .entry)) (now («gain_r» .entry)) (now («gain_g» .entry)) (now («gain_b» .entry)) (now («flare_r» .entry)) (now («flare_g» .entry)) (now («flare_b» .entry))) x y colour ⌝ }
+    ensures { λ r. ⌜ correctionSaid r ≡ correctOf (spec.lentModel terms side «residual_rms» (now («affine_r» .entry)) (now («affine_g» .entry)) (now («affine_b» .entry)) (now («gain_r» .entry)) (now («gain_g» .entry)) (now («gain_b» .entry)) (now («flare_r» .entry)) (now («flare_g» .entry)) (now («flare_b» .entry))) x y colour ⌝ }
 {
     if color::palette::wild_linear(colour) {
         return Correction::Refused(8);
@@ -823,7 +823,7 @@ pub fn correct_lent<'a>(
 // An observed colour at a position, corrected by the model. The position is any float, and so is what comes out. Refused by 8
 // and 10.
 pub fn correct(model: IlluminationModel, x: f32, y: f32, colour: Linear) -> Correction
-    ensures { λ r. ⌜ r ≡ correctOf model x y colour ⌝ }
+    ensures { λ r. ⌜ correctionSaid r ≡ correctOf model x y colour ⌝ }
 {
     correct_lent(
         model.terms,

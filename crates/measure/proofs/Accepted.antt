@@ -9,12 +9,12 @@ use lib.Ieee.{Float}
 use Rattle.sentences.specs.Sentences.{refusal, at, fresh, sound}
 use Rattle.sentences.proofs.Laws.{none-holds, neither, refuses, accepts}
 use Rattle.limits.proofs.Laws.{side-in}
+use Rattle.answers.specs.Answers.{refusedBy}
 use Rattle.color.specs.Palette.{paletteLen, wildPalette}
 use Rattle.illum.specs.declared.IlluminationModel.{IlluminationModel}
 use Rattle.illum.specs.Refusals.{badModel}
 use Rattle.references.specs.References.{badPositions, wildColours, shortScratch, referencePlacement}
 use Rattle.references.proofs.Laws.{room-in, few-in}
-use Rattle.stats.specs.declared.Noise.the-variants.{Refused}
 use Rattle.stats.specs.Calls.{shortPalette}
 use Rattle.stats.proofs.Passed.{palette-long}
 use Rattle.measure.specs.Measure.{tooShort, wildNumbers, badCorrected, sentencesFor, Request, sentencesOf, final, turnedAway, done, measureOf}
@@ -74,7 +74,7 @@ module _ (flat : List Float) (cut : Bool) (n side : ℕ) (m : IlluminationModel)
 
 -- what a call gives by its number
 module _ (q : Request) (k : ℕ) (e : k ≡ refusal (sentencesOf q)) where
-  pub turned-away : (k ≡ 0 → ⊥) → final (Refused k) (q .scratch) ≡ measureOf q
+  pub turned-away : (k ≡ 0 → ⊥) → final (refusedBy k) (q .scratch) ≡ measureOf q
   unfolding measureOf
   turned-away z = refuses (turnedAway q) (done q) k (refusal (sentencesOf q)) z e
 

@@ -3,6 +3,7 @@
 use mathlib.Core.Path.{_≡_, refl, sym, ap, _∙_}
 use mathlib.Core.Bool.{Bool, true, false, not, cond, _&&_, _||_}
 use mathlib.Core.List.{List}
+use mathlib.Core.Option.{Option·none-ne-some, Option·some-injective}
 use Prim.Native.Nat.{ℕ, zero, suc, _+_, _-_, _*_, _^_, _≤_, _<_}
 use native.Mathlib.Nat.{eq-or-lt-of-le}
 use mathlib.Core.Logic.{⊎-elim}
@@ -35,8 +36,8 @@ use Rattle.stats.specs.Noise.{nominal}
 use Rattle.stats.proofs.Range.{Held}
 use Rattle.stats.specs.Calls.{wildFigure, badNoiseNumbers, badLevelSigma, badSigmas}
 use Rattle.measure.specs.Measure.{correctedAt, correctedLab, nominalLab, lightnessAt, errorAt, picked, leastSigma, spreadAbout, lumaSigma, chromaSigma, figuresOf, recordOf, measuredOf, measured, wildCorrectedAt, wildCorrected, badCorrected, Request, sentencesOf, Final, final, turnedAway, done, measureOf}
-use Rattle.stats.specs.declared.Noise.the-variants.{Record}
 use Rattle.sentences.specs.Sentences.{refusal, decided}
+use Rattle.answers.specs.Answers.{gives}
 use Rattle.measure.specs.Columns.{RealDistances}
 use Rattle.measure.proofs.Lists.{Each, picked-each}
 use Rattle.measure.proofs.Accepted.{Accepted, accepted}
@@ -286,18 +287,18 @@ answer-passes m palette flat n side hues lent ff fp a = passes m palette flat n 
 
 -- The theorem: a record that a call gives passes sentences 8 and 9, and holds f32 values.
 module _ (q : Request) (ff : F32 (q .flat)) (fp : F32 (q .palette)) (r : ChannelStats) where
-  by-number : (k : ℕ) → k ≡ refusal (sentencesOf q) → decided k (turnedAway q) (done q) .answer ≡ Record r → Passing r
+  by-number : (k : ℕ) → k ≡ refusal (sentencesOf q) → decided k (turnedAway q) (done q) .said ≡ gives r → Passing r
   unfolding decided
   by-number zero e h =
-      let g : r ≡ measured (q .model) (q .palette) (q .flat) (q .n) = cc in
+      let g : r ≡ measured (q .model) (q .palette) (q .flat) (q .n) = sym (Option·some-injective _ r (ap (λ s. s .value) h)) in
       rw g
       (answer-passes (q .model) (q .palette) (q .flat) (q .n) (q .side) (q .hues) (length (q .scratch)) ff fp
       (accepted (q .flat) (q .cut) (q .n) (q .side) (q .model) (q .palette) (q .hues) (length (q .scratch)) zero e refl))
-  by-number (suc k) e h = let z : _≡_ {A = ℕ} 0 1 = cc in absurd (omega arith)
+  by-number (suc k) e h = absurd (Option·none-ne-some r (ap (λ s. s .value) h))
 
-  pub answered-passes : measureOf q .answer ≡ Record r → Passing r
+  pub answered-passes : measureOf q .said ≡ gives r → Passing r
   unfolding measureOf
   answered-passes h = by-number (refusal (sentencesOf q)) refl h
 
-  pub given-passes : (s : List Float) → final (Record r) s ≡ measureOf q → Passing r
-  given-passes s h = answered-passes (ap (λ (x : Final). x .answer) (sym h))
+  pub given-passes : (s : List Float) → final (gives r) s ≡ measureOf q → Passing r
+  given-passes s h = answered-passes (ap (λ (x : Final). x .said) (sym h))

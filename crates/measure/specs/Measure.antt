@@ -8,6 +8,7 @@ use lib.Ieee.{Float, binary32, add, sub, div, le, lt}
 use Rattle.loops.specs.Loops.{anyUp}
 use Rattle.sentences.specs.Sentences.{Sentence, _when_, refusal, decided}
 use Rattle.limits.specs.Limits.{badSide, badHues}
+use Rattle.answers.specs.Answers.{Said, refusedBy, gives}
 use Rattle.float.specs.Select.{abs, max}
 use Rattle.color.specs.declared.Linear.{Linear}
 use Rattle.color.specs.declared.Lab.{Lab}
@@ -20,8 +21,6 @@ use Rattle.illum.specs.Correct.{corrected}
 use Rattle.illum.specs.Refusals.{badModel}
 use Rattle.measure.specs.declared.Seen.{Seen}
 use Rattle.stats.specs.declared.ChannelStats.{ChannelStats}
-use Rattle.stats.specs.declared.Noise.{Noise}
-use Rattle.stats.specs.declared.Noise.the-variants.{Refused, Record}
 use Rattle.stats.specs.Noise.{nominal}
 use Rattle.stats.specs.Calls.{shortPalette}
 use Rattle.references.specs.References.{xAt, yAt, observedAt, nominalAt, wildColours, shortScratch, referencePlacement}
@@ -215,21 +214,21 @@ sentencesFor flat cut n side m palette hues lent =
 abbrev pub sentencesOf : Request → List Sentence
 sentencesOf q = sentencesFor (q .flat) (q .cut) (q .n) (q .side) (q .model) (q .palette) (q .hues) (length (q .scratch))
 
--- what it gives back
+-- what it gives back: what its answer says, and the scratch
 pub record Final : Type 0 where
-  pub answer : Noise
+  pub said : Said ChannelStats
   pub scratch : List Float
 
-abbrev pub final : Noise → List Float → Final
-final r scratch = record { answer = r; scratch = scratch }
+abbrev pub final : Said ChannelStats → List Float → Final
+final r scratch = record { said = r; scratch = scratch }
 
 -- refused by sentence n: nothing changes
 abbrev pub turnedAway : Request → ℕ → Final
-turnedAway q n = final (Refused n) (q .scratch)
+turnedAway q n = final (refusedBy n) (q .scratch)
 
 -- accepted: the scratch of 4 × references is all zero, and its tail stays
 abbrev pub done : Request → Final
-done q = final (Record (measured (q .model) (q .palette) (q .flat) (q .n))) (cleared (4 * q .n) (q .scratch))
+done q = final (gives (measured (q .model) (q .palette) (q .flat) (q .n))) (cleared (4 * q .n) (q .scratch))
 
 unfoldable pub measureOf : Request → Final
 measureOf q = decided (refusal (sentencesOf q)) (turnedAway q) (done q)

@@ -14,6 +14,7 @@ ghost use Rattle.sentences.specs.Sentences.{refusal};
 ghost use Rattle.color.specs.Color.{linearToLab};
 ghost use Rattle.color.specs.Palette.{paletteLen};
 ghost use Rattle.order.specs.Median.{medianOf};
+ghost use Rattle.stats.specs.Calls.{noiseSaid};
 ghost use Rattle.references.specs.References.{wildColours};
 ghost use Rattle.references.specs.Ready.{Scratch, Lent};
 ghost use Rattle.measure.specs.Measure as spec;
@@ -605,7 +606,7 @@ pub fn measure_counted(
     scratch: &mut [f32],
 ) -> Noise
     requires { ⌜ (n ≤ 16384 → 8 * n ≤ length (now flat)) ⌝ }
-    ensures { λ r. ⌜ final r (now (scratch .exit)) ≡ spec.measureOf (request (now (flat .entry)) false n side model (now (palette .entry)) hues (now (scratch .entry))) ⌝ }
+    ensures { λ r. ⌜ final (noiseSaid r) (now (scratch .exit)) ≡ spec.measureOf (request (now (flat .entry)) false n side model (now (palette .entry)) hues (now (scratch .entry))) ⌝ }
 {
     let number = refused(flat, n, side, model, palette, hues, scratch.len());
     if number != 0 {
@@ -628,7 +629,7 @@ pub fn measure_flat(
     hues: usize,
     scratch: &mut [f32],
 ) -> Noise
-    ensures { λ r. ⌜ final r (now (scratch .exit)) ≡ spec.measureOf (flatRequest (now (flat .entry)) side model (now (palette .entry)) hues (now (scratch .entry))) ⌝ }
+    ensures { λ r. ⌜ final (noiseSaid r) (now (scratch .exit)) ≡ spec.measureOf (flatRequest (now (flat .entry)) side model (now (palette .entry)) hues (now (scratch .entry))) ⌝ }
 {
     if flat.len() % 8 == 0 {
         return measure_counted(flat, flat.len() / 8, side, model, palette, hues, scratch);

@@ -10,6 +10,7 @@ ghost use mathlib.Core.Bool.{false};
 ghost use mathlib.Core.List.{_++_};
 ghost use Prim.Native.Nat.{_+_, _*_, _≤_};
 ghost use lib.ListN.{length, take};
+ghost use Rattle.stats.specs.Calls.{noiseSaid};
 ghost use Rattle.fit.specs.Fit as fitting;
 ghost use Rattle.measure.specs.Measure as measuring;
 ghost use Rattle.records.specs.Records as spec;
@@ -89,7 +90,7 @@ fn measure_copied(
     scratch: &mut [f32],
 ) -> Noise
     requires { ⌜ length (now flat) ≡ 131072 ⌝ }
-    ensures { λ r. ⌜ measuring.final r (now (scratch .exit)) ≡ measuring.measureOf (measuring.request (take (8 * spec.copied n) (now (flat .entry))) false n side model (now (palette .entry)) hues (now (scratch .entry))) ⌝ }
+    ensures { λ r. ⌜ measuring.final (noiseSaid r) (now (scratch .exit)) ≡ measuring.measureOf (measuring.request (take (8 * spec.copied n) (now (flat .entry))) false n side model (now (palette .entry)) hues (now (scratch .entry))) ⌝ }
 {
     let m = copied(n);
     measure::measure_counted(&flat[..8 * m], n, side, model, palette, hues, scratch)
@@ -119,7 +120,7 @@ pub fn measure(
     hues: usize,
     scratch: &mut [f32],
 ) -> Noise
-    ensures { λ r. ⌜ measuring.final r (now (scratch .exit)) ≡ measuring.measureOf (measuring.flatRequest (spec.flattened (now (refs .entry))) side model (now (palette .entry)) hues (now (scratch .entry))) ⌝ }
+    ensures { λ r. ⌜ measuring.final (noiseSaid r) (now (scratch .exit)) ≡ measuring.measureOf (measuring.flatRequest (spec.flattened (now (refs .entry))) side model (now (palette .entry)) hues (now (scratch .entry))) ⌝ }
 {
     let n = refs.len();
     let m = copied(n);

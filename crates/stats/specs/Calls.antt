@@ -1,13 +1,14 @@
--- The public calls of the noise record: which sentences of document 01 each can meet, in checking order, and what it answers. Definitions only.
-use mathlib.Core.Bool.{Bool, not, cond, _||_, _&&_}
+-- The public calls of the noise record: which sentences of document 01 each can meet, in checking order, what the cases of its answer say, and what
+-- it answers. Definitions only.
+use mathlib.Core.Bool.{Bool, true, false, not, _||_, _&&_}
 use mathlib.Core.List.{List, [], _∷_}
 use Prim.Native.Nat.{ℕ, _^_}
 use lib.Dec.{ltb}
 use lib.ListN.{length}
 use lib.Ieee.{Float, neg, lt, le, eq}
-use Rattle.sentences.specs.Sentences.{Sentence, _when_, refusal, decided}
+use Rattle.sentences.specs.Sentences.{Sentence, _when_}
 use Rattle.limits.specs.Limits.{badHues}
-use Rattle.answers.specs.Answers.{Ended, writtenOr}
+use Rattle.answers.specs.Answers.{Said, refusedBy, gives, answered, Ended, writtenOr}
 use Rattle.color.specs.declared.Lab.{Lab}
 use Rattle.color.specs.Color.{whole, fraction}
 use Rattle.color.specs.Palette.{paletteLen, wildPalette}
@@ -88,36 +89,40 @@ likelihoodSentences n palette hues out =
     (9 when badSigmas n) ∷
     []
 
--- ---- what each call answers: document 01's number n of a refused call, and at 0 the values
+-- ---- what each case of an answer says
 
-abbrev pub figureOf : ℕ → Float → Figure
-figureOf n v = decided n figure.Refused (figure.Value v)
+abbrev pub figureSaid : Figure → Said Float
+figureSaid (figure.Refused n) = refusedBy n
+figureSaid (figure.Value v) = gives v
 
-abbrev pub noiseOf : ℕ → ChannelStats → Noise
-noiseOf n v = decided n noise.Refused (noise.Record v)
+abbrev pub noiseSaid : Noise → Said ChannelStats
+noiseSaid (noise.Refused n) = refusedBy n
+noiseSaid (noise.Record v) = gives v
 
-abbrev pub yesOrNo : Bool → Verdict
-yesOrNo b = cond b verdict.Yes verdict.No
+-- "The margin check says yes", or it says no
+abbrev pub verdictSaid : Verdict → Said Bool
+verdictSaid (verdict.Refused n) = refusedBy n
+verdictSaid verdict.Yes = gives true
+verdictSaid verdict.No = gives false
 
-abbrev pub verdictOf : ℕ → Bool → Verdict
-verdictOf n b = decided n verdict.Refused (yesOrNo b)
+-- ---- what each call answers
 
-abbrev pub sigmaAbAnswer : ChannelStats → Float → Figure
-sigmaAbAnswer n l = figureOf (refusal (recordSentences n)) (sigmaAbAt n l)
+abbrev pub sigmaAbAnswer : ChannelStats → Float → Said Float
+sigmaAbAnswer n l = answered (recordSentences n) (sigmaAbAt n l)
 
-abbrev pub lumaLlrAnswer : ChannelStats → Float → Figure
-lumaLlrAnswer n l = figureOf (refusal (recordSentences n)) (lumaLlr n l)
+abbrev pub lumaLlrAnswer : ChannelStats → Float → Said Float
+lumaLlrAnswer n l = answered (recordSentences n) (lumaLlr n l)
 
-abbrev pub reliabilityAnswer : ChannelStats → Lab → List Float → ℕ → Figure
-reliabilityAnswer n sample palette hues = figureOf (refusal (sentencesOf n palette hues)) (reliability n sample palette hues)
+abbrev pub reliabilityAnswer : ChannelStats → Lab → List Float → ℕ → Said Float
+reliabilityAnswer n sample palette hues = answered (sentencesOf n palette hues) (reliability n sample palette hues)
 
 abbrev pub likelihoodsAnswer : ChannelStats → Lab → List Float → ℕ → List Float → Ended Float
 likelihoodsAnswer n sample palette hues out =
     writtenOr (likelihoodSentences n palette hues out) out (hueLogLikelihoods n sample palette hues out)
 
-abbrev pub nominalAnswer : List Float → ℕ → Noise
-nominalAnswer palette hues = noiseOf (refusal (paletteSentences palette hues)) (nominal palette)
+abbrev pub nominalAnswer : List Float → ℕ → Said ChannelStats
+nominalAnswer palette hues = answered (paletteSentences palette hues) (nominal palette)
 
 -- document 01's threshold is 13
-abbrev pub marginAnswer : ChannelStats → List Float → ℕ → Verdict
-marginAnswer n palette hues = verdictOf (refusal (sentencesOf n palette hues)) (inMargin (whole 13) n palette hues)
+abbrev pub marginAnswer : ChannelStats → List Float → ℕ → Said Bool
+marginAnswer n palette hues = answered (sentencesOf n palette hues) (inMargin (whole 13) n palette hues)

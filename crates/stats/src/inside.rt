@@ -234,7 +234,7 @@ pub fn in_margin(threshold: f32, noise: ChannelStats, palette: &[f32], hues: usi
 // The margin check: whether every dark and light colour still scores 13 half a sigma off, and, with
 // chroma on, every colour stands near its hue's point and far from the others. Refused: 3, 5, 8, 9.
 pub fn margin(noise: ChannelStats, palette: &[f32], hues: usize) -> Verdict
-    ensures { λ r. ⌜ r ≡ call.marginAnswer noise (now (palette .entry)) hues ⌝ }
+    ensures { λ r. ⌜ call.verdictSaid r ≡ call.marginAnswer noise (now (palette .entry)) hues ⌝ }
 {
     let n = super::refused(noise, palette, hues);
     if n != 0 {

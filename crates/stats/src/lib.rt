@@ -408,7 +408,7 @@ impl ChannelStats {
     // The chroma noise at lightness l, between those of the two levels by where l stands between them;
     // the pooled noise where a level has none. Refused: 8, 9.
     pub fn sigma_ab_at(self, l: f32) -> Figure
-        ensures { λ r. ⌜ r ≡ call.sigmaAbAnswer self l ⌝ }
+        ensures { λ r. ⌜ call.figureSaid r ≡ call.sigmaAbAnswer self l ⌝ }
     {
         let n = refused_record(self);
         if n != 0 {
@@ -420,7 +420,7 @@ impl ChannelStats {
     // The log-likelihood ratio of a luma sample, (l1 - l0)(l0 + l1 - 2l) / 2σ², within ±20. Positive
     // means dark. Refused: 8, 9.
     pub fn luma_llr(self, l: f32) -> Figure
-        ensures { λ r. ⌜ r ≡ call.lumaLlrAnswer self l ⌝ }
+        ensures { λ r. ⌜ call.figureSaid r ≡ call.lumaLlrAnswer self l ⌝ }
     {
         let n = refused_record(self);
         if n != 0 {
@@ -432,7 +432,7 @@ impl ChannelStats {
     // How much to believe a sample, from 0 to 1, by its distance from the nearest palette colour in
     // units of that colour's noise. Refused: 3, 5, 8, 9.
     pub fn reliability(self, sample: Lab, palette: &[f32], hues: usize) -> Figure
-        ensures { λ r. ⌜ r ≡ call.reliabilityAnswer self sample (now (palette .entry)) hues ⌝ }
+        ensures { λ r. ⌜ call.figureSaid r ≡ call.reliabilityAnswer self sample (now (palette .entry)) hues ⌝ }
     {
         let n = refused(self, palette, hues);
         if n != 0 {
@@ -463,7 +463,7 @@ impl ChannelStats {
     // The record to fall back on where too little can be measured: the palette's own levels, sigmas 6,
     // samples 0. Refused: 3, 5, 8.
     pub fn nominal(palette: &[f32], hues: usize) -> Noise
-        ensures { λ r. ⌜ r ≡ call.nominalAnswer (now (palette .entry)) hues ⌝ }
+        ensures { λ r. ⌜ call.noiseSaid r ≡ call.nominalAnswer (now (palette .entry)) hues ⌝ }
     {
         let n = refused_palette(palette, hues);
         if n != 0 {

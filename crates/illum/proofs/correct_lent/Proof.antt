@@ -6,13 +6,14 @@ use mathlib.Core.List.{[], _∷_}
 use lib.Ieee.{Float}
 use native.Mathlib.Omega.{arith}
 use borrow.Author.Needs.{needs}
-use Rattle.sentences.specs.Sentences.{_when_, refusal}
-use Rattle.sentences.proofs.Laws.{holds, passed, none, refuses, accepts}
+use Rattle.sentences.specs.Sentences.{_when_}
+use Rattle.sentences.proofs.Laws.{holds, passed, none}
+use Rattle.answers.specs.Answers.{refusedBy, gives}
+use Rattle.answers.proofs.Answers.{says-refused, says-given}
 use Rattle.color.specs.declared.Linear.{Linear}
 use Rattle.color.specs.Palette.{wildLinear}
 use Rattle.illum.specs.declared.IlluminationModel.{IlluminationModel}
 use Rattle.illum.specs.declared.Unshaded.{Unshaded}
-use Rattle.illum.specs.declared.Correction.the-variants.{Refused, Corrected}
 use Rattle.illum.specs.Correct.{unshaded, mixed, corrected}
 use Rattle.illum.specs.Refusals.{badShape, notFiniteAffine, notFiniteGains, notFiniteFlares, notFiniteModel, badModel, sentencesOf, correctOf}
 use Rattle.illum.specs.Shown.{leavesOpen}
@@ -26,27 +27,28 @@ opposite false e = refl
 
 module _ (m : IlluminationModel) (x y : Float) (c : Linear) where
   -- the answer, by what sentences 8 and 10 say
-  by-8 : wildLinear c ≡ true → Refused 8 ≡ correctOf m x y c
+  by-8 : wildLinear c ≡ true → refusedBy 8 ≡ correctOf m x y c
   unfolding correctOf sentencesOf
   by-8 w =
-      refuses Refused (Corrected (corrected m x y c .colour)) 8 (refusal (sentencesOf m c)) (λ z. absurd (omega arith))
-      (holds 8 true (wildLinear c) ((10 when badModel m) ∷ []) (sym w) refl)
+      says-refused (sentencesOf m c) (corrected m x y c .colour) 8 (holds 8 true (wildLinear c) ((10 when badModel m) ∷ []) (sym w) refl)
+      (λ z. absurd (omega arith))
 
-  by-10 : wildLinear c ≡ false → badModel m ≡ true → Refused 10 ≡ correctOf m x y c
+  by-10 : wildLinear c ≡ false → badModel m ≡ true → refusedBy 10 ≡ correctOf m x y c
   unfolding correctOf sentencesOf
   by-10 w b =
-      refuses Refused (Corrected (corrected m x y c .colour)) 10 (refusal (sentencesOf m c)) (λ z. absurd (omega arith))
+      says-refused (sentencesOf m c) (corrected m x y c .colour) 10
       (passed 8 false (wildLinear c) ((10 when badModel m) ∷ []) 10 (sym w) refl (holds 10 true (badModel m) [] (sym b) refl))
+      (λ z. absurd (omega arith))
 
-  by-0 : wildLinear c ≡ false → badModel m ≡ false → Corrected (corrected m x y c .colour) ≡ correctOf m x y c
+  by-0 : wildLinear c ≡ false → badModel m ≡ false → (out : Linear) → out ≡ corrected m x y c .colour → gives out ≡ correctOf m x y c
   unfolding correctOf sentencesOf
-  by-0 w b =
-      accepts Refused (Corrected (corrected m x y c .colour)) 0 (refusal (sentencesOf m c)) refl
-      (passed 8 false (wildLinear c) ((10 when badModel m) ∷ []) 0 (sym w) refl (passed 10 false (badModel m) [] 0 (sym b) refl none))
+  by-0 w b out h =
+      says-given (sentencesOf m c) (corrected m x y c .colour) 0
+      (passed 8 false (wildLinear c) ((10 when badModel m) ∷ []) 0 (sym w) refl (passed 10 false (badModel m) [] 0 (sym b) refl none)) out refl h
 
   -- the tests of the code, in their order: the colour, the shape, then either what the corrected colour shows or the numbers
   module _ (w s : Bool) (ew : w ≡ wildLinear c) (es : s ≡ badShape m) where
-    shape-bad : w ≡ false → s ≡ true → Refused 10 ≡ correctOf m x y c
+    shape-bad : w ≡ false → s ≡ true → refusedBy 10 ≡ correctOf m x y c
     unfolding badModel
     shape-bad l t = by-10 (sym ew ∙ l) (rw (← es, t) refl)
 
@@ -55,20 +57,20 @@ module _ (m : IlluminationModel) (x y : Float) (c : Linear) where
       unfolding badModel
       numbers = rw (← es, k) refl
 
-      number-bad : (n : Bool) → n ≡ notFiniteModel m → n ≡ true → Refused 10 ≡ correctOf m x y c
+      number-bad : (n : Bool) → n ≡ notFiniteModel m → n ≡ true → refusedBy 10 ≡ correctOf m x y c
       number-bad n e t = by-10 (sym ew ∙ l) (numbers ∙ (sym e ∙ t))
 
       module _ (d : Unshaded) (out : Linear) (u : d ≡ unshaded m x y c) (v : out ≡ mixed m d .colour) where
         same : out ≡ corrected m x y c .colour
         same = v ∙ ap (λ (z : Unshaded). mixed m z .colour) u
 
-        good : notFiniteModel m ≡ false → Corrected out ≡ correctOf m x y c
-        good e = rw same (by-0 (sym ew ∙ l) (numbers ∙ e))
+        good : notFiniteModel m ≡ false → gives out ≡ correctOf m x y c
+        good e = by-0 (sym ew ∙ l) (numbers ∙ e) out same
 
-        looked-at : (n : Bool) → n ≡ notFiniteModel m → n ≡ false → Corrected out ≡ correctOf m x y c
+        looked-at : (n : Bool) → n ≡ notFiniteModel m → n ≡ false → gives out ≡ correctOf m x y c
         looked-at n e t = good (sym e ∙ t)
 
-        seen : (o : Bool) → o ≡ leavesOpen (m .«residual_rms») d out → not o ≡ true → Corrected out ≡ correctOf m x y c
+        seen : (o : Bool) → o ≡ leavesOpen (m .«residual_rms») d out → not o ≡ true → gives out ≡ correctOf m x y c
         seen o e t =
             good
             (shown m x y c

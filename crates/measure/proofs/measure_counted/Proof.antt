@@ -8,11 +8,11 @@ use lib.ListN.{length, take, drop, replicate, length-append}
 use lib.Seq.{length-take-le, drop-at}
 use lib.Ieee.{Float}
 use Rattle.sentences.specs.Sentences.{refusal}
+use Rattle.answers.specs.Answers.{refusedBy, gives}
 use Rattle.order.specs.Median.{zero32}
 use Rattle.order.specs.Deviation.{cleared}
 use Rattle.illum.specs.declared.IlluminationModel.{IlluminationModel}
 use Rattle.stats.specs.declared.ChannelStats.{ChannelStats}
-use Rattle.stats.specs.declared.Noise.the-variants.{Record, Refused}
 use Rattle.references.specs.References.{wildColours}
 use Rattle.measure.specs.Measure.{badCorrected, measured, final, request, sentencesFor, measureOf}
 use Rattle.measure.specs.Ready.{Given}
@@ -43,13 +43,13 @@ module _ (flat palette s : List Float) (n side hues k : ℕ) (m : IlluminationMo
     past = ap (λ (l : List Float). replicate (4 * n) zero32 ++ l) (drop-at u (drop (4 * n) s) (4 * n) (lu ∙ sym four))
 
     -- and t what is left after clearing
-    ends : (t : List Float) (r : ChannelStats) → r ≡ measured m palette flat n → t ≡ cleared (4 * n) (u ++ drop (4 * n) s) → final (Record r) t ≡ measureOf (request flat false n side m palette hues s)
+    ends : (t : List Float) (r : ChannelStats) → r ≡ measured m palette flat n → t ≡ cleared (4 * n) (u ++ drop (4 * n) s) → final (gives r) t ≡ measureOf (request flat false n side m palette hues s)
     ends t r er ec =
-        ap (final (Record r)) (ec ∙ past) ∙ ap (λ (x : ChannelStats). final (Record x) (cleared (4 * n) s)) er
+        ap (final (gives r)) (ec ∙ past) ∙ ap (λ (x : ChannelStats). final (gives x) (cleared (4 * n) s)) er
         ∙ taken (request flat false n side m palette hues s) k e z
 
 turned : (flat palette s : List Float) (n side hues k : ℕ) (m : IlluminationModel) → k ≡ refusal (sentencesFor flat false n side m palette hues (length s)) → (k ≡ 0 → ⊥)
-    → final (Refused k) s ≡ measureOf (request flat false n side m palette hues s)
+    → final (refusedBy k) s ≡ measureOf (request flat false n side m palette hues s)
 turned flat palette s n side hues k m e h = turned-away (request flat false n side m palette hues s) k e h
 
 returns : tie.Need-returns

@@ -9,8 +9,8 @@ use lib.ListN.{length}
 use lib.Ieee.{Float}
 use Rattle.sentences.specs.Sentences.{refusal}
 use Rattle.limits.specs.Limits.{badSide, badHues}
+use Rattle.answers.specs.Answers.{refusedBy}
 use Rattle.illum.specs.declared.IlluminationModel.{IlluminationModel}
-use Rattle.stats.specs.declared.Noise.the-variants.{Refused}
 use Rattle.measure.specs.Measure.{tooShort, sentencesFor, Final, final, request, flatRequest, measureOf}
 use Rattle.measure.proofs.Accepted.{turned-away}
 use borrow.Author.Needs.{needs}
@@ -22,16 +22,16 @@ module _ (flat scratch palette : List Float) (side hues : ℕ) (m : Illumination
   counted f h e = e ∙ ap (λ (b : Bool). measureOf (request flat (not b) (length flat / 8) side m palette hues scratch)) (sym (eq-eqb (length flat % 8) 0 h))
 
   module _ (r : Bool) (e : r ≡ badSide side) where
-    two : r ≡ true → final (Refused 2) scratch ≡ measureOf (flatRequest flat side m palette hues scratch)
+    two : r ≡ true → final (refusedBy 2) scratch ≡ measureOf (flatRequest flat side m palette hues scratch)
     unfolding sentencesFor refusal
     two t = turned-away (flatRequest flat side m palette hues scratch) 2 (cc) (λ z. omega arith)
 
     module _ (t : r ≡ false) (q : Bool) (d : q ≡ badHues hues) where
-      three : q ≡ true → final (Refused 3) scratch ≡ measureOf (flatRequest flat side m palette hues scratch)
+      three : q ≡ true → final (refusedBy 3) scratch ≡ measureOf (flatRequest flat side m palette hues scratch)
       unfolding sentencesFor refusal
       three u = turned-away (flatRequest flat side m palette hues scratch) 3 (cc) (λ z. omega arith)
 
-      five : q ≡ false → (length flat % 8 ≡ 0 → ⊥) → final (Refused 5) scratch ≡ measureOf (flatRequest flat side m palette hues scratch)
+      five : q ≡ false → (length flat % 8 ≡ 0 → ⊥) → final (refusedBy 5) scratch ≡ measureOf (flatRequest flat side m palette hues scratch)
       unfolding sentencesFor refusal tooShort
       five u h = turned-away (flatRequest flat side m palette hues scratch) 5 (cc (ne-eqb (length flat % 8) 0 h)) (λ z. omega arith)
 

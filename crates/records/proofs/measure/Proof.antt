@@ -50,6 +50,7 @@ use denote.Triple.Walked.{says, Stays, stay-none, stay-none-slice, gave-slice, w
 use denote.Exit.{yes}
 use Rattle.illum.specs.declared.IlluminationModel.{IlluminationModel}
 use Rattle.stats.specs.declared.Noise.{Noise}
+use Rattle.stats.specs.Calls.{noiseSaid}
 use Rattle.measure.specs.Measure as measuring
 use Rattle.measure.specs.Measure.{measureOf}
 use Rattle.records.specs.declared.Reference.{Reference}
@@ -151,13 +152,13 @@ module _ {M : Type 1} (𝓤 : URA M) (H : Heap 𝓤) (A : Atoms 𝓤) (W : Given
 
   -- what `measure_copied` says of the floats zs, and what the contract says of the records
   abbrev Says : Noise → List Float → List Float → Type 0
-  Says r ss′ zs = measuring.final r ss′ ≡ measureOf (measuring.request (take (8 * copied n) zs) false n side model ps hues ss)
+  Says r ss′ zs = measuring.final (noiseSaid r) ss′ ≡ measureOf (measuring.request (take (8 * copied n) zs) false n side model ps hues ss)
 
-  concluded : (m : ℕ) (zs ss′ : List Float) (r : Noise) → m ≡ copied n → take (8 * m) zs ≡ flattened (take m ys) → Says r ss′ zs → measuring.final r ss′ ≡ measureOf (measuring.flatRequest (flattened ys) side model ps hues ss)
+  concluded : (m : ℕ) (zs ss′ : List Float) (r : Noise) → m ≡ copied n → take (8 * m) zs ≡ flattened (take m ys) → Says r ss′ zs → measuring.final (noiseSaid r) ss′ ≡ measureOf (measuring.flatRequest (flattened ys) side model ps hues ss)
   concluded m zs ss′ r em e c = c ∙ measure-laid ys zs (subst (λ (k : ℕ). take (8 * k) zs ≡ flattened (take k ys)) em e) side model ps hues ss
 
   module _ (room : Room R.the-row (length ys)) (side-fits : side < 2 ^ 64) (model-is : Is P.the-row model (mv ∷ [])) (p-room : Room f32 (length ps)) (hues-fits : hues < 2 ^ 64) (s-room : Room f32 (length ss)) where
-    exits : (r : Noise) (u : Val) (ss′ : List Float) → measuring.final r ss′ ≡ measureOf (measuring.flatRequest (flattened ys) side model ps hues ss) → length ss′ ≡ length ss → ent 𝓤 (⋆ 𝓤 H A (‵ (flft κ₀ q₀) ∷ (‵ (flft κ₁ q₁) ⊛ (‵ (flft κ₂ q₂) ⊛ ‵ ftrue)) ∷ ‵ Own ∷ ‵ Palette ∷ ‵ (finally f32 σ ss′) ∷ ‵ (S.the-row .own r (u ∷ [])) ∷ [])) (Post u)
+    exits : (r : Noise) (u : Val) (ss′ : List Float) → measuring.final (noiseSaid r) ss′ ≡ measureOf (measuring.flatRequest (flattened ys) side model ps hues ss) → length ss′ ≡ length ss → ent 𝓤 (⋆ 𝓤 H A (‵ (flft κ₀ q₀) ∷ (‵ (flft κ₁ q₁) ⊛ (‵ (flft κ₂ q₂) ⊛ ‵ ftrue)) ∷ ‵ Own ∷ ‵ Palette ∷ ‵ (finally f32 σ ss′) ∷ ‵ (S.the-row .own r (u ∷ [])) ∷ [])) (Post u)
     exits r u ss′ e l =
         qed W (‵ (flft κ₀ q₀) ∷ (‵ (flft κ₁ q₁) ⊛ (‵ (flft κ₂ q₂) ⊛ ‵ ftrue)) ∷ ‵ Own ∷ ‵ Palette ∷ ‵ (finally f32 σ ss′) ∷ ‵ (S.the-row .own r (u ∷ [])) ∷ []) ∵
         suffices ! _ (ends-at 𝓤 H A measure.ended stayed (measure.clauses 𝓤 H A mem′ run) W (((κ₀, (κ₁, (κ₂, tt))), (q₀, (q₁, (q₂, tt))), tt, a, vals), tt) u r (tt, (tt, (tt, (tt, (tt, (ss′, tt)))))) (tt, (tt, (tt, (tt, (tt, (l, tt))))))) $ says ! e $ join ! $ frame ! $

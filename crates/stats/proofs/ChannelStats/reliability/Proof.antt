@@ -1,6 +1,6 @@
 -- `ChannelStats::reliability` meets its contract: the number, or the core's value, the palette being long enough. Assumes nothing.
 use borrow.Author.Needs.{needs}
-use Rattle.stats.proofs.Answers.{answers}
+use Rattle.answers.proofs.Answers.{says-refused, says-given}
 use Rattle.stats.proofs.Passed.{past}
 use Rattle.stats.proofs.ChannelStats.reliability.Statement.{statement}
 use Rattle.stats.proofs.ChannelStats.reliability.Tie as tie
@@ -9,10 +9,10 @@ reliability-of-requires : tie.Need-reliability-of-requires
 reliability-of-requires c κs = search (past)
 
 returns : tie.Need-returns
-returns c = search (answers)
+returns c = search (says-refused)
 
 returns-2 : tie.Need-returns-2
-returns-2 c = search (answers)
+returns-2 c = search (says-given)
 
 pub reliability-spec : {M : Type 1} → statement M
 reliability-spec =
