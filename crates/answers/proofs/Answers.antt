@@ -9,10 +9,8 @@ use Rattle.sentences.specs.Sentences.{Sentence, _when_, refusal, decided, at, s
 use Rattle.sentences.proofs.Laws.{refuses, accepts, holds, passed, none, none-holds}
 use Rattle.limits.specs.Limits.{badHues, badCell}
 use Rattle.limits.proofs.Laws.{hues-in}
-use Rattle.answers.specs.declared.Number.{Number}
-use Rattle.answers.specs.declared.Number.the-variants as number
 use Rattle.answers.specs.declared.Outcome.the-variants as outcome
-use Rattle.answers.specs.Answers.{outcomeNumber, Said, refusedBy, gives, said, answered, huesOnly, huesAndCell, Ended, ended, writtenOr}
+use Rattle.answers.specs.Answers.{outcomeNumber, refusedBy, gives, answered, huesOnly, huesAndCell, Ended, ended, writtenOr}
 
 -- where the number is 0, no sentence holds
 pub none-of : (ss : List Sentence) → sound ss ≡ true → (n : ℕ) → n ≡ refusal ss → n ≡ 0 → (m : ℕ) → at m ss ≡ false
@@ -63,21 +61,14 @@ module _ {A : Type 0} (ss : List Sentence) (v : A) where
   pub refused-above : (k : ℕ) → refusedBy k ≡ answered ss v → refusal ss ≡ 0 → ⊥
   refused-above k e = refused-at v k (refusal ss) e .1
 
--- ---- a number
+-- ---- a hue count alone, or with a cell
 
-module _ (ss : List Sentence) (v n : ℕ) (e : n ≡ refusal ss) where
-  pub number-refused : (n ≡ 0 → ⊥) → said (number.Refused n) ≡ answered ss v
-  number-refused z = says-refused ss v n e z
+module _ {A : Type 0} (k : ℕ) (v : A) (r : Bool) (e : r ≡ badHues k) where
+  pub hues-refused : r ≡ true → refusedBy 3 ≡ answered (huesOnly k) v
+  hues-refused t = says-refused (huesOnly k) v 3 (holds 3 r (badHues k) [] e t) (λ z. omega arith)
 
-  pub number-given : (r : ℕ) → n ≡ 0 → r ≡ v → said (number.Is r) ≡ answered ss v
-  number-given r z h = says-given ss v n e r z h
-
-module _ (k v : ℕ) (r : Bool) (e : r ≡ badHues k) where
-  pub hues-refused : r ≡ true → said (number.Refused 3) ≡ answered (huesOnly k) v
-  hues-refused t = number-refused (huesOnly k) v 3 (holds 3 r (badHues k) [] e t) (λ z. omega arith)
-
-  pub hues-given : (x : ℕ) → r ≡ false → x ≡ v → said (number.Is x) ≡ answered (huesOnly k) v
-  hues-given x t h = number-given (huesOnly k) v 0 (passed 3 r (badHues k) [] 0 e t none) x refl h
+  pub hues-given : (x : A) → r ≡ false → x ≡ v → gives x ≡ answered (huesOnly k) v
+  hues-given x t h = says-given (huesOnly k) v 0 (passed 3 r (badHues k) [] 0 e t none) x refl h
 
 -- a hue count that passed
 module _ (k : ℕ) (r : Bool) (e : r ≡ badHues k) (t : r ≡ false) where

@@ -14,7 +14,8 @@ use Rattle.answers.specs.declared.Outcome.the-variants as outcome
 -- ---- what an answer says
 
 -- document 01's number, 0 where the call is accepted, and the value that it gives. A refusal gives none, and neither does an accepted call
--- that answers that there is none: "No solution" and "no local fit" are answers, not refusals.
+-- that answers that there is none. Document 01 says: "No solution" and "no local fit" are answers, not refusals. Both have the number 0:
+-- `solvingSaid` gives whether there is a solution, and `localSaid` gives no value where there is no fit.
 pub record Said (A : Type 0) : Type 0 where
   pub number : ℕ
   pub value : Option A

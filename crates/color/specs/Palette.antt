@@ -5,8 +5,7 @@ use mathlib.Core.List.{List, [], _∷_}
 use lib.ListN.{getD}
 use lib.Ieee.{Float, nan, neg, le}
 use Rattle.loops.specs.Loops.{anyUp}
-use Rattle.sentences.specs.Sentences.{refusal, decided}
-use Rattle.answers.specs.Answers.{Said, answered, huesOnly}
+use Rattle.answers.specs.Answers.{Said, refusedBy, gives, answered, huesOnly}
 use Rattle.color.specs.declared.Linear.{Linear}
 use Rattle.color.specs.declared.Lab.{Lab}
 use Rattle.color.specs.declared.palette.Ab.{Ab}
@@ -40,22 +39,23 @@ linearAt colours i = linear (getD colours (3 * i) nan) (getD colours (3 * i + 1)
 
 -- ---- answers
 
--- yes or no by document 01's number n: `Refused n`, or `Is` of the value where n is 0, the call being accepted
-abbrev pub flagged : ℕ → Bool → Flag
-flagged n b = decided n flag.Refused (flag.Is b)
+-- what each case of `Flag` says: document 01's number, or 0 and yes or no
+abbrev pub flagSaid : Flag → Said Bool
+flagSaid (flag.Refused n) = refusedBy n
+flagSaid (flag.Is b) = gives b
 
 -- dark by hue, then light by hue: level l * k + h mod k
 unfoldable pub indexOf : Bool → ℕ → ℕ → ℕ
 indexOf l h hues = cond l hues 0 + h % hues
 
-abbrev pub index : Bool → ℕ → ℕ → Said
+abbrev pub index : Bool → ℕ → ℕ → Said ℕ
 index l h hues = answered (huesOnly hues) (indexOf l h hues)
 
-abbrev pub len : ℕ → Said
+abbrev pub len : ℕ → Said ℕ
 len hues = answered (huesOnly hues) (2 * hues)
 
-abbrev pub isEmpty : ℕ → Flag
-isEmpty hues = flagged (refusal (huesOnly hues)) false
+abbrev pub isEmpty : ℕ → Said Bool
+isEmpty hues = answered (huesOnly hues) false
 
 -- ---- sentence 8, of numbers
 

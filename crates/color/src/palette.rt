@@ -35,7 +35,7 @@ pub fn len(hues: usize) -> Number
 
 // Whether a palette has no colour, which it never is. Refused: 3.
 pub fn is_empty(hues: usize) -> Flag
-    ensures { λ r. ⌜ r ≡ spec.isEmpty hues ⌝ }
+    ensures { λ r. ⌜ spec.flagSaid r ≡ spec.isEmpty hues ⌝ }
 {
     if limits::bad_hues(hues) {
         return Flag::Refused(3);

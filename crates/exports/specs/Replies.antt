@@ -1,6 +1,7 @@
 -- Each answer that is an enum as a struct for C: document 01's number, 0 where the call is accepted, and the values, which are
 -- zeros where there are none. Definitions only.
 use mathlib.Core.Bool.{Bool, true, false}
+use mathlib.Core.Option.{Option·getD}
 use Prim.Native.Nat.{ℕ}
 use lib.Ieee.{Float, binary32, ofBits}
 use Rattle.answers.specs.Answers.{Said}
@@ -63,6 +64,10 @@ abbrev pub measured : ℕ → ChannelStats → NoiseAnswer
 measured n c = record { number = n; noise = c }
 
 -- ---- each answer
+
+-- a struct of what an answer says: its number, and its value, or v where it gives none
+abbrev pub structOf : {R A : Type 0} → (ℕ → A → R) → A → Said A → R
+structOf make v s = make (s .number) (Option·getD (s .value) v)
 
 -- `solve`, `finish`, `least_squares`
 abbrev pub solveAnswer : Outcome → SolveAnswer

@@ -10,8 +10,8 @@ use lib.Dec.{ltb}
 use lib.Ieee.{Float}
 use Rattle.sentences.specs.Sentences.{refusal, decided}
 use Rattle.sentences.proofs.Laws.{neither, refuses, accepts}
-use Rattle.math.specs.declared.Outcome.{Outcome}
-use Rattle.math.specs.Gauss.{numbered, shortSystem, badSize, Settled, settled, outcomeOf, final, finalOf}
+use Rattle.answers.specs.Answers.{Said, gives}
+use Rattle.math.specs.Gauss.{numbered, shortSystem, badSize, Settled, settled, final, finalOf}
 use Rattle.math.specs.Normal.{shortPair, shortRows}
 
 -- a matrix of at most 18 by 18 is within 324 elements
@@ -36,8 +36,8 @@ module _ {A : Type 0} (refused : ℕ → A) (accepted : A) (k : ℕ) (s t s′ t
   taken z = accepts refused accepted k (numbered s′ t′) z same
 
 -- an answer by whether there is a solution
-pub told : (r : Outcome) (f : Bool) (a b x : List Float) (g : Settled) → settled f a b x ≡ g → r ≡ outcomeOf f → final r a b x ≡ finalOf g
-told r f a b x g h hr = ap (λ (o : Outcome). final o a b x) hr ∙ ap finalOf h
+pub told : (r : Said Bool) (f : Bool) (a b x : List Float) (g : Settled) → settled f a b x ≡ g → r ≡ gives f → final r a b x ≡ finalOf g
+told r f a b x g h hr = ap (λ (s : Said Bool). final s a b x) hr ∙ ap finalOf h
 
 -- k is the number that the code found, s and t what its two tests said
 module _ (k : ℕ) (s t : Bool) where

@@ -11,9 +11,9 @@ use lib.Seq.{drop-append-seam}
 use lib.Ieee.{Float}
 use Rattle.loops.specs.Loops.{Turn, go, out}
 use Rattle.sentences.specs.Sentences.{decided}
-use Rattle.math.specs.declared.Outcome.the-variants.{NoSolution, Refused}
-use Rattle.answers.specs.declared.Outcome.the-variants as added
-use Rattle.math.specs.Gauss.{numbered, shortSystem, badSize, System, system, eliminate, unknowns, Settled, concluded, gauss, numberOf, outcomeOf, Final, final, finalOf, solveOf}
+use Rattle.answers.specs.declared.Outcome.the-variants.{Refused, Done}
+use Rattle.answers.specs.Answers.{refusedBy, gives}
+use Rattle.math.specs.Gauss.{numbered, shortSystem, badSize, System, system, eliminate, unknowns, Settled, concluded, gauss, Final, final, finalOf, solveOf}
 use Rattle.math.specs.Normal.{shortPair, shortRows, addRow, finish, Grown, grown, addRowOf, finishOf, equationsOf, Fitted, fitted, fittedOf, leastSquares, leastSquaresOf}
 use Rattle.math.proofs.Fresh.{unknowns-long}
 
@@ -25,40 +25,35 @@ unfolding decided
 by-number number refused accepted hr ha zero = ha
 by-number number refused accepted hr ha (suc n) = hr (suc n)
 
-accepted-number : (f : Bool) → numberOf (outcomeOf f) ≡ 0
-accepted-number true = refl
-accepted-number false = refl
-
-pub solve-number : (n : ℕ) (a b x : List Float) → solveOf n a b x .number ≡ numbered (shortSystem n (length a) (length b) (length x)) (badSize n)
+pub solve-number : (n : ℕ) (a b x : List Float) → solveOf n a b x .said .number ≡ numbered (shortSystem n (length a) (length b) (length x)) (badSize n)
 unfolding solveOf
 solve-number n a b x =
-    by-number (λ (f : Final). f .number) (λ k. final (Refused k) a b x) (finalOf (gauss n a b x)) (λ k. refl) (accepted-number (gauss n a b x .found)) _
+    by-number (λ (f : Final). f .said .number) (λ k. final (refusedBy k) a b x) (finalOf (gauss n a b x)) (λ k. refl) refl _
 
 pub add-row-number : (terms : ℕ) (row : List Float) (target : Float) (s : System)
     → addRowOf terms row target s .number ≡ numbered (shortPair terms (length (s .b)) (length row)) (badSize terms)
 unfolding addRowOf
 add-row-number terms row target s =
-    by-number (λ (g : Grown). g .number) (λ k. grown (added.Refused k) s) (grown added.Done (addRow terms row target s)) (λ k. refl) refl _
+    by-number (λ (g : Grown). g .number) (λ k. grown (Refused k) s) (grown Done (addRow terms row target s)) (λ k. refl) refl _
 
 pub finish-number : (terms : ℕ) (s : System) (x : List Float)
-    → finishOf terms s x .number ≡ numbered (shortPair terms (length (s .b)) (length x)) (badSize terms)
+    → finishOf terms s x .said .number ≡ numbered (shortPair terms (length (s .b)) (length x)) (badSize terms)
 unfolding finishOf
 finish-number terms s x =
-    by-number (λ (f : Final). f .number) (λ k. final (Refused k) (s .a) (s .b) x) (finalOf (finish terms s x)) (λ k. refl)
-    (accepted-number (finish terms s x .found)) _
+    by-number (λ (f : Final). f .said .number) (λ k. final (refusedBy k) (s .a) (s .b) x) (finalOf (finish terms s x)) (λ k. refl) refl _
 
 pub least-squares-number : (terms : ℕ) (rows targets x : List Float)
-    → leastSquaresOf terms rows targets x .number ≡ numbered (shortRows terms (length rows) (length targets) (length x)) (badSize terms)
+    → leastSquaresOf terms rows targets x .said .number ≡ numbered (shortRows terms (length rows) (length targets) (length x)) (badSize terms)
 unfolding leastSquaresOf leastSquares
 least-squares-number terms rows targets x =
-    by-number (λ (f : Fitted). f .number) (λ k. fitted (Refused k) x) (leastSquares terms rows targets x) (λ k. refl) (either (ltb (length targets) terms)) _
+    by-number (λ (f : Fitted). f .said .number) (λ k. fitted (refusedBy k) x) (leastSquares terms rows targets x) (λ k. refl) (either (ltb (length targets) terms)) _
   where
     s : Settled
     s = finish terms (equationsOf terms rows targets) x
 
-    either : (b : Bool) → cond b (fitted NoSolution x) (fittedOf s) .number ≡ 0
+    either : (b : Bool) → cond b (fitted (gives false) x) (fittedOf s) .said .number ≡ 0
     either true = refl
-    either false = accepted-number (s .found)
+    either false = refl
 
 -- ---- the slice for the unknowns
 

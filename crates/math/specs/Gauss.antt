@@ -10,8 +10,9 @@ use lib.Ieee.{Float, nan, fin, binary64, sub, mul, div, lt, eq, round}
 use Rattle.loops.specs.Loops.{forUp, forDown, Turn, go, out, forTry}
 use Rattle.sentences.specs.Sentences.{_when_, refusal, decided}
 use Rattle.float.specs.Select.{abs}
-use Rattle.math.specs.declared.Outcome.{Outcome}
-use Rattle.math.specs.declared.Outcome.the-variants.{Solved, NoSolution, Refused}
+use Rattle.answers.specs.Answers.{Said, refusedBy, gives}
+use Rattle.math.specs.declared.Solving.{Solving}
+use Rattle.math.specs.declared.Solving.the-variants.{Solved, NoSolution, Refused}
 
 -- 0, and 1e-12, below which a pivot is too small
 abbrev pub zero64 : Float
@@ -130,30 +131,26 @@ concluded n x (out s) = settled false (s .a) (s .b) x
 unfoldable pub gauss : ℕ → List Float → List Float → List Float → Settled
 gauss n a b x = concluded n x (eliminate n (system a b))
 
--- ---- the call: document 01's number of each answer, 0 where it is no refusal, and what each says
+-- ---- the call
 
-abbrev pub numberOf : Outcome → ℕ
-numberOf Solved = 0
-numberOf NoSolution = 0
-numberOf (Refused n) = n
+-- what each case of `Solving` says: document 01's number, or 0 and whether there is a solution. "No solution" is an answer, not a refusal
+abbrev pub solvingSaid : Solving → Said Bool
+solvingSaid Solved = gives true
+solvingSaid NoSolution = gives false
+solvingSaid (Refused n) = refusedBy n
 
-abbrev pub outcomeOf : Bool → Outcome
-outcomeOf true = Solved
-outcomeOf false = NoSolution
-
--- what `solve` and `finish` give back: the answer, its number, the operands and the slice for the unknowns
+-- what `solve` and `finish` give back: what the answer says, the operands and the slice for the unknowns
 pub record Final : Type 0 where
-  pub number : ℕ
-  pub answer : Outcome
+  pub said : Said Bool
   pub a : List Float
   pub b : List Float
   pub x : List Float
 
-abbrev pub final : Outcome → List Float → List Float → List Float → Final
-final r a b x = record { number = numberOf r; answer = r; a = a; b = b; x = x }
+abbrev pub final : Said Bool → List Float → List Float → List Float → Final
+final r a b x = record { said = r; a = a; b = b; x = x }
 
 abbrev pub finalOf : Settled → Final
-finalOf s = final (outcomeOf (s .found)) (s .a) (s .b) (s .x)
+finalOf s = final (gives (s .found)) (s .a) (s .b) (s .x)
 
 -- 5: a matrix of a elements, a right-hand side of b or a slice for the unknowns of x is too short
 unfoldable pub shortSystem : ℕ → ℕ → ℕ → ℕ → Bool
@@ -169,4 +166,4 @@ numbered short bad = refusal ((5 when short) ∷ (6 when bad) ∷ [])
 
 unfoldable pub solveOf : ℕ → List Float → List Float → List Float → Final
 solveOf n a b x =
-    decided (numbered (shortSystem n (length a) (length b) (length x)) (badSize n)) (λ k. final (Refused k) a b x) (finalOf (gauss n a b x))
+    decided (numbered (shortSystem n (length a) (length b) (length x)) (badSize n)) (λ k. final (refusedBy k) a b x) (finalOf (gauss n a b x))

@@ -8,12 +8,10 @@ use lib.Dec.{ltb}
 use lib.Ieee.{Float, nan, binary64, add, mul, round}
 use Rattle.loops.specs.Loops.{forUp}
 use Rattle.sentences.specs.Sentences.{decided}
-use Rattle.math.specs.declared.Outcome.{Outcome}
-use Rattle.math.specs.declared.Outcome.the-variants.{NoSolution, Refused}
-use Rattle.answers.specs.declared.Outcome as written
-use Rattle.answers.specs.declared.Outcome.the-variants as added
-use Rattle.answers.specs.Answers.{outcomeNumber}
-use Rattle.math.specs.Gauss.{zero64, at, put, System, system, Settled, gauss, numberOf, outcomeOf, Final, final, finalOf, badSize, numbered}
+use Rattle.answers.specs.declared.Outcome.{Outcome}
+use Rattle.answers.specs.declared.Outcome.the-variants.{Refused, Done}
+use Rattle.answers.specs.Answers.{Said, refusedBy, gives, outcomeNumber}
+use Rattle.math.specs.Gauss.{zero64, at, put, System, system, Settled, gauss, Final, final, finalOf, badSize, numbered}
 
 -- ---- one row with its target: a i j gains row i * row j, and b i gains row i * target
 
@@ -49,10 +47,10 @@ finish terms s x = gauss terms (nudged terms (s .a)) (s .b) x
 -- what `add_row` gives back: its answer, with document 01's number, and the equations
 pub record Grown : Type 0 where
   pub number : ℕ
-  pub answer : written.Outcome
+  pub answer : Outcome
   pub equations : System
 
-abbrev pub grown : written.Outcome → System → Grown
+abbrev pub grown : Outcome → System → Grown
 grown r s = record { number = outcomeNumber r; answer = r; equations = s }
 
 -- 5: one of two slices, of p and q elements, has fewer than `terms`
@@ -61,11 +59,11 @@ shortPair terms p q = ltb p terms || ltb q terms
 
 unfoldable pub addRowOf : ℕ → List Float → Float → System → Grown
 addRowOf terms row target s =
-    decided (numbered (shortPair terms (length (s .b)) (length row)) (badSize terms)) (λ k. grown (added.Refused k) s) (grown added.Done (addRow terms row target s))
+    decided (numbered (shortPair terms (length (s .b)) (length row)) (badSize terms)) (λ k. grown (Refused k) s) (grown Done (addRow terms row target s))
 
 unfoldable pub finishOf : ℕ → System → List Float → Final
 finishOf terms s x =
-    decided (numbered (shortPair terms (length (s .b)) (length x)) (badSize terms)) (λ k. final (Refused k) (s .a) (s .b) x) (finalOf (finish terms s x))
+    decided (numbered (shortPair terms (length (s .b)) (length x)) (badSize terms)) (λ k. final (refusedBy k) (s .a) (s .b) x) (finalOf (finish terms s x))
 
 -- ---- all rows at once: row k is the k-th run of `terms` numbers of `rows`, and its target is the k-th of `targets`
 
@@ -82,22 +80,21 @@ addRows terms rows targets s = forUp 0 (length targets) (addRowAt terms rows tar
 abbrev pub equationsOf : ℕ → List Float → List Float → System
 equationsOf terms rows targets = addRows terms rows targets (system (replicate 324 zero64) (replicate 18 zero64))
 
--- what `least_squares` gives back
+-- what `least_squares` gives back: what the answer says, and the slice for the unknowns
 pub record Fitted : Type 0 where
-  pub number : ℕ
-  pub answer : Outcome
+  pub said : Said Bool
   pub x : List Float
 
-abbrev pub fitted : Outcome → List Float → Fitted
-fitted r x = record { number = numberOf r; answer = r; x = x }
+abbrev pub fitted : Said Bool → List Float → Fitted
+fitted r x = record { said = r; x = x }
 
 abbrev pub fittedOf : Settled → Fitted
-fittedOf s = fitted (outcomeOf (s .found)) (s .x)
+fittedOf s = fitted (gives (s .found)) (s .x)
 
 -- fewer rows than terms have no solution
 unfoldable pub leastSquares : ℕ → List Float → List Float → List Float → Fitted
 leastSquares terms rows targets x =
-    cond (ltb (length targets) terms) (fitted NoSolution x)
+    cond (ltb (length targets) terms) (fitted (gives false) x)
     (fittedOf (finish terms (equationsOf terms rows targets) x))
 
 -- 5: fewer numbers than terms for each of the rows, or fewer unknowns than terms
@@ -106,4 +103,4 @@ shortRows terms rows targets x = ltb rows (targets * terms) || ltb x terms
 
 unfoldable pub leastSquaresOf : ℕ → List Float → List Float → List Float → Fitted
 leastSquaresOf terms rows targets x =
-    decided (numbered (shortRows terms (length rows) (length targets) (length x)) (badSize terms)) (λ k. fitted (Refused k) x) (leastSquares terms rows targets x)
+    decided (numbered (shortRows terms (length rows) (length targets) (length x)) (badSize terms)) (λ k. fitted (refusedBy k) x) (leastSquares terms rows targets x)

@@ -9,14 +9,15 @@ ghost use lib.Dec.{ltb};
 ghost use lib.ListN.{length};
 ghost use Rattle.loops.specs.Loops.{turnOf};
 ghost use Rattle.float.specs.Select.{abs};
+ghost use Rattle.answers.specs.Answers.{gives};
 ghost use Rattle.math.specs.Gauss as spec;
-ghost use Rattle.math.specs.Gauss.{Alike, system, settled, final};
+ghost use Rattle.math.specs.Gauss.{Alike, system, settled, final, solvingSaid};
 ghost use Rattle.math.specs.Normal as normal;
 ghost use Rattle.math.specs.Normal.{grown, fitted};
 ghost use Rattle.math.specs.Ready.{Cell, Equations};
 
 // The answer of `solve`, `finish` and `least_squares`. Refused has the number of the sentence that is broken.
-pub enum Outcome {
+pub enum Solving {
     Solved,
     NoSolution,
     Refused(u32),
@@ -294,13 +295,13 @@ fn number(short: bool, bad: bool) -> u32
     0
 }
 
-fn answer(found: bool) -> Outcome
-    ensures { λ r. ⌜ r ≡ spec.outcomeOf found ⌝ }
+fn answer(found: bool) -> Solving
+    ensures { λ r. ⌜ solvingSaid r ≡ gives found ⌝ }
 {
     if found {
-        return Outcome::Solved;
+        return Solving::Solved;
     }
-    Outcome::NoSolution
+    Solving::NoSolution
 }
 
 // ---- linear systems
@@ -308,12 +309,12 @@ fn answer(found: bool) -> Outcome
 // Solves the n by n system a x = b, and writes the solution to x. No solution: a pivot is below 1e-12 in magnitude,
 // and x is untouched. Either way a and b are left as elimination leaves them, and tails stay. Refused: 5 where a is
 // shorter than n * n, or b or x than n; 6 where n is not 1 to 18; nothing is written then.
-pub fn solve(a: &mut [f64], b: &mut [f64], x: &mut [f64], n: usize) -> Outcome
-    ensures { λ r. ⌜ final r (now (a .exit)) (now (b .exit)) (now (x .exit)) ≡ spec.solveOf n (now (a .entry)) (now (b .entry)) (now (x .entry)) ⌝ }
+pub fn solve(a: &mut [f64], b: &mut [f64], x: &mut [f64], n: usize) -> Solving
+    ensures { λ r. ⌜ final (solvingSaid r) (now (a .exit)) (now (b .exit)) (now (x .exit)) ≡ spec.solveOf n (now (a .entry)) (now (b .entry)) (now (x .entry)) ⌝ }
 {
     let refused = number(short_system(n, a.len(), b.len(), x.len()), bad_size(n));
     if refused != 0 {
-        return Outcome::Refused(refused);
+        return Solving::Refused(refused);
     }
     answer(solve_core(a, b, x, n))
 }
@@ -412,12 +413,12 @@ pub fn finish_core(ata: &mut [f64; 324], atb: &mut [f64], x: &mut [f64], terms: 
 
 // Finishes the normal equations: 1e-9 on the diagonal, then as `solve`. Refused: 5 where the right-hand side or x is
 // shorter than `terms`; 6 where `terms` is not 1 to 18; nothing is written then.
-pub fn finish(ata: &mut [f64; 324], atb: &mut [f64], x: &mut [f64], terms: usize) -> Outcome
-    ensures { λ r. ⌜ final r (now (ata .exit)) (now (atb .exit)) (now (x .exit)) ≡ normal.finishOf terms (system (now (ata .entry)) (now (atb .entry))) (now (x .entry)) ⌝ }
+pub fn finish(ata: &mut [f64; 324], atb: &mut [f64], x: &mut [f64], terms: usize) -> Solving
+    ensures { λ r. ⌜ final (solvingSaid r) (now (ata .exit)) (now (atb .exit)) (now (x .exit)) ≡ normal.finishOf terms (system (now (ata .entry)) (now (atb .entry))) (now (x .entry)) ⌝ }
 {
     let refused = number(short_pair(terms, atb.len(), x.len()), bad_size(terms));
     if refused != 0 {
-        return Outcome::Refused(refused);
+        return Solving::Refused(refused);
     }
     answer(finish_core(ata, atb, x, terms))
 }
@@ -453,18 +454,18 @@ fn add_rows(ata: &mut [f64; 324], atb: &mut [f64], rows: &[f64], targets: &[f64]
 // Fits x so that each row of `terms` numbers, times x, comes nearest its target in the sum of squares, by `add_row`
 // and `finish`. Fewer rows than terms have no solution. x is untouched but where there is one, and its tail stays.
 // Refused: 5 where `rows` is shorter than terms * targets.len(), or x than `terms`; 6 where `terms` is not 1 to 18.
-pub fn least_squares(rows: &[f64], targets: &[f64], terms: usize, x: &mut [f64]) -> Outcome
-    ensures { λ r. ⌜ fitted r (now (x .exit)) ≡ normal.leastSquaresOf terms (now (rows .entry)) (now (targets .entry)) (now (x .entry)) ⌝ }
+pub fn least_squares(rows: &[f64], targets: &[f64], terms: usize, x: &mut [f64]) -> Solving
+    ensures { λ r. ⌜ fitted (solvingSaid r) (now (x .exit)) ≡ normal.leastSquaresOf terms (now (rows .entry)) (now (targets .entry)) (now (x .entry)) ⌝ }
 {
     let refused = number(
         short_rows(terms, rows.len(), targets.len(), x.len()),
         bad_size(terms),
     );
     if refused != 0 {
-        return Outcome::Refused(refused);
+        return Solving::Refused(refused);
     }
     if targets.len() < terms {
-        return Outcome::NoSolution;
+        return Solving::NoSolution;
     }
     let mut ata = [0.0f64; 324];
     let mut atb = [0.0f64; 18];

@@ -1,24 +1,24 @@
 // Replays the stored answers of the crates `math` and `order`: the answer of each call, and every slice that it leaves
 // behind, every bit.
-use math::Outcome;
+use math::Solving;
 use order::Sigma;
 use vectors::Compared;
 use vectors::Tally;
 
-// An outcome as a list has it: 0 solved, FFFF no solution, else the refusal's number.
-fn number(o: Outcome) -> u64 {
+// An answer as a list has it: 0 solved, FFFF no solution, else the refusal's number.
+fn number(o: Solving) -> u64 {
     match o {
-        Outcome::Solved => 0,
-        Outcome::NoSolution => 0xFFFF,
-        Outcome::Refused(n) => n as u64,
+        Solving::Solved => 0,
+        Solving::NoSolution => 0xFFFF,
+        Solving::Refused(n) => n as u64,
     }
 }
 
 // ---- each function: from the inputs in a row to the answers in another, and how many these are
 
 fn solve_in(a: &mut [f64], b: &mut [f64], x: &mut [f64], n: usize, got: &mut [u64]) -> usize {
-    let outcome = math::solve(a, b, x, n);
-    let to_a = vectors::put(got, 0, number(outcome));
+    let solving = math::solve(a, b, x, n);
+    let to_a = vectors::put(got, 0, number(solving));
     let to_b = vectors::store_f64(a, got, to_a);
     let to_x = vectors::store_f64(b, got, to_b);
     vectors::store_f64(x, got, to_x)
@@ -45,8 +45,8 @@ fn least_squares_in(
     x: &mut [f64],
     got: &mut [u64],
 ) -> usize {
-    let outcome = math::least_squares(rows, targets, terms, x);
-    let to_x = vectors::put(got, 0, number(outcome));
+    let solving = math::least_squares(rows, targets, terms, x);
+    let to_x = vectors::put(got, 0, number(solving));
     vectors::store_f64(x, got, to_x)
 }
 
@@ -132,8 +132,8 @@ fn finish_in(
     terms: usize,
     got: &mut [u64],
 ) -> usize {
-    let outcome = math::finish(matrix, side, x, terms);
-    let to_matrix = vectors::put(got, 0, number(outcome));
+    let solving = math::finish(matrix, side, x, terms);
+    let to_matrix = vectors::put(got, 0, number(solving));
     let to_side = store_matrix(matrix, m, got, to_matrix);
     let to_x = vectors::store_f64(side, got, to_side);
     vectors::store_f64(x, got, to_x)

@@ -13,7 +13,7 @@ use Rattle.float.specs.Select.{abs}
 use Rattle.loops.specs.Loops.{Turn, go, out, andThen, turnsTry, forTry}
 use Rattle.loops.proofs.Laws.{forUp-to, cell}
 use Rattle.sentences.specs.Sentences.{decided}
-use Rattle.math.specs.declared.Outcome.the-variants.{Refused}
+use Rattle.answers.specs.Answers.{refusedBy}
 use Rattle.math.specs.Gauss.{System, system, at, zero64, tiny, larger, pivotRow, swapAt, swapRows, bringUp, subtractAt, subtractRow, eliminateRow, eliminateBelow, eliminateColumn, eliminate}
 use Rattle.math.specs.Gauss.{concluded, gauss, numbered, shortSystem, badSize, Final, final, finalOf, solveOf}
 use Rattle.math.proofs.Accepted as accepted
@@ -142,7 +142,7 @@ module _ (n : ℕ) where
     -- ---- the call
 
     -- what a refused call leaves is what it was lent
-    called : (P : Final → Type 0) → ((k : ℕ) → P (final (Refused k) a b x)) → (n ≤ length x → P (finalOf (gauss n a b x))) → P (solveOf n a b x)
+    called : (P : Final → Type 0) → ((k : ℕ) → P (final (refusedBy k) a b x)) → (n ≤ length x → P (finalOf (gauss n a b x))) → P (solveOf n a b x)
     unfolding solveOf decided
     called P refused done = by-number (numbered short bad) (λ e. done (accepted.unknowns-fit 0 short bad n (length a) (length b) (length x) refl (sym e) refl))
       where
@@ -152,7 +152,7 @@ module _ (n : ℕ) where
         bad : Bool
         bad = badSize n
 
-        by-number : (k : ℕ) → (k ≡ 0 → P (finalOf (gauss n a b x))) → P (decided k (λ k. final (Refused k) a b x) (finalOf (gauss n a b x)))
+        by-number : (k : ℕ) → (k ≡ 0 → P (finalOf (gauss n a b x))) → P (decided k (λ k. final (refusedBy k) a b x) (finalOf (gauss n a b x)))
         by-number zero d = d refl
         by-number (suc k) d = refused (suc k)
 

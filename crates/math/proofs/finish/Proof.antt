@@ -6,9 +6,8 @@ use Prim.Native.Nat.{ℕ}
 use borrow.Author.Needs.{needs}
 use lib.ListN.{length}
 use lib.Ieee.{Float}
-use Rattle.math.specs.declared.Outcome.{Outcome}
-use Rattle.math.specs.declared.Outcome.the-variants.{Refused}
-use Rattle.math.specs.Gauss.{numbered, badSize, system, settled, outcomeOf, final, finalOf}
+use Rattle.answers.specs.Answers.{Said, refusedBy, gives}
+use Rattle.math.specs.Gauss.{numbered, badSize, system, settled, final, finalOf}
 use Rattle.math.specs.Normal as normal
 use Rattle.math.specs.Normal.{shortPair, finishOf}
 use Rattle.math.proofs.Accepted.{turned-away, taken, told, sized, first-fits, second-fits}
@@ -16,14 +15,14 @@ use Rattle.math.proofs.finish.Statement.{statement}
 use Rattle.math.proofs.finish.Tie as tie
 
 module _ (k n : ℕ) (s t : Bool) (a b x : List Float) (e : k ≡ numbered s t) (hs : s ≡ shortPair n (length b) (length x)) (ht : t ≡ badSize n) where
-  away : (k ≡ 0 → ⊥) → final (Refused k) a b x ≡ finishOf n (system a b) x
+  away : (k ≡ 0 → ⊥) → final (refusedBy k) a b x ≡ finishOf n (system a b) x
   unfolding finishOf
-  away z = turned-away (λ j. final (Refused j) a b x) (finalOf (normal.finish n (system a b) x)) k s t _ _ e hs ht z
+  away z = turned-away (λ j. final (refusedBy j) a b x) (finalOf (normal.finish n (system a b) x)) k s t _ _ e hs ht z
 
-  done : (r : Outcome) (f : Bool) (a′ b′ x′ : List Float) → k ≡ 0 → settled f a′ b′ x′ ≡ normal.finish n (system a b) x → r ≡ outcomeOf f → final r a′ b′ x′ ≡ finishOf n (system a b) x
+  done : (r : Said Bool) (f : Bool) (a′ b′ x′ : List Float) → k ≡ 0 → settled f a′ b′ x′ ≡ normal.finish n (system a b) x → r ≡ gives f → final r a′ b′ x′ ≡ finishOf n (system a b) x
   unfolding finishOf
   done r f a′ b′ x′ z h hr =
-      told r f a′ b′ x′ (normal.finish n (system a b) x) h hr ∙ taken (λ j. final (Refused j) a b x) (finalOf (normal.finish n (system a b) x)) k s t _ _ e hs ht z
+      told r f a′ b′ x′ (normal.finish n (system a b) x) h hr ∙ taken (λ j. final (refusedBy j) a b x) (finalOf (normal.finish n (system a b) x)) k s t _ _ e hs ht z
 
 returns : tie.Need-returns
 returns c = search (away)

@@ -6,21 +6,20 @@ use Prim.Native.Nat.{ℕ}
 use borrow.Author.Needs.{needs}
 use lib.ListN.{length}
 use lib.Ieee.{Float}
-use Rattle.math.specs.declared.Outcome.{Outcome}
-use Rattle.math.specs.declared.Outcome.the-variants.{Refused}
-use Rattle.math.specs.Gauss.{numbered, shortSystem, badSize, settled, gauss, outcomeOf, final, finalOf, solveOf}
+use Rattle.answers.specs.Answers.{Said, refusedBy, gives}
+use Rattle.math.specs.Gauss.{numbered, shortSystem, badSize, settled, gauss, final, finalOf, solveOf}
 use Rattle.math.proofs.Accepted.{turned-away, taken, told, matrix-fits, right-fits, unknowns-fit}
 use Rattle.math.proofs.solve.Statement.{statement}
 use Rattle.math.proofs.solve.Tie as tie
 
 module _ (k n : ℕ) (s t : Bool) (a b x : List Float) (e : k ≡ numbered s t) (hs : s ≡ shortSystem n (length a) (length b) (length x)) (ht : t ≡ badSize n) where
-  away : (k ≡ 0 → ⊥) → final (Refused k) a b x ≡ solveOf n a b x
+  away : (k ≡ 0 → ⊥) → final (refusedBy k) a b x ≡ solveOf n a b x
   unfolding solveOf
-  away z = turned-away (λ j. final (Refused j) a b x) (finalOf (gauss n a b x)) k s t _ _ e hs ht z
+  away z = turned-away (λ j. final (refusedBy j) a b x) (finalOf (gauss n a b x)) k s t _ _ e hs ht z
 
-  done : (r : Outcome) (f : Bool) (a′ b′ x′ : List Float) → k ≡ 0 → settled f a′ b′ x′ ≡ gauss n a b x → r ≡ outcomeOf f → final r a′ b′ x′ ≡ solveOf n a b x
+  done : (r : Said Bool) (f : Bool) (a′ b′ x′ : List Float) → k ≡ 0 → settled f a′ b′ x′ ≡ gauss n a b x → r ≡ gives f → final r a′ b′ x′ ≡ solveOf n a b x
   unfolding solveOf
-  done r f a′ b′ x′ z h hr = told r f a′ b′ x′ (gauss n a b x) h hr ∙ taken (λ j. final (Refused j) a b x) (finalOf (gauss n a b x)) k s t _ _ e hs ht z
+  done r f a′ b′ x′ z h hr = told r f a′ b′ x′ (gauss n a b x) h hr ∙ taken (λ j. final (refusedBy j) a b x) (finalOf (gauss n a b x)) k s t _ _ e hs ht z
 
 returns : tie.Need-returns
 returns c = search (away)

@@ -5,7 +5,7 @@ use Prim.Native.Nat.{ℕ}
 use Rattle.modulate.specs.Gray.{chromaSymbolToHue}
 use Rattle.modulate.specs.Mask.{chromaMaskApply}
 use Rattle.modulate.specs.Draw.{cellHue}
-use Rattle.answers.proofs.Answers.{number-refused, number-given, cell-hues-some, cell-hues-few}
+use Rattle.answers.proofs.Answers.{says-refused, says-given, cell-hues-some, cell-hues-few}
 use Rattle.modulate.proofs.cell_hue.Statement.{statement}
 use Rattle.modulate.proofs.cell_hue.Tie as tie
 
@@ -14,7 +14,7 @@ unfolding cellHue
 steps s cx cy k h r e f = cc
 
 returns : tie.Need-returns
-returns c = search (number-refused)
+returns c = search (says-refused)
 
 symbol-hue-requires : tie.Need-symbol-hue-requires
 symbol-hue-requires c κs = search (cell-hues-some)
@@ -23,7 +23,7 @@ apply-requires : tie.Need-apply-requires
 apply-requires c κs = search (cell-hues-some, cell-hues-few)
 
 returns-2 : tie.Need-returns-2
-returns-2 c = search (number-given, steps)
+returns-2 c = search (says-given, steps)
 
 pub cell-hue-spec : {M : Type 1} → statement M
 cell-hue-spec =

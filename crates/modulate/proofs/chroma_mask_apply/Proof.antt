@@ -1,17 +1,17 @@
 -- `modulate::chroma_mask_apply` meets its contract: refused by the first sentence that holds, or the hue. Assumes nothing.
 use borrow.Author.Needs.{needs}
-use Rattle.answers.proofs.Answers.{number-refused, number-given, cell-hues-some, cell-hues-few}
+use Rattle.answers.proofs.Answers.{says-refused, says-given, cell-hues-some, cell-hues-few}
 use Rattle.modulate.proofs.chroma_mask_apply.Statement.{statement}
 use Rattle.modulate.proofs.chroma_mask_apply.Tie as tie
 
 returns : tie.Need-returns
-returns c = search (number-refused)
+returns c = search (says-refused)
 
 apply-requires : tie.Need-apply-requires
 apply-requires c κs = search (cell-hues-some, cell-hues-few)
 
 returns-2 : tie.Need-returns-2
-returns-2 c = search (number-given)
+returns-2 c = search (says-given)
 
 pub chroma-mask-apply-spec : {M : Type 1} → statement M
 chroma-mask-apply-spec =

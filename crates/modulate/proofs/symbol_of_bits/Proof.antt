@@ -12,7 +12,7 @@ use Rattle.limits.specs.Limits.{badHues}
 use Rattle.limits.specs.Chroma.{log2}
 use Rattle.limits.proofs.Laws.{hues-in}
 use Rattle.modulate.specs.Draw.{symbolAt, symbolSentences}
-use Rattle.answers.proofs.Answers.{none-of, number-refused, number-given}
+use Rattle.answers.proofs.Answers.{none-of, says-refused, says-given}
 use Rattle.modulate.proofs.symbol_of_bits.Statement.{statement}
 use Rattle.modulate.proofs.symbol_of_bits.Tie as tie
 
@@ -29,13 +29,13 @@ same : (bits : List ℕ) (k q s : ℕ) → q ≡ log2 k → s ≡ symbolAt bits 
 same bits k q s d e = cc
 
 returns : tie.Need-returns
-returns c = search (number-refused)
+returns c = search (says-refused)
 
 symbol-at-requires : tie.Need-symbol-at-requires
 symbol-at-requires c κs = (search (long), search (few))
 
 returns-2 : tie.Need-returns-2
-returns-2 c = search (number-given, same)
+returns-2 c = search (says-given, same)
 
 pub symbol-of-bits-spec : {M : Type 1} → statement M
 symbol-of-bits-spec =
