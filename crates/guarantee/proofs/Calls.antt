@@ -42,7 +42,7 @@ module _ (s : Setting) (c : Card) (r : Outcome) (luma colours chroma : List Floa
     pub all-accepted : Accepted s c
     all-accepted =
         record {
-          scoring = ap (λ x. outcomeNumber (x .answer)) (sym e) ∙ p;
+          scoring = ap (λ x. x .number) (sym e) ∙ p;
           refinement = ap (λ x. x .number) (sym refine-is) ∙ q;
           unmasking = ap (λ x. x .number) (sym unmask-is) ∙ u;
           luma = ap (λ x. x .number) (sym luma-is) ∙ v;

@@ -21,21 +21,20 @@ use Rattle.modulate.specs.Score.{unmasked, unmaskSentences, unmaskLumaOf}
 use Rattle.reading.specs.Read.{reads, readAt, readList, readSentences, readListOf}
 use Rattle.modulate.proofs.Symbols.{bit-lt}
 use Rattle.lists.proofs.Laws.{Reached, reached}
-use Rattle.answers.specs.Answers.{outcomeNumber, ended, writtenOr}
-use Rattle.answers.proofs.Answers.{list-done, none-of}
+use Rattle.answers.specs.Answers.{ended, writtenOr}
+use Rattle.answers.proofs.Answers.{given-is, list-done, none-of}
 use Rattle.modulate.proofs.Accepted.{IsDrawn, drawn-done}
 use Rattle.limits.specs.Chroma.{chromaOn}
 use Rattle.stats.specs.Margin.{inMargin}
 use Rattle.stats.specs.Calls as stats
 use Rattle.stats.proofs.Range.{Held}
-use Rattle.demod.specs.Call as scoring
 use Rattle.demod.proofs.Accepted as scored
 use Rattle.demod.proofs.Outcome.{IsDone, at-done}
 use Rattle.refine.specs.Calls as refinement
 use Rattle.refine.proofs.Accepted as refining
 use Rattle.guarantee.specs.Card.{Setting, Card, modules, toDraw, drawnCard, toScore, toRefine, refinedCard, unmaskedCard}
 use Rattle.guarantee.specs.Guarantee.{Singles, InMargin, Readable}
-use Rattle.guarantee.proofs.Sample.{Fits, said-yes}
+use Rattle.guarantee.proofs.Sample.{Fits}
 
 -- ---- a call whose number is 0 is done: a refused one has the number that it is refused by
 
@@ -69,16 +68,12 @@ module _ (scores : List Float) (bits : List ℕ) (done : readListOf scores bits 
   pub read-long : length scores ≤ length (readListOf scores bits .list)
   read-long = rw (was-done .1) (omega (arith, all-read .long, read-room))
 
--- ---- drawing, scoring, and refinement's number
+-- ---- drawing, and refinement's number
 
 draw-zero : (q : drawing.Card) → drawing.drawOf q .number ≡ 0 → drawing.drawOf q .answer ≡ outcome.Done
 unfolding drawing.drawOf
 draw-zero q =
     done-at (λ x. x .number) (λ x. x .answer) (drawing.notDrawn q) (drawing.drawn outcome.Done (drawing.levelsOf q) (drawing.huesOf q)) (λ n. refl) refl (refusal (drawing.drawSentences q))
-
-score-zero : (q : scoring.Request) → outcomeNumber (scoring.scoredOf q .answer) ≡ 0 → scoring.scoredOf q .answer ≡ outcome.Done
-unfolding scoring.scoredOf
-score-zero q = done-at (λ x. outcomeNumber (x .answer)) (λ x. x .answer) (scoring.turnedAway q) (scoring.done q) (λ n. refl) refl (refusal (scoring.sentencesOf q))
 
 refine-by : (q : refinement.Request) (n : ℕ) → decided n (refinement.turnedAway q) (refinement.finalOf (refinement.refinedOf q)) .number ≡ n
 unfolding decided
@@ -117,7 +112,7 @@ module _ (s : Setting) (c : Card) (R : Readable s c) where
 
   -- scoring
   pub scored-card : IsDone (toScore s c)
-  scored-card = at-done (toScore s c) (score-zero (toScore s c) (R .accepted .scoring))
+  scored-card = at-done (toScore s c) (scored.done-answer (toScore s c) (R .accepted .scoring))
 
   pub scoring-knows : scored.Accepted (toScore s c)
   scoring-knows = scored-card .fit
@@ -145,4 +140,4 @@ pub palette-fits : (s : Setting) → Singles s → Fits (s .palette)
 palette-fits s p = record { at = p .palette }
 
 pub in-margin : (s : Setting) → InMargin s → inMargin (whole 13) (s .noise) (s .palette) (s .layout .hues) ≡ true
-in-margin s e = said-yes (refusal (stats.sentencesOf (s .noise) (s .palette) (s .layout .hues))) (inMargin (whole 13) (s .noise) (s .palette) (s .layout .hues)) e
+in-margin s e = sym (given-is (stats.sentencesOf (s .noise) (s .palette) (s .layout .hues)) (inMargin (whole 13) (s .noise) (s .palette) (s .layout .hues)) true (sym e))

@@ -1,16 +1,15 @@
 -- What the laws say of one sample inside the margin, with all that a setting gives: within half a sigma of a palette colour its luma score is at least 12 in magnitude and has the colour's level as its sign,
 -- its weight is 0.9931 or more, and the colour's hue leads. Assumes nothing.
-use mathlib.Core.Path.{_≡_, refl, subst}
+use mathlib.Core.Path.{_≡_, subst}
 use mathlib.Core.Logic.{_⊎_, inl, inr}
 use mathlib.Core.Bool.{Bool, true, false, cond}
 use mathlib.Core.List.{List}
-use Prim.Native.Nat.{ℕ, zero, suc, _+_, _*_, _^_, _≤_, _<_}
+use Prim.Native.Nat.{ℕ, _+_, _*_, _^_, _≤_, _<_}
 use native.Mathlib.Omega.{arith}
 use lib.Dec.{T}
 use lib.ListN.{length, getD}
 use lib.Ieee.{Float, nan, binary32, neg, le, round, fits}
 use lib.Ieee.Fits.{sub-fits, mul-fits}
-use Rattle.sentences.specs.Sentences.{decided}
 use Rattle.floatlaws.specs.Value.{unit, hi, lo, one-side}
 use Rattle.floatlaws.specs.Order.{Le, of-le, sides, le-trans, hi-neg, lo-neg}
 use Rattle.floatlaws.specs.Finite.{Fin, num, neg-fin}
@@ -24,10 +23,9 @@ use Rattle.color.proofs.Bounded as bounded
 use Rattle.color.proofs.Passed.{hue-tame, lab-tame}
 use Rattle.modulate.proofs.Decided.{Leads}
 use Rattle.stats.specs.declared.ChannelStats.{ChannelStats}
-use Rattle.stats.specs.declared.Verdict.the-variants as verdict
 use Rattle.stats.specs.Noise.{sigmaAbAt, lumaLlr, reliability, hueLogLikelihoods}
 use Rattle.stats.specs.Margin.{inMargin}
-use Rattle.stats.specs.Calls.{badSigmas, verdictOf}
+use Rattle.stats.specs.Calls.{badSigmas}
 use Rattle.stats.proofs.Range.{Held}
 use Rattle.stats.proofs.Clear.{Clear, Apart, clear}
 use Rattle.demod.specs.Score.{weighed}
@@ -39,14 +37,6 @@ use Rattle.guarantee.proofs.Half.{Close, close}
 use Rattle.guarantee.proofs.Weight.{Bounded, Near, Weight, reliable}
 use Rattle.guarantee.proofs.Score.{Dark, Light, dark-llr, light-llr, sample-lightness, dark-as-is, light-as-is, dark-weighed, light-weighed, thirteen-is}
 use Rattle.guarantee.proofs.Leads.{BoundedAb, runnerUp, leads}
-
--- ---- what "yes" says
-
-pub said-yes : (n : ℕ) (b : Bool) → verdictOf n b ≡ verdict.Yes → b ≡ true
-unfolding decided
-said-yes zero true e = refl
-said-yes zero false e = let z : _≡_ {A = ℕ} 0 1 = cc in absurd (omega arith)
-said-yes (suc n) b e = let z : _≡_ {A = ℕ} 0 1 = cc in absurd (omega arith)
 
 -- ---- ranges
 

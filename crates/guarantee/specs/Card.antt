@@ -14,7 +14,7 @@ use Rattle.color.specs.Color.{linearToLab}
 use Rattle.color.specs.Palette.{paletteLab}
 use Rattle.modulate.specs.Draw as drawing
 use Rattle.modulate.specs.Draw.{Drawn, drawOf, isOne, bitOf}
-use Rattle.answers.specs.Answers.{outcomeNumber, Ended}
+use Rattle.answers.specs.Answers.{Ended}
 use Rattle.modulate.specs.Score.{unmaskLumaOf}
 use Rattle.reading.specs.Read.{readListOf}
 use Rattle.illum.specs.declared.IlluminationModel.{IlluminationModel}
@@ -95,7 +95,7 @@ chromaRead s c = readListOf (scoredCard s c .chroma) (c .chromaBits)
 
 -- "It is accepted when none of these calls .. is refused": a refusal gives its number, which is above 0, and an accepted call's number is 0
 pub record Accepted (s : Setting) (c : Card) : Type 0 where
-  pub scoring : outcomeNumber (scoredCard s c .answer) ≡ 0
+  pub scoring : scoredCard s c .number ≡ 0
   pub refinement : refinedCard s c .number ≡ 0
   pub unmasking : unmaskedCard s c .number ≡ 0
   pub luma : lumaRead s c .number ≡ 0

@@ -9,7 +9,7 @@ use lib.Dec.{T}
 use lib.ListN.{length, getD}
 use lib.Ieee.{nan, binary32, fits}
 use Rattle.limits.specs.Chroma.{chromaOn}
-use Rattle.stats.specs.declared.Verdict.the-variants as verdict
+use Rattle.answers.specs.Answers.{gives}
 use Rattle.stats.specs.Calls.{marginAnswer}
 use Rattle.guarantee.specs.Within.{halfSigma}
 use Rattle.guarantee.specs.Card.{Setting, Card, modules, chromaScores, drawnCard, Accepted, bitsDrawn, bitsRead, moduleLab, cellLab, paletteColour, carriesChroma, ringPlace}
@@ -26,7 +26,7 @@ pub record Singles (s : Setting) : Type 0 where
 
 -- "Inside the margin": the margin check says yes, so it is not refused
 abbrev pub InMargin : Setting → Type 0
-InMargin s = marginAnswer (s .noise) (s .palette) (s .layout .hues) ≡ verdict.Yes
+InMargin s = marginAnswer (s .noise) (s .palette) (s .layout .hues) ≡ gives true
 
 -- module i is within half a sigma of its drawn colour: "A module's drawn colour is a palette colour of its level, and of its hue too where a ring module carries chroma"
 pub record NearModule (s : Setting) (c : Card) (i : ℕ) : Type 0 where

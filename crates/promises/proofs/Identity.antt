@@ -29,9 +29,9 @@ use Rattle.float.proofs.Single.{single-same}
 use Rattle.loops.specs.Loops.{turns, forUp}
 use Rattle.sentences.specs.Sentences.{refusal, decided}
 use Rattle.limits.specs.Limits.{badSide}
+use Rattle.answers.specs.Answers.{gives}
 use Rattle.color.specs.declared.Linear.{Linear}
 use Rattle.color.specs.Palette.{wildLinear}
-use Rattle.illum.specs.declared.Correction.the-variants.{Corrected}
 use Rattle.illum.specs.Surface.{zero64, one64, two64, leastGain, termsUsed, normalised, bilinear, basisAt, addTerm, surfaceAt, isHeld, holdGain, deshade}
 use Rattle.illum.specs.Correct.{affineRow, unshaded, mixed, corrected, unitGain, noFlare, unitModel}
 use Rattle.illum.specs.Refusals.{identityOf, sentencesOf, correctOf}
@@ -297,6 +297,6 @@ module _ (side : ℕ) (least : 1 ≤ side) (most : side ≤ 1024) where
     pub returned : Fin binary32 x → Fin binary32 y → Fin binary32 (c .r) → Fin binary32 (c .g) → Fin binary32 (c .b) → ReturnedColour c (corrected (identityOf side .model) x y c .colour)
     returned p q r g b = rw model-is (mixed-back p q r g b)
 
-    pub answered : wildLinear c ≡ false → correctOf (identityOf side .model) x y c ≡ Corrected (corrected (identityOf side .model) x y c .colour)
+    pub answered : wildLinear c ≡ false → correctOf (identityOf side .model) x y c ≡ gives (corrected (identityOf side .model) x y c .colour)
     unfolding correctOf sentencesOf refusal decided
     answered h = rw (model-is, h, unit-four-passes side least most)

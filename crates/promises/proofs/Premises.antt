@@ -14,13 +14,12 @@ use Rattle.limits.specs.Chroma.{chromaOn}
 use Rattle.layout.specs.Groups.{shape, placement, Paired}
 use Rattle.layout.proofs.Laws.{shape-sound, placement-sound}
 use Rattle.answers.specs.declared.Outcome.the-variants.{Done}
-use Rattle.answers.specs.Answers.{outcomeNumber}
+use Rattle.answers.specs.Answers.{gives}
 use Rattle.modulate.specs.Draw as drawing
 use Rattle.modulate.specs.Draw.{entriesOf, shortBits, shortHues, badDrawLengths, drawSentences, drawOf}
 use Rattle.modulate.proofs.Lengths.{draw-lengths, bits-long, hues-long}
 use Rattle.illum.specs.declared.IlluminationModel.{IlluminationModel}
 use Rattle.stats.specs.declared.ChannelStats.{ChannelStats}
-use Rattle.stats.specs.declared.Noise.the-variants as noise
 use Rattle.measure.specs.Measure.{measureOf}
 use Rattle.measure.proofs.Passes.{answered-passes}
 use Rattle.demod.specs.Call as scoring
@@ -35,7 +34,7 @@ use Rattle.promises.specs.Premises.{settingOf, DrawingRoom, RefusedByLen
 
 -- ---- the palette and the noise record of a file are f32 values
 
-pub file-singles : (s : List ℕ) (card : opened.Card) (m : IlluminationModel) (r : ChannelStats) → measureOf (toMeasure (sheetOf s card) (referencesOf s card) m) .answer ≡ noise.Record r →
+pub file-singles : (s : List ℕ) (card : opened.Card) (m : IlluminationModel) (r : ChannelStats) → measureOf (toMeasure (sheetOf s card) (referencesOf s card) m) .said ≡ gives r →
     Singles (settingOf (sheetOf s card) m r)
 unfolding sheetOf referencesOf
 file-singles s card m r e =
@@ -54,7 +53,7 @@ drawn-number : (q : drawing.Card) → drawOf q .number ≡ refusal (drawSentence
 unfolding drawOf
 drawn-number q = drawn-by q (refusal (drawSentences q))
 
-module _ (s : Setting) (c : Card) (z : outcomeNumber (scoredCard s c .answer) ≡ 0) where
+module _ (s : Setting) (c : Card) (z : scoredCard s c .number ≡ 0) where
   nothing : 0 ≡ refusal (scoring.sentencesOf (toScore s c))
   nothing = sym z ∙ scored.number (toScore s c)
 

@@ -6,10 +6,10 @@ use Prim.Native.Nat.{ℕ, _+_, _≤_}
 use lib.IntN.{pos}
 use lib.Ieee.{Float, fin, binary32}
 use Rattle.floatlaws.specs.Finite.{Fin}
+use Rattle.answers.specs.Answers.{gives}
 use Rattle.color.specs.declared.Linear.{Linear}
 use Rattle.color.specs.Palette.{wildLinear}
 use Rattle.illum.specs.declared.IlluminationModel.{IlluminationModel}
-use Rattle.illum.specs.declared.Correction.the-variants.{Corrected}
 use Rattle.illum.specs.Correct.{corrected}
 use Rattle.illum.specs.Refusals.{badModel, identityOf, correctOf}
 use Rattle.illum.specs.Reach.{Typed, Placed, reachOf, isWithin}
@@ -36,7 +36,7 @@ pub record IdentityReturns : Type 0 where
   pub colour : (side : ℕ) → 1 ≤ side → side ≤ 1024 → (x y : Float) (c : Linear) → Fin binary32 x → Fin binary32 y → Fin binary32 (c .r) → Fin binary32 (c .g) → Fin binary32 (c .b) →
       ReturnedColour c (corrected (identityOf side .model) x y c .colour)
   pub answer : (side : ℕ) → 1 ≤ side → side ≤ 1024 → (x y : Float) (c : Linear) → wildLinear c ≡ false →
-      correctOf (identityOf side .model) x y c ≡ Corrected (corrected (identityOf side .model) x y c .colour)
+      correctOf (identityOf side .model) x y c ≡ gives (corrected (identityOf side .model) x y c .colour)
 
 -- an accepted fit of n references: its model passes sentence 10, and none were kept, or the kept and the rejected are all
 pub record Fitted (q : Request) : Type 0 where

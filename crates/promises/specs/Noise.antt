@@ -8,11 +8,11 @@ use lib.ListN.{getD}
 use lib.Ieee.{Float, nan, binary32, fits, neg, lt}
 use Rattle.floatlaws.specs.Interval.{In}
 use Rattle.limits.specs.Chroma.{chromaOn}
+use Rattle.answers.specs.Answers.{gives}
 use Rattle.color.specs.declared.Lab.{Lab}
 use Rattle.color.specs.Color.{whole}
 use Rattle.color.specs.Palette.{paletteLab}
 use Rattle.stats.specs.declared.ChannelStats.{ChannelStats}
-use Rattle.stats.specs.declared.Noise.the-variants as noise
 use Rattle.stats.specs.Noise.{sigmaAbAt, lumaLlr, reliability}
 use Rattle.stats.specs.Calls.{badNoiseNumbers, badSigmas}
 use Rattle.stats.specs.Margin.{levelFits, sigmasFit, darkClear, lightClear, near, far, inMargin}
@@ -68,4 +68,4 @@ pub record Passing (r : ChannelStats) : Type 0 where
   pub singles : HeldAsSingles r
 
 abbrev pub MeasuredRecords : Type 0
-MeasuredRecords = (q : Request) → AllSingles (q .flat) → AllSingles (q .palette) → (r : ChannelStats) → measureOf q .answer ≡ noise.Record r → Passing r
+MeasuredRecords = (q : Request) → AllSingles (q .flat) → AllSingles (q .palette) → (r : ChannelStats) → measureOf q .said ≡ gives r → Passing r

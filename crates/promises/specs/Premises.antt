@@ -7,11 +7,10 @@ use mathlib.Core.List.{List}
 use Prim.Native.Nat.{ℕ, _+_, _≤_}
 use lib.ListN.{length}
 use Rattle.limits.specs.Chroma.{chromaOn}
-use Rattle.answers.specs.Answers.{outcomeNumber}
+use Rattle.answers.specs.Answers.{gives}
 use Rattle.modulate.specs.Draw.{entriesOf}
 use Rattle.illum.specs.declared.IlluminationModel.{IlluminationModel}
 use Rattle.stats.specs.declared.ChannelStats.{ChannelStats}
-use Rattle.stats.specs.declared.Noise.the-variants as noise
 use Rattle.measure.specs.Measure.{measureOf}
 use Rattle.guarantee.specs.Card.{Setting, Card, modules, chromaScores, drawnCard, scoredCard}
 use Rattle.guarantee.specs.Guarantee.{Singles}
@@ -32,7 +31,7 @@ settingOf c m n =
 abbrev pub ReadableAreSingles : Type 0
 ReadableAreSingles =
     (s : List ℕ) (card : opened.Card) (m : IlluminationModel) (r : ChannelStats) →
-    measureOf (toMeasure (sheetOf s card) (referencesOf s card) m) .answer ≡ noise.Record r → Singles (settingOf (sheetOf s card) m r)
+    measureOf (toMeasure (sheetOf s card) (referencesOf s card) m) .said ≡ gives r → Singles (settingOf (sheetOf s card) m r)
 
 -- ---- drawing where scoring was accepted
 
@@ -50,4 +49,4 @@ pub record RefusedByLength (s : Setting) (c : Card) : Type 0 where
 
 -- the layout and the places are those of an accepted scoring
 abbrev pub DrawingAfterScoring : Type 0
-DrawingAfterScoring = (s : Setting) (c : Card) → outcomeNumber (scoredCard s c .answer) ≡ 0 → RefusedByLength s c
+DrawingAfterScoring = (s : Setting) (c : Card) → scoredCard s c .number ≡ 0 → RefusedByLength s c

@@ -4,12 +4,11 @@ use mathlib.Core.List.{List}
 use Prim.Native.Nat.{ℕ, _≤_}
 use lib.ListN.{length, take, drop}
 use lib.Ieee.{Float}
-use Rattle.answers.specs.declared.Outcome.the-variants as outcome
+use Rattle.answers.specs.Answers.{gives}
 use Rattle.modulate.specs.Score.{unmaskLumaOf, unmasked}
 use Rattle.reading.specs.Read.{readList, readListOf}
 use Rattle.illum.specs.declared.IlluminationModel.{IlluminationModel}
 use Rattle.stats.specs.declared.ChannelStats.{ChannelStats}
-use Rattle.stats.specs.declared.Noise.the-variants as noise
 use Rattle.measure.specs.Measure.{measureOf}
 use Rattle.demod.specs.Call as scoring
 use Rattle.demod.specs.Call.{scoredOf}
@@ -34,12 +33,12 @@ abbrev pub refinedAfter : scoring.Request → refining.Final
 refinedAfter q =
     refineOf (refining.request (scoredOf q .luma) (q .layout .side) (q .layout .hues) (q .xs) (q .ys) (q .layout .grid) (scoredOf q .colours) (q .palette) (q .noise) (zeros (squares (q .layout .side))))
 
--- none is refused
+-- none is refused: each number is 0
 pub record NoneRefused (q : scoring.Request) (mask : ℕ) : Type 0 where
-  pub refinement : refinedAfter q .answer ≡ outcome.Done
-  pub unmasking : unmaskLumaOf (refinedAfter q .luma) (q .layout .side) (q .xs) (q .ys) (q .layout .grid) mask .answer ≡ outcome.Done
-  pub luma : readListOf (unmaskLumaOf (refinedAfter q .luma) (q .layout .side) (q .xs) (q .ys) (q .layout .grid) mask .list) (noBits (length (refinedAfter q .luma))) .answer ≡ outcome.Done
-  pub chroma : readListOf (scoredOf q .chroma) (noBits (length (scoredOf q .chroma))) .answer ≡ outcome.Done
+  pub refinement : refinedAfter q .number ≡ 0
+  pub unmasking : unmaskLumaOf (refinedAfter q .luma) (q .layout .side) (q .xs) (q .ys) (q .layout .grid) mask .number ≡ 0
+  pub luma : readListOf (unmaskLumaOf (refinedAfter q .luma) (q .layout .side) (q .xs) (q .ys) (q .layout .grid) mask .list) (noBits (length (refinedAfter q .luma))) .number ≡ 0
+  pub chroma : readListOf (scoredOf q .chroma) (noBits (length (scoredOf q .chroma))) .number ≡ 0
 
 -- ---- the listing
 
@@ -62,12 +61,12 @@ listingOf c m n =
 
 pub record AcceptedIsListed : Type 0 where
   -- no call after an accepted score is refused
-  pub none-refused : (q : scoring.Request) (mask : ℕ) → HeldAsSingles (q .noise) → scoredOf q .answer ≡ outcome.Done → NoneRefused q mask
+  pub none-refused : (q : scoring.Request) (mask : ℕ) → HeldAsSingles (q .noise) → scoredOf q .number ≡ 0 → NoneRefused q mask
   -- so the card is listed
-  pub sheet : (c : Sheet) (m : IlluminationModel) (n : ChannelStats) → HeldAsSingles n → scoredSheet c m n .answer ≡ outcome.Done → scoreText c m n ≡ listingOf c m n
+  pub sheet : (c : Sheet) (m : IlluminationModel) (n : ChannelStats) → HeldAsSingles n → scoredSheet c m n .number ≡ 0 → scoreText c m n ≡ listingOf c m n
   -- the text of a card file that is opened, whose fit and measurement are accepted, and whose scoring is
   pub file : (s : List ℕ) (card : Card) → let c = sheetOf s card in let references = referencesOf s card in let m = fitted c references .model in (r : ChannelStats) →
-      opened 5 s .answer ≡ opening.Accepted card → fitted c references .number ≡ 0 → measureOf (toMeasure c references m) .answer ≡ noise.Record r → scoredSheet c m r .answer ≡ outcome.Done →
+      opened 5 s .answer ≡ opening.Accepted card → fitted c references .number ≡ 0 → measureOf (toMeasure c references m) .said ≡ gives r → scoredSheet c m r .number ≡ 0 →
       cardText s ≡ listingOf c m r
 
 -- ---- the room

@@ -7,7 +7,6 @@ use lib.Ieee.{Float, nan, binary32, neg}
 use Rattle.floatlaws.specs.Interval.{In}
 use Rattle.sentences.specs.Sentences.{refusal, at, before}
 use Rattle.limits.specs.Chroma.{chromaOn, symbolBits, ringModules, chromaLength}
-use Rattle.answers.specs.declared.Outcome.the-variants.{Refused, Done}
 use Rattle.color.specs.declared.Linear.{Linear}
 use Rattle.color.specs.Color.{whole, linearToLab}
 use Rattle.color.specs.Palette.{linearAt, wildLinear}
@@ -24,7 +23,7 @@ pub record Ranges (q : Request) : Type 0 where
   pub colours : (i : ℕ) → i < length (q .xs) → wildLinear (linearAt (scoredOf q .colours) i) ≡ false
 
 abbrev pub ScoresInRange : Type 0
-ScoresInRange = (q : Request) → scoredOf q .answer ≡ Done → Ranges q
+ScoresInRange = (q : Request) → scoredOf q .number ≡ 0 → Ranges q
 
 -- the score of bit b of a colour, in a cell or a ring module
 abbrev pub bitScore : Request → Cell → Linear → ℕ → Float
@@ -60,5 +59,5 @@ pub record TurnedAway (q : Request) (n : ℕ) : Type 0 where
   pub earlier : (m : ℕ) → at m (before n (sentencesOf q)) ≡ false
 
 pub record ScoringAnswers : Type 0 where
-  pub done : (q : Request) → scoredOf q .answer ≡ Done → Scored q
-  pub refused : (q : Request) (n : ℕ) → (n ≡ 0 → ⊥) → scoredOf q .answer ≡ Refused n → TurnedAway q n
+  pub done : (q : Request) → scoredOf q .number ≡ 0 → Scored q
+  pub refused : (q : Request) (n : ℕ) → (n ≡ 0 → ⊥) → scoredOf q .number ≡ n → TurnedAway q n

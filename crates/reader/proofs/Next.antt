@@ -17,6 +17,7 @@ use Rattle.illum.specs.declared.Modelled.{Modelled}
 use Rattle.stats.specs.declared.ChannelStats.{ChannelStats}
 use Rattle.stats.specs.declared.Noise.{Noise}
 use Rattle.stats.specs.declared.Noise.the-variants as noise
+use Rattle.stats.specs.Calls.{noiseSaid}
 use Rattle.fit.specs.Fit as fitting
 use Rattle.measure.specs.Measure as measuring
 use Rattle.readout.specs.Sheet.{sheet}
@@ -29,9 +30,9 @@ use Rattle.reader.specs.Text.{afterOpening, cardText}
 
 module _ (s : Settings) (palette : List Float) (xs ys : List ℤ) (raw : List Float) (cxs cys : List ℕ) (craw : List Float) (m : IlluminationModel) (t u : Text) where
   module _ (references : List Float) where
-    module _ (o : Noise) (left scratch : List Float) (p : measuring.final o left ≡ measuring.measureOf (measuring.flatRequest references (s .side) m palette (s .hues) scratch)) (z : scratch ≡ scratchOf references) where
-      answers : o ≡ measuring.measureOf (measuring.flatRequest references (s .side) m palette (s .hues) (scratchOf references)) .answer
-      answers = ap (λ (f : measuring.Final). f .answer) (rw z at p)
+    module _ (o : Noise) (left scratch : List Float) (p : measuring.final (noiseSaid o) left ≡ measuring.measureOf (measuring.flatRequest references (s .side) m palette (s .hues) scratch)) (z : scratch ≡ scratchOf references) where
+      answers : noiseSaid o ≡ measuring.measureOf (measuring.flatRequest references (s .side) m palette (s .hues) (scratchOf references)) .said
+      answers = ap (λ (f : measuring.Final). f .said) (rw z at p)
 
       pub measured : (n : ChannelStats) → o ≡ noise.Record n → u ≡ written (scoreText (sheet s palette xs ys raw cxs cys craw) m n) t → u ≡ written (measureText (sheet s palette xs ys raw cxs cys craw) references m) t
       unfolding measureText afterMeasuring

@@ -2,6 +2,7 @@
 -- types, and the rest is said of any card that the file can hold. Assumes nothing.
 use mathlib.Core.Path.{_≡_, refl, sym, ap, _∙_}
 use mathlib.Core.List.{List, _++_}
+use mathlib.Core.Option.{Option, none, some}
 use Prim.Native.Nat.{ℕ, zero, suc, _+_, _^_, _≤_, _<_}
 use native.Mathlib.Omega.{arith}
 use native.Mathlib.Nat.{zero-add}
@@ -22,8 +23,6 @@ use Rattle.listing.proofs.Room.{in-full}
 use Rattle.illum.specs.declared.IlluminationModel.{IlluminationModel}
 use Rattle.illum.specs.declared.Modelled.{Modelled}
 use Rattle.stats.specs.declared.ChannelStats.{ChannelStats}
-use Rattle.stats.specs.declared.Noise.{Noise}
-use Rattle.stats.specs.declared.Noise.the-variants as noise
 use Rattle.references.specs.References.{referencePlacement}
 use Rattle.measure.specs.Measure as measuring
 use Rattle.readout.specs.Sheet.{Sheet, Few}
@@ -37,19 +36,15 @@ use Rattle.reader.proofs.Held.{few}
 
 -- ---- measuring and fitting
 
-numberOf : Noise → ℕ
-numberOf (noise.Refused n) = n
-numberOf (noise.Record r) = 0
-
-measure-small : (q : measuring.Request) → numberOf (measuring.measureOf q .answer) < 100
-unfolding numberOf measuring.measureOf measuring.sentencesFor referencePlacement tiny
+measure-small : (q : measuring.Request) → measuring.measureOf q .said .number < 100
+unfolding measuring.measureOf measuring.sentencesFor referencePlacement tiny
 measure-small q =
-    number-small (λ e. numberOf (e .answer)) (measuring.turnedAway q) (measuring.done q) (refusal (measuring.sentencesOf q)) (λ n. refl) refl (refusal-small (measuring.sentencesOf q) refl)
+    number-small (λ e. e .said .number) (measuring.turnedAway q) (measuring.done q) (refusal (measuring.sentencesOf q)) (λ n. refl) refl (refusal-small (measuring.sentencesOf q) refl)
 
-after-in : (c : Sheet) (m : IlluminationModel) (o : Noise) → numberOf o < 100 → ((n : ChannelStats) → length (scoreText c m n) ≤ listingRoom) → length (afterMeasuring c m o) ≤ listingRoom
-unfolding numberOf afterMeasuring
-after-in c m (noise.Refused n) h g = line-in n (omega arith)
-after-in c m (noise.Record n) h g = g n
+after-in : (c : Sheet) (m : IlluminationModel) (n : ℕ) (v : Option ChannelStats) → n < 100 → ((r : ChannelStats) → length (scoreText c m r) ≤ listingRoom) → length (afterMeasuring c m n v) ≤ listingRoom
+unfolding afterMeasuring
+after-in c m n none h g = line-in n (omega arith)
+after-in c m n (some r) h g = g r
 
 decided-in : (k : ℕ) (next : List ℕ) → k < 10 ^ 20 → length next ≤ listingRoom → length (decided k refusedLine next) ≤ listingRoom
 unfolding decided
@@ -65,7 +60,7 @@ unfolding fitText afterFitting measureText
 fit-in c references t few e px py =
     let m = fitted c references .model in
     decided-in (fitted c references .number) (measureText c references m) (omega (arith, t .number))
-    (after-in c m (measuring.measureOf (toMeasure c references m) .answer) (measure-small (toMeasure c references m))
+    (after-in c m _ (measuring.measureOf (toMeasure c references m) .said .value) (measure-small (toMeasure c references m))
     (λ n. score-in c m n (figures (fitted c references) t) few e px py))
 
 -- ---- the file

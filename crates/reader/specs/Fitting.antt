@@ -1,6 +1,7 @@
 -- Document 01: the program "fits, measures, scores, refines and prints". The first two calls, and what follows them. Definitions only.
 use mathlib.Core.Path.{_≡_}
 use mathlib.Core.List.{List}
+use mathlib.Core.Option.{Option, none, some}
 use Prim.Native.Nat.{ℕ, _*_, _/_, _^_, _<_}
 use lib.ListN.{length}
 use lib.Ieee.{Float}
@@ -9,8 +10,7 @@ use Rattle.listing.specs.Text.{text, written}
 use Rattle.listing.specs.Listing.{refusedLine}
 use Rattle.illum.specs.declared.IlluminationModel.{IlluminationModel}
 use Rattle.illum.specs.declared.Modelled.{Modelled}
-use Rattle.stats.specs.declared.Noise.{Noise}
-use Rattle.stats.specs.declared.Noise.the-variants as noise
+use Rattle.stats.specs.declared.ChannelStats.{ChannelStats}
 use Rattle.fit.specs.Fit as fitting
 use Rattle.fit.specs.Fit.{fitOf}
 use Rattle.measure.specs.Measure as measuring
@@ -25,12 +25,15 @@ scratchOf references = zeros (4 * (length references / 8))
 abbrev pub toMeasure : Sheet → List Float → IlluminationModel → measuring.Request
 toMeasure c references m = measuring.flatRequest references (c .settings .side) m (c .palette) (c .settings .hues) (scratchOf references)
 
-unfoldable pub afterMeasuring : Sheet → IlluminationModel → Noise → List ℕ
-afterMeasuring c m (noise.Refused n) = refusedLine n
-afterMeasuring c m (noise.Record r) = scoreText c m r
+-- by what the measurement says: its number n, and the record that it gives
+unfoldable pub afterMeasuring : Sheet → IlluminationModel → ℕ → Option ChannelStats → List ℕ
+afterMeasuring c m n none = refusedLine n
+afterMeasuring c m n (some r) = scoreText c m r
 
 unfoldable pub measureText : Sheet → List Float → IlluminationModel → List ℕ
-measureText c references m = afterMeasuring c m (measureOf (toMeasure c references m) .answer)
+measureText c references m =
+    let said = measureOf (toMeasure c references m) .said in
+    afterMeasuring c m (said .number) (said .value)
 
 abbrev pub toFit : Sheet → List Float → fitting.Request
 toFit c references = fitting.flatRequest references (c .settings .side) (c .settings .version) (scratchOf references)

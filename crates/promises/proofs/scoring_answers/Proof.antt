@@ -9,18 +9,20 @@ use lib.ListN.{length, getD}
 use lib.Ieee.{nan}
 use Rattle.limits.specs.Chroma.{chromaOn, symbolBits, chromaEntries, chromaLength}
 use Rattle.answers.specs.declared.Outcome.the-variants.{Done}
-use Rattle.answers.specs.Answers.{outcomeNumber}
 use Rattle.color.specs.Palette.{linearAt}
 use Rattle.modulate.specs.declared.Cell.the-variants.{Unmasked, At}
 use Rattle.demod.specs.Call.{Request, Final, moduleColours, cellColours, writtenChroma, scoredOf}
-use Rattle.demod.proofs.Accepted.{number}
+use Rattle.demod.proofs.Accepted.{number, done-answer}
 use Rattle.demod.proofs.Outcome.{at-done, at-refused}
 use Rattle.guarantee.proofs.Scored as entries
 use Rattle.promises.specs.Scores.{bitScore, place, Scored}
 use Rattle.promises.proofs.scoring_answers.Statement.{statement}
 use Rattle.promises.proofs.scoring_answers.Tie as tie
 
-module _ (q : Request) (e : scoredOf q .answer ≡ Done) where
+module _ (q : Request) (z : scoredOf q .number ≡ 0) where
+  e : scoredOf q .answer ≡ Done
+  e = done-answer q z
+
   -- the chroma list keeps its length, with chroma on or off
   chroma-long : (b : Bool) → chromaOn (q .layout .hues) ≡ b → length (writtenChroma q) ≡ length (q .chroma)
   chroma-long true o = at-done q e .chroma o .long
@@ -52,7 +54,7 @@ module _ (q : Request) (e : scoredOf q .answer ≡ Done) where
   scored =
       let d = at-done q e in
       record {
-        no-sentence = sym (number q) ∙ ap outcomeNumber e;
+        no-sentence = sym (number q) ∙ z;
         luma-long = ap (λ (f : Final). length (f .luma)) (d .left) ∙ d .wrote .luma-long;
         luma = λ i l. ap (λ (f : Final). getD (f .luma) i nan) (d .left) ∙ d .wrote .scored i l;
         luma-kept = λ i l. ap (λ (f : Final). getD (f .luma) i nan) (d .left) ∙ d .wrote .luma-kept i l;
