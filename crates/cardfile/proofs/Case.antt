@@ -46,8 +46,9 @@ use Rattle.readout.specs.Reading.{afterSymbols, afterBits, afterUnmasking, read
 use Rattle.reader.specs.File.{listFrom, listOf, sheetOf, referencesOf}
 use Rattle.reader.specs.Fitting.{afterMeasuring, measureText, afterFitting, fitText}
 use Rattle.reader.specs.Text.{cardText}
-use Rattle.promises.specs.CardFile.{u16Bytes, u32Bytes, bitsOf, i16Bytes, f32Bytes, settingsBytes, floatAtBytes, colourBytes, moduleBytes, cellBytes, directory, sections, cardFile, theCase, theText}
-use Rattle.promises.proofs.Written.{read-as}
+use Rattle.cardfile.specs.Writer.{u16Bytes, u32Bytes, bitsOf, i16Bytes, f32Bytes, settingsBytes, floatAtBytes, colourBytes, moduleBytes, cellBytes, directory, sections, cardFile}
+use Rattle.cardfile.specs.Laws.{theCase, theText}
+use Rattle.cardfile.proofs.Written.{read-as}
 
 -- ---- the case
 
