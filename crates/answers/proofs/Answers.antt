@@ -2,6 +2,7 @@
 use mathlib.Core.Path.{_≡_, refl, sym, ap, _∙_}
 use mathlib.Core.Bool.{Bool, true, false}
 use mathlib.Core.List.{List, [], _∷_}
+use mathlib.Core.Option.{Option·none-ne-some, Option·some-injective}
 use Prim.Native.Nat.{ℕ, zero, suc, _≤_, _<_}
 use native.Mathlib.Omega.{arith}
 use Rattle.sentences.specs.Sentences.{Sentence, _when_, refusal, decided, at, sound, fresh}
@@ -11,20 +12,65 @@ use Rattle.limits.proofs.Laws.{hues-in}
 use Rattle.answers.specs.declared.Number.{Number}
 use Rattle.answers.specs.declared.Number.the-variants as number
 use Rattle.answers.specs.declared.Outcome.the-variants as outcome
-use Rattle.answers.specs.Answers.{outcomeNumber, said, answered, huesOnly, huesAndCell, Ended, ended, writtenOr}
+use Rattle.answers.specs.Answers.{outcomeNumber, Said, refusedBy, gives, said, answered, huesOnly, huesAndCell, Ended, ended, writtenOr}
 
 -- where the number is 0, no sentence holds
 pub none-of : (ss : List Sentence) → sound ss ≡ true → (n : ℕ) → n ≡ refusal ss → n ≡ 0 → (m : ℕ) → at m ss ≡ false
 none-of ss p n e z m = none-holds ss p m (sym z ∙ e)
 
+-- ---- what an answer says, for any value
+
+module _ {A : Type 0} (ss : List Sentence) (v : A) (n : ℕ) (e : n ≡ refusal ss) where
+  pub says-refused : (n ≡ 0 → ⊥) → refusedBy n ≡ answered ss v
+  says-refused z = refuses refusedBy (gives v) n (refusal ss) z e
+
+  pub says-given : (r : A) → n ≡ 0 → r ≡ v → gives r ≡ answered ss v
+  says-given r z h = ap gives h ∙ accepts refusedBy (gives v) n (refusal ss) z e
+
+-- for callers, by the number that the sentences give
+module _ {A : Type 0} (v : A) where
+  said-number : (n : ℕ) → decided n refusedBy (gives v) .number ≡ n
+  unfolding decided
+  said-number zero = refl
+  said-number (suc n) = refl
+
+  given-at : (r : A) (n : ℕ) → gives r ≡ decided n refusedBy (gives v) → (n ≡ 0) × (r ≡ v)
+  unfolding decided
+  given-at r zero e = (refl, Option·some-injective r v (ap (λ s. s .value) e))
+  given-at r (suc n) e = absurd (Option·none-ne-some r (sym (ap (λ s. s .value) e)))
+
+  refused-at : (k n : ℕ) → refusedBy k ≡ decided n refusedBy (gives v) → (k ≡ n) × (n ≡ 0 → ⊥)
+  unfolding decided
+  refused-at k zero e = absurd (Option·none-ne-some v (ap (λ s. s .value) e))
+  refused-at k (suc n) e = (ap (λ s. s .number) e, λ z. omega arith)
+
+module _ {A : Type 0} (ss : List Sentence) (v : A) where
+  -- the number that is said is that of the first sentence that holds
+  pub number-is : answered ss v .number ≡ refusal ss
+  number-is = said-number v (refusal ss)
+
+  -- an answer with a value: no sentence holds, and the value is v
+  pub given-none-holds : (r : A) → gives r ≡ answered ss v → refusal ss ≡ 0
+  given-none-holds r e = given-at v r (refusal ss) e .0
+
+  pub given-is : (r : A) → gives r ≡ answered ss v → r ≡ v
+  given-is r e = given-at v r (refusal ss) e .1
+
+  -- a refusal: its number is that of the first sentence that holds, which is not 0
+  pub refused-is : (k : ℕ) → refusedBy k ≡ answered ss v → k ≡ refusal ss
+  refused-is k e = refused-at v k (refusal ss) e .0
+
+  pub refused-above : (k : ℕ) → refusedBy k ≡ answered ss v → refusal ss ≡ 0 → ⊥
+  refused-above k e = refused-at v k (refusal ss) e .1
+
 -- ---- a number
 
 module _ (ss : List Sentence) (v n : ℕ) (e : n ≡ refusal ss) where
   pub number-refused : (n ≡ 0 → ⊥) → said (number.Refused n) ≡ answered ss v
-  number-refused z = refuses (λ m. said (number.Refused m)) (said (number.Is v)) n (refusal ss) z e
+  number-refused z = says-refused ss v n e z
 
   pub number-given : (r : ℕ) → n ≡ 0 → r ≡ v → said (number.Is r) ≡ answered ss v
-  number-given r z h = ap (λ (x : ℕ). said (number.Is x)) h ∙ accepts (λ m. said (number.Refused m)) (said (number.Is v)) n (refusal ss) z e
+  number-given r z h = says-given ss v n e r z h
 
 module _ (k v : ℕ) (r : Bool) (e : r ≡ badHues k) where
   pub hues-refused : r ≡ true → said (number.Refused 3) ≡ answered (huesOnly k) v
@@ -104,11 +150,3 @@ module _ {A : Type 0} (ss : List Sentence) (before after : List A) where
   list-refused n z h =
       let e = sym (ap outcomeNumber h) ∙ matches before after (refusal ss) in
       (e, at-more before after (refusal ss) (λ w. z (e ∙ w)))
-
-said-number : (v n : ℕ) → decided n (λ m. said (number.Refused m)) (said (number.Is v)) .number ≡ n
-unfolding decided
-said-number v zero = refl
-said-number v (suc n) = refl
-
-pub number-is : (ss : List Sentence) (v : ℕ) → answered ss v .number ≡ refusal ss
-number-is ss v = said-number v (refusal ss)
