@@ -15,10 +15,10 @@ use lib.Seq.{getD-append-add, ext-getD}
 use lib.Ieee.{Float, nan, binary32, isNan, ofBits, toBits}
 use lib.Ieee.Bits.{toBits-ofBits}
 use Rattle.floatlaws.specs.Nan.{only-nan}
+use Rattle.answers.specs.Answers.{gives}
 use Rattle.card.specs.Number.{u16At, u32At, f32At, i16Of, i16At}
-use Rattle.card.specs.File.{offsetOf, lengthOf, startOf, malformed, settingsAt, sectionOf, cardOf, Said, said, opened}
+use Rattle.card.specs.File.{offsetOf, lengthOf, startOf, malformed, settingsAt, sectionOf, cardOf, opened}
 use Rattle.card.specs.declared.Card.{Card}
-use Rattle.card.specs.declared.Opened.the-variants.{Accepted}
 use Rattle.card.proofs.Accepted.{tests, starts, ends, lengths-are, not-refused, accepted}
 use Rattle.card.proofs.Signed.{position-small}
 use Rattle.card.specs.Sections.{floatAt, positionAt, coordinateAt, componentAt}
@@ -374,10 +374,7 @@ module _ (s : List ℕ) (good : malformed 5 s ≡ false) where
         }
 
     the-text : cardText (cardFile sheet references) ≡ cardText s
-    unfolding cardText
-    the-text =
-        returned sheet references the-room the-types .text ∙
-        sym (read-as s (opened 5 s .answer) card sheet references (ap (λ (a : Said). a .answer) (not-refused 5 s good)) refl refl)
+    the-text = returned sheet references the-room the-types .text ∙ sym (read-as s card sheet references (not-refused 5 s good) refl refl)
 
     module _ (plain : Plain s card) where
       palette-stands : Stands s byte (offsetOf s 1) (floatsBytes (sheet .palette))
@@ -419,7 +416,7 @@ module _ (s : List ℕ) (good : malformed 5 s ≡ false) where
           (moved s byte (offsetOf s 3) (40 + length a + length b + length c) d d (p .offset-3) refl modules-stand)
           (moved s byte (offsetOf s 4) (40 + length a + length b + length c + length d) e e (p .offset-4) refl cells-stand))
 
-pub rewritten : (s : List ℕ) (card : Card) → ((i : ℕ) → getD s i 0 < 256) → opened 5 s ≡ said (Accepted card) → Rewritten s card
+pub rewritten : (s : List ℕ) (card : Card) → ((i : ℕ) → getD s i 0 < 256) → opened 5 s ≡ gives card → Rewritten s card
 rewritten s card byte e =
     let h = accepted s card (sym e) in
     rw (h .is) (record { room = the-room s (h .well-formed) byte; typed = the-types s (h .well-formed) byte; text = the-text s (h .well-formed) byte; bytes = the-bytes s (h .well-formed) byte })

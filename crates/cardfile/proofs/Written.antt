@@ -15,14 +15,13 @@ use lib.Seq.{getD-append-add, ext-getD}
 use lib.Ieee.{Float, nan, binary32, fits, isNan, ofBits, toBits}
 use lib.Ieee.Bits.{is-true, ofBits-toBits, toBits-lt}
 use Rattle.floatlaws.specs.Nan.{only-nan}
+use Rattle.answers.specs.Answers.{gives}
 use Rattle.loops.specs.Loops.{someOf, anyUp}
 use Rattle.card.specs.Number.{u16At, u32At, f32At, i16Of, i16At}
-use Rattle.card.specs.File.{offsetOf, lengthOf, startOf, misplacedAt, badDirectory, badPalette, badLengths, largeSide, malformed, settingsAt, sectionOf, cardOf, Said, said, opened}
+use Rattle.card.specs.File.{offsetOf, lengthOf, startOf, misplacedAt, badDirectory, badPalette, badLengths, largeSide, malformed, settingsAt, sectionOf, cardOf, opened}
 use Rattle.card.specs.Sections.{floatAt, positionAt, coordinateAt, componentAt}
 use Rattle.card.specs.declared.Settings.{Settings}
 use Rattle.card.specs.declared.Card.{Card}
-use Rattle.card.specs.declared.Opened.{Opened}
-use Rattle.card.specs.declared.Opened.the-variants.{Accepted}
 use Rattle.card.proofs.Accepted.{not-refused}
 use Rattle.listing.specs.Text.{row, rows}
 use Rattle.readout.specs.Sheet.{Sheet, sheet}
@@ -56,10 +55,9 @@ i16-back (negsuc n) h = rw (le-ltb (65535 - n) 32768 (omega arith)) (ap negsuc (
 
 -- ---- the text of a file that is opened
 
-pub read-as : (s : List ℕ) (r : Opened) (card : Card) (c : Sheet) (references : List Float) → r ≡ Accepted card → sheetOf s card ≡ c → referencesOf s card ≡ references →
-    afterOpening s r ≡ fitText c references
-unfolding afterOpening
-read-as s r card c references e p q = rw (e, p, q)
+pub read-as : (s : List ℕ) (card : Card) (c : Sheet) (references : List Float) → opened 5 s ≡ gives card → sheetOf s card ≡ c → referencesOf s card ≡ references → cardText s ≡ fitText c references
+unfolding cardText afterOpening
+read-as s card c references e p q = rw (e, p, q)
 
 -- ---- a directory of five pairs
 
@@ -537,8 +535,8 @@ module _ (c : Sheet) (references : List Float) (f : Fits c references) where
       card-is (written c references) (c .settings) (4 * length (c .palette)) (4 * length references) (16 * length (c .xs)) (16 * length (c .cxs)) the-pairs small the-settings
       (length references / 8) (length (c .xs)) (length (c .cxs)) (omega arith) (omega arith) (omega arith)
 
-  opened-as : opened 5 (cardFile c references) ≡ said (Accepted (cardIn c references))
-  opened-as = ap (opened 5) (is-laid-out c references) ∙ not-refused 5 (written c references) accepted ∙ ap (λ (k : Card). said (Accepted k)) the-card
+  opened-as : opened 5 (cardFile c references) ≡ gives (cardIn c references)
+  opened-as = ap (opened 5) (is-laid-out c references) ∙ not-refused 5 (written c references) accepted ∙ ap gives the-card
 
   pub opens : Opens c references
   opens = record { bytes = file-bytes c references f; accepted = opened-as }
@@ -645,9 +643,7 @@ module _ (c : Sheet) (references : List Float) (f : Fits c references) (t : Type
   references-in-file = ap (λ (l : List ℕ). referencesOf l (cardIn c references)) (is-laid-out c references) ∙ the-references
 
   text-of-file : cardText (cardFile c references) ≡ fitText c references
-  unfolding cardText
-  text-of-file =
-      read-as (cardFile c references) (opened 5 (cardFile c references) .answer) (cardIn c references) c references (ap (λ (a : Said). a .answer) (opened-as c references f)) in-file references-in-file
+  text-of-file = read-as (cardFile c references) (cardIn c references) c references (opened-as c references f) in-file references-in-file
 
   pub returned : Returned c references
   returned = record { same-sheet = in-file; same-references = references-in-file; text = text-of-file; plain = rw (is-laid-out c references) the-plain }

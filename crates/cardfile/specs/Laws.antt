@@ -7,11 +7,11 @@ use lib.IntN.{pos}
 use lib.Signed.{mag}
 use lib.ListN.{length, getD}
 use lib.Ieee.{Float, nan, binary32, fits, isNan}
+use Rattle.answers.specs.Answers.{gives}
 use Rattle.color.specs.Color.{whole}
 use Rattle.card.specs.Number.{u32At, f32At}
 use Rattle.card.specs.declared.Card.{Card}
-use Rattle.card.specs.declared.Opened.the-variants.{Accepted}
-use Rattle.card.specs.File.{said, opened}
+use Rattle.card.specs.File.{opened}
 use Rattle.readout.specs.Sheet.{Sheet}
 use Rattle.reader.specs.File.{sheetOf, referencesOf}
 use Rattle.reader.specs.Fitting.{fitText}
@@ -82,7 +82,7 @@ cardIn c references =
 -- its file is one of bytes, and is accepted, with its settings and its sections where they were written
 pub record Opens (c : Sheet) (references : List Float) : Type 0 where
   pub bytes : (i : ℕ) → getD (cardFile c references) i 0 < 256
-  pub accepted : opened 5 (cardFile c references) ≡ said (Accepted (cardIn c references))
+  pub accepted : opened 5 (cardFile c references) ≡ gives (cardIn c references)
 
 abbrev pub FileOpens : Type 0
 FileOpens = (c : Sheet) (references : List Float) → Fits c references → Opens c references
@@ -135,4 +135,4 @@ pub record Rewritten (s : List ℕ) (card : Card) : Type 0 where
   pub bytes : Plain s card → cardFile (sheetOf s card) (referencesOf s card) ≡ s
 
 abbrev pub OpenedReturns : Type 0
-OpenedReturns = (s : List ℕ) (card : Card) → ((i : ℕ) → getD s i 0 < 256) → opened 5 s ≡ said (Accepted card) → Rewritten s card
+OpenedReturns = (s : List ℕ) (card : Card) → ((i : ℕ) → getD s i 0 < 256) → opened 5 s ≡ gives card → Rewritten s card

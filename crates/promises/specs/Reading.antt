@@ -5,6 +5,7 @@ use Prim.Native.Nat.{ℕ, _≤_}
 use lib.ListN.{length, take, drop}
 use lib.Ieee.{Float}
 use Rattle.answers.specs.declared.Outcome.the-variants as outcome
+use Rattle.answers.specs.Answers.{gives}
 use Rattle.modulate.specs.Score.{unmaskLumaOf, unmasked}
 use Rattle.modulate.specs.Read.{readList, readListOf}
 use Rattle.illum.specs.declared.IlluminationModel.{IlluminationModel}
@@ -17,7 +18,6 @@ use Rattle.refine.specs.Refine.{squares}
 use Rattle.refine.specs.Calls as refining
 use Rattle.refine.specs.Calls.{refineOf}
 use Rattle.card.specs.declared.Card.{Card}
-use Rattle.card.specs.declared.Opened.the-variants as opening
 use Rattle.card.specs.File.{opened}
 use Rattle.listing.specs.Text.{text, written}
 use Rattle.listing.specs.Listing.{listing}
@@ -67,7 +67,7 @@ pub record AcceptedIsListed : Type 0 where
   pub sheet : (c : Sheet) (m : IlluminationModel) (n : ChannelStats) → HeldAsSingles n → scoredSheet c m n .answer ≡ outcome.Done → scoreText c m n ≡ listingOf c m n
   -- the text of a card file that is opened, whose fit and measurement are accepted, and whose scoring is
   pub file : (s : List ℕ) (card : Card) → let c = sheetOf s card in let references = referencesOf s card in let m = fitted c references .model in (r : ChannelStats) →
-      opened 5 s .answer ≡ opening.Accepted card → fitted c references .number ≡ 0 → measureOf (toMeasure c references m) .answer ≡ noise.Record r → scoredSheet c m r .answer ≡ outcome.Done →
+      opened 5 s ≡ gives card → fitted c references .number ≡ 0 → measureOf (toMeasure c references m) .answer ≡ noise.Record r → scoredSheet c m r .answer ≡ outcome.Done →
       cardText s ≡ listingOf c m r
 
 -- ---- the room

@@ -8,9 +8,9 @@ use lib.ListN.{length, getD}
 use lib.Ieee.{Float, nan, binary32, fits}
 use lib.Ieee.Bits.{ofBits-fits}
 use Rattle.answers.specs.declared.Outcome.the-variants as outcome
+use Rattle.answers.specs.Answers.{gives}
 use Rattle.sentences.specs.Sentences.{decided}
 use Rattle.card.specs.declared.Card.{Card}
-use Rattle.card.specs.declared.Opened.the-variants.{Accepted}
 use Rattle.card.specs.Number.{u32At, f32At}
 use Rattle.card.specs.Sections.{floatAt, componentAt}
 use Rattle.card.specs.File.{opened}
@@ -58,7 +58,7 @@ module _ (s : List ℕ) (card : Card) where
   abbrev model : IlluminationModel
   model = fitted sheet references .model
 
-  pub card-listed : (r : ChannelStats) → opened 5 s .answer ≡ Accepted card → fitted sheet references .number ≡ 0 → measureOf (toMeasure sheet references model) .answer ≡ noise.Record r →
+  pub card-listed : (r : ChannelStats) → opened 5 s ≡ gives card → fitted sheet references .number ≡ 0 → measureOf (toMeasure sheet references model) .answer ≡ noise.Record r →
       scoring.scoredOf (toScore sheet model r) .answer ≡ outcome.Done →
       cardText s ≡ listing (model .terms) (model .kept) (model .rejected) (length (sheet .xs)) (sheet .xs) (sheet .ys) (luma sheet model r) (bits sheet model r)
       (length (scoring.scoredOf (toScore sheet model r) .chroma)) (scoring.scoredOf (toScore sheet model r) .chroma) (symbols sheet model r)
