@@ -4,6 +4,7 @@ use mathlib.Core.Path.{_≡_, refl, ap, _∙_}
 use mathlib.Core.Logic.{⊎-elim}
 use mathlib.Core.Bool.{Bool, true, false, not}
 use mathlib.Core.List.{List}
+use mathlib.Core.Option.{Option·some-injective}
 use Prim.Native.Nat.{ℕ, zero, suc, _+_, _*_, _%_, _≤_, _<_}
 use native.Mathlib.Omega.{arith}
 use native.Mathlib.Nat.{eq-or-lt-of-le, le-refl}
@@ -14,10 +15,10 @@ use Rattle.loops.specs.Loops.{anyUp}
 use Rattle.loops.proofs.Laws.{anyUp-false}
 use Rattle.sentences.specs.Sentences.{refusal, decided}
 use Rattle.sentences.proofs.Laws.{neither}
+use Rattle.answers.specs.Answers.{Said, refusedBy, gives}
 use Rattle.card.specs.Number.{u16At}
-use Rattle.card.specs.File.{offsetOf, lengthOf, startOf, misplacedAt, badDirectory, badPalette, badLengths, largeSide, malformed, settingsAt, sectionOf, cardOf, Said, said, opened}
+use Rattle.card.specs.File.{offsetOf, lengthOf, startOf, misplacedAt, badDirectory, badPalette, badLengths, largeSide, malformed, settingsAt, sectionOf, cardOf, opened}
 use Rattle.card.specs.declared.Card.{Card}
-use Rattle.card.specs.declared.Opened.the-variants.{Refused, Accepted}
 
 same : (a b : ℕ) → not (eqb a b) ≡ false → a ≡ b
 same a b e = by (eqb a b) refl e
@@ -131,23 +132,21 @@ holds s good =
     }
 
 -- what the definition accepts is not refused, and what it does not accept is
-pub not-refused : (pairs : ℕ) (s : List ℕ) → malformed pairs s ≡ false → opened pairs s ≡ said (Accepted (cardOf pairs s))
+pub not-refused : (pairs : ℕ) (s : List ℕ) → malformed pairs s ≡ false → opened pairs s ≡ gives (cardOf pairs s)
 unfolding opened refusal decided
 not-refused pairs s h = rw h
 
-pub refused : (pairs : ℕ) (s : List ℕ) → malformed pairs s ≡ true → opened pairs s ≡ said (Refused 1)
+pub refused : (pairs : ℕ) (s : List ℕ) → malformed pairs s ≡ true → opened pairs s ≡ refusedBy 1
 unfolding opened refusal decided
 refused pairs s h = rw h
 
-by-test : (s : List ℕ) (c : Card) (b : Bool) → malformed 5 s ≡ b → said (Accepted c) ≡ opened 5 s → Held s c
+by-test : (s : List ℕ) (c : Card) (b : Bool) → malformed 5 s ≡ b → gives c ≡ opened 5 s → Held s c
 by-test s c true e h =
-    let q : Accepted c ≡ Refused 1 = ap (λ (a : Said). a .answer) (h ∙ refused 5 s e) in
-    let z : _≡_ {A = ℕ} 0 1 = cc in absurd (omega arith)
+    let z : _≡_ {A = ℕ} 0 1 = ap (λ (a : Said Card). a .number) (h ∙ refused 5 s e) in absurd (omega arith)
 by-test s c false e h =
-    let q : Accepted c ≡ Accepted (cardOf 5 s) = ap (λ (a : Said). a .answer) (h ∙ not-refused 5 s e) in
-    let p : c ≡ cardOf 5 s = cc in
+    let p : c ≡ cardOf 5 s = Option·some-injective c (cardOf 5 s) (ap (λ (a : Said Card). a .value) (h ∙ not-refused 5 s e)) in
     rw p (holds s e)
 
 -- what a caller of `open` may use of the card that it gave
-pub accepted : (s : List ℕ) (c : Card) → said (Accepted c) ≡ opened 5 s → Held s c
+pub accepted : (s : List ℕ) (c : Card) → gives c ≡ opened 5 s → Held s c
 accepted s c h = by-test s c (malformed 5 s) refl h

@@ -5,9 +5,9 @@ use Prim.Native.Nat.{ℕ}
 use lib.ListN.{take, replicate}
 use Rattle.sentences.specs.Sentences.{refusal, decided}
 use Rattle.loops.specs.Loops.{anyUp, someOf}
+use Rattle.answers.specs.Answers.{refusedBy, gives}
 use Rattle.card.specs.Number.{u16At, u32At}
-use Rattle.card.specs.File.{offsetOf, lengthOf, startOf, badDirectory, badPalette, badLengths, largeSide, malformed, settingsAt, sectionOf, cardOf, said, opened}
-use Rattle.card.specs.declared.Opened.the-variants.{Refused, Accepted}
+use Rattle.card.specs.File.{offsetOf, lengthOf, startOf, badDirectory, badPalette, badLengths, largeSide, malformed, settingsAt, sectionOf, cardOf, opened}
 
 -- a u32 below 256
 small : ℕ → List ℕ
@@ -36,20 +36,20 @@ file side =
     (zeros 4 ++ hundred ++ zeros 20 ++ hundred ++ zeros 8) ++ zeros 16 ++ (1 ∷ 0 ∷ 0 ∷ 0 ∷ []) ++ one ++ one ++ one
 
 pub the-case : opened 5 (file 21) ≡
-    said (Accepted (record {
+    gives (record {
       settings = record { side = 21; version = 1; hues = 1; size = 1; mask = 0; grid = 2 };
       palette = 48;
       references = record { at = 88; count = 0 };
       modules = record { at = 88; count = 2 };
       cells = record { at = 120; count = 0 };
-    }))
+    })
 unfolding file directory small zeros hundred one opened refusal decided malformed badDirectory badPalette badLengths largeSide cardOf settingsAt sectionOf offsetOf lengthOf startOf u16At u32At anyUp someOf
 the-case = refl
 
-pub cut-short : opened 5 (take 119 (file 21)) ≡ said (Refused 1)
+pub cut-short : opened 5 (take 119 (file 21)) ≡ refusedBy 1
 unfolding file directory small zeros hundred one opened refusal decided malformed badDirectory badPalette badLengths largeSide offsetOf lengthOf startOf u16At u32At anyUp someOf
 cut-short = refl
 
-pub too-wide : opened 5 (file 65) ≡ said (Refused 1)
+pub too-wide : opened 5 (file 65) ≡ refusedBy 1
 unfolding file directory small zeros hundred one opened refusal decided malformed badDirectory badPalette badLengths largeSide offsetOf lengthOf startOf u16At u32At anyUp someOf
 too-wide = refl

@@ -5,7 +5,8 @@ use Prim.Native.Nat.{ℕ, zero, suc, _+_, _*_, _/_, _%_}
 use lib.Dec.{ltb, eqb}
 use lib.ListN.{length, getD}
 use Rattle.loops.specs.Loops.{anyUp}
-use Rattle.sentences.specs.Sentences.{Sentence, _when_, refusal, decided}
+use Rattle.sentences.specs.Sentences.{Sentence, _when_}
+use Rattle.answers.specs.Answers.{Said, refusedBy, gives, answered}
 use Rattle.card.specs.Number.{u16At, u32At}
 use Rattle.card.specs.declared.Settings.{Settings}
 use Rattle.card.specs.declared.Section.{Section}
@@ -90,23 +91,15 @@ cardOf pairs s =
 
 -- ---- the answer
 
--- document 01's number of an answer, 0 where the file is accepted
-abbrev pub numberOf : Opened → ℕ
-numberOf (Refused n) = n
-numberOf (Accepted c) = 0
-
--- what an answer says: the number, and which case it is, with the card
-pub record Said : Type 0 where
-  pub number : ℕ
-  pub answer : Opened
-
-abbrev pub said : Opened → Said
-said r = record { number = numberOf r; answer = r }
+-- what an answer says: document 01's number, 0 where the file is accepted, and then the card
+abbrev pub openedSaid : Opened → Said Card
+openedSaid (Refused n) = refusedBy n
+openedSaid (Accepted c) = gives c
 
 -- the one sentence that a file meets before any call
 abbrev pub fileSentences : ℕ → List ℕ → List Sentence
 fileSentences pairs s = (1 when malformed pairs s) ∷ []
 
 -- refused by 1, or what the file holds
-unfoldable pub opened : ℕ → List ℕ → Said
-opened pairs s = decided (refusal (fileSentences pairs s)) (λ n. said (Refused n)) (said (Accepted (cardOf pairs s)))
+unfoldable pub opened : ℕ → List ℕ → Said Card
+opened pairs s = answered (fileSentences pairs s) (cardOf pairs s)

@@ -274,7 +274,7 @@ fn card_of(file: &[u8], pairs: usize) -> Card
 
 // Opens a card file: what it holds, or refusal 1.
 pub fn open(file: &[u8]) -> Opened
-    ensures { λ r. ⌜ layout.said r ≡ layout.opened 5 (now (file .entry)) ⌝ }
+    ensures { λ r. ⌜ layout.openedSaid r ≡ layout.opened 5 (now (file .entry)) ⌝ }
 {
     if malformed(file, PAIRS) {
         return Opened::Refused(1);

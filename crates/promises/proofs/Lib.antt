@@ -1,6 +1,6 @@
 -- `Held`: a record's figures are f32 values, in this crate's words and in those of the proofs of `stats`. `Neighbours`: how the symbols of neighbouring hues differ. `Formula`: the sRGB curve is the
 -- standard's. `OnlyNearest`: one float is the nearest. `Identity`: what the model of `identity` makes of a colour. `Systems`: what `solve` writes. `Window`: refinement's window in
--- coordinates. `Premises`: which of the read guarantee's premises hold by themselves. The card file: `Written`, of every card; `CardFile`, document 01's case.
+-- coordinates. `Premises`: which of the read guarantee's premises hold by themselves.
 mod Held
 mod Neighbours
 mod Formula
@@ -9,5 +9,3 @@ mod Identity
 mod Systems
 mod Window
 mod Premises
-mod Written
-mod CardFile

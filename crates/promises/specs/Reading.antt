@@ -16,7 +16,6 @@ use Rattle.refine.specs.Refine.{squares}
 use Rattle.refine.specs.Calls as refining
 use Rattle.refine.specs.Calls.{refineOf}
 use Rattle.card.specs.declared.Card.{Card}
-use Rattle.card.specs.declared.Opened.the-variants as opening
 use Rattle.card.specs.File.{opened}
 use Rattle.listing.specs.Text.{text, written}
 use Rattle.listing.specs.Listing.{listing}
@@ -66,7 +65,7 @@ pub record AcceptedIsListed : Type 0 where
   pub sheet : (c : Sheet) (m : IlluminationModel) (n : ChannelStats) → HeldAsSingles n → scoredSheet c m n .number ≡ 0 → scoreText c m n ≡ listingOf c m n
   -- the text of a card file that is opened, whose fit and measurement are accepted, and whose scoring is
   pub file : (s : List ℕ) (card : Card) → let c = sheetOf s card in let references = referencesOf s card in let m = fitted c references .model in (r : ChannelStats) →
-      opened 5 s .answer ≡ opening.Accepted card → fitted c references .number ≡ 0 → measureOf (toMeasure c references m) .said ≡ gives r → scoredSheet c m r .number ≡ 0 →
+      opened 5 s ≡ gives card → fitted c references .number ≡ 0 → measureOf (toMeasure c references m) .said ≡ gives r → scoredSheet c m r .number ≡ 0 →
       cardText s ≡ listingOf c m r
 
 -- ---- the room

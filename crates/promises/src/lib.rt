@@ -16,7 +16,6 @@ ghost use Rattle.promises.specs.Noise.{ReliabilityRange, LumaLlrRange, M
 ghost use Rattle.promises.specs.Scores.{ScoresInRange, ScoringAnswers};
 ghost use Rattle.promises.specs.Window.{WindowInCoordinates};
 ghost use Rattle.promises.specs.Reading.{AcceptedIsListed, RoomForAll};
-ghost use Rattle.promises.specs.CardFile.{CaseIsRead, FileOpens, FileReturns};
 
 // ---- the crate guarantee: whole cards
 
@@ -224,24 +223,4 @@ pub fn accepted_is_listed()
 // were.
 pub fn room_for_every_listing()
     ensures { λ _. ⌜ RoomForAll ⌝ }
-{}
-
-// ---- the crates card and reader
-
-// Document 01's case, written as a card file by the document's words, is read as the three lines that the document
-// prints for it.
-pub fn card_file_case()
-    ensures { λ _. ⌜ CaseIsRead ⌝ }
-{}
-
-// The card file of every card that has room in 16,384 bytes, with a side of at most 64, is opened, with the card's
-// settings and with its sections where they were written.
-pub fn card_file_opens()
-    ensures { λ _. ⌜ FileOpens ⌝ }
-{}
-
-// What is read from that file is the card: each palette number, reference, position, coordinate and colour is the one
-// that was written. So the file's text is that of the card.
-pub fn card_file_returns_values()
-    ensures { λ _. ⌜ FileReturns ⌝ }
 {}

@@ -9,17 +9,17 @@ use lib.Ieee.{Float}
 use Rattle.card.specs.declared.Card.{Card}
 use Rattle.card.specs.declared.Opened.{Opened}
 use Rattle.card.specs.declared.Opened.the-variants.{Accepted}
-use Rattle.card.specs.File.{said, opened}
+use Rattle.card.specs.File.{openedSaid, opened}
 use Rattle.card.specs.Sections.{floatAt, positionAt, coordinateAt}
 use Rattle.card.proofs.Accepted.{Held, accepted}
 use Rattle.readout.specs.Sheet.{Few}
 use Rattle.reader.specs.File.{sheetOf, floatsOf, Modules, Cells, Fits}
 use Rattle.reader.proofs.Lists.{list-length}
 
-held : (s : List ℕ) (o : Opened) (c : Card) → said o ≡ opened 5 s → o ≡ Accepted c → Held s c
-held s o c p e = accepted s c (ap said (sym e) ∙ p)
+held : (s : List ℕ) (o : Opened) (c : Card) → openedSaid o ≡ opened 5 s → o ≡ Accepted c → Held s c
+held s o c p e = accepted s c (ap openedSaid (sym e) ∙ p)
 
-pub fits : (s : List ℕ) (o : Opened) (c : Card) → said o ≡ opened 5 s → o ≡ Accepted c → Fits c
+pub fits : (s : List ℕ) (o : Opened) (c : Card) → openedSaid o ≡ opened 5 s → o ≡ Accepted c → Fits c
 fits s o c p e =
     let h = held s o c p e in
     record { side = h .side; palette = omega arith; references = omega arith; modules = omega arith; cells = omega arith; whole = omega arith }

@@ -1,8 +1,8 @@
 -- A card whose fit, measurement and scoring are accepted is listed: the floats of a file are f32, so the measured noise record holds f32 values, and then
 -- nothing after scoring is refused. Assumes nothing.
 use mathlib.Core.Path.{_≡_}
-use mathlib.Core.List.{List, [], _∷_}
-use Prim.Native.Nat.{ℕ, zero, suc, _+_, _*_}
+use mathlib.Core.List.{List}
+use Prim.Native.Nat.{ℕ, _+_, _*_, _/_, _%_}
 use lib.Dec.{T}
 use lib.ListN.{length, getD}
 use lib.Ieee.{Float, nan, binary32, fits}
@@ -11,9 +11,8 @@ use Rattle.answers.specs.declared.Outcome.the-variants as outcome
 use Rattle.answers.specs.Answers.{gives}
 use Rattle.sentences.specs.Sentences.{decided}
 use Rattle.card.specs.declared.Card.{Card}
-use Rattle.card.specs.declared.Opened.the-variants.{Accepted}
 use Rattle.card.specs.Number.{u32At, f32At}
-use Rattle.card.specs.Sections.{floatAt}
+use Rattle.card.specs.Sections.{floatAt, componentAt}
 use Rattle.card.specs.File.{opened}
 use Rattle.illum.specs.declared.IlluminationModel.{IlluminationModel}
 use Rattle.stats.specs.declared.ChannelStats.{ChannelStats}
@@ -22,27 +21,29 @@ use Rattle.measure.proofs.Passes.{F32, answered-passes}
 use Rattle.demod.specs.Call as scoring
 use Rattle.listing.specs.Listing.{listing}
 use Rattle.readout.specs.Sheet.{Sheet}
-use Rattle.readout.specs.Reading.{scoreText, toScore}
+use Rattle.readout.specs.Reading.{toScore}
 use Rattle.readout.proofs.Never.{luma, bits, symbols, is-listed}
-use Rattle.reader.specs.File.{listFrom, listOf, floatsOf, sheetOf, referencesOf}
+use Rattle.reader.specs.File.{listOf, floatsOf, coloursOf, sheetOf, referencesOf}
 use Rattle.reader.specs.Fitting.{toMeasure, fitted, afterMeasuring, measureText, afterFitting, fitText}
 use Rattle.reader.specs.Text.{afterOpening, cardText}
+use Rattle.reader.proofs.Lists.{list-every}
 
 -- ---- the floats of a file are f32
 
-none-fits : (i : ℕ) → T (fits binary32 (getD [] i nan))
-unfolding fits
-none-fits i = tt
+abbrev Single : Float → Type 0
+Single v = T (fits binary32 v)
 
-from-fits : (f : ℕ → Float) → ((i : ℕ) → T (fits binary32 (f i))) → (k i j : ℕ) → T (fits binary32 (getD (listFrom f k i) j nan))
-unfolding listFrom
-from-fits f h zero i j = none-fits j
-from-fits f h (suc k) i zero = h i
-from-fits f h (suc k) i (suc j) = from-fits f h k (suc i) j
+singles : (f : ℕ → Float) → ((i : ℕ) → Single (f i)) → (n i : ℕ) → Single (getD (listOf f n) i nan)
+unfolding fits
+singles f h n i = list-every Single nan f tt h n i
 
 pub floats-fit : (s : List ℕ) (at n : ℕ) → F32 (floatsOf s at n)
-unfolding listOf f32At
-floats-fit s at n i = from-fits (floatAt s at) (λ j. ofBits-fits binary32 (u32At s (at + 4 * j))) n 0 i
+unfolding f32At
+floats-fit s at n i = singles (floatAt s at) (λ j. ofBits-fits binary32 (u32At s (at + 4 * j))) n i
+
+pub colours-fit : (s : List ℕ) (at n : ℕ) → F32 (coloursOf s at n)
+unfolding f32At
+colours-fit s at n i = singles (componentAt s at) (λ j. ofBits-fits binary32 (u32At s (at + 16 * (j / 3) + 4 + 4 * (j % 3)))) (3 * n) i
 
 -- ---- the card
 
@@ -56,7 +57,7 @@ module _ (s : List ℕ) (card : Card) where
   abbrev model : IlluminationModel
   model = fitted sheet references .model
 
-  pub card-listed : (r : ChannelStats) → opened 5 s .answer ≡ Accepted card → fitted sheet references .number ≡ 0 → measureOf (toMeasure sheet references model) .said ≡ gives r →
+  pub card-listed : (r : ChannelStats) → opened 5 s ≡ gives card → fitted sheet references .number ≡ 0 → measureOf (toMeasure sheet references model) .said ≡ gives r →
       scoring.scoredOf (toScore sheet model r) .answer ≡ outcome.Done →
       cardText s ≡ listing (model .terms) (model .kept) (model .rejected) (length (sheet .xs)) (sheet .xs) (sheet .ys) (luma sheet model r) (bits sheet model r)
       (length (scoring.scoredOf (toScore sheet model r) .chroma)) (scoring.scoredOf (toScore sheet model r) .chroma) (symbols sheet model r)

@@ -43,6 +43,17 @@ list-at d f n i h = from-at d f n 0 i h ∙ ap f (sum i)
     sum : (i : ℕ) → 0 + i ≡ i
     sum i = omega arith
 
+-- what holds of the default and of every f(i) holds of the number at every place
+from-every : {A : Type 0} (P : A → Type 0) (d : A) (f : ℕ → A) → P d → ((i : ℕ) → P (f i)) → (k i j : ℕ) → P (getD (listFrom f k i) j d)
+unfolding listFrom
+from-every P d f z h zero i j = z
+from-every P d f z h (suc k) i zero = h i
+from-every P d f z h (suc k) i (suc j) = from-every P d f z h k (suc i) j
+
+pub list-every : {A : Type 0} (P : A → Type 0) (d : A) (f : ℕ → A) → P d → ((i : ℕ) → P (f i)) → (n i : ℕ) → P (getD (listOf f n) i d)
+unfolding listOf
+list-every P d f z h n i = from-every P d f z h n 0 i
+
 -- what a loop over all places left
 fill-none : {A : Type 0} (f : ℕ → A) → filled f 0 [] ≡ listOf f 0
 unfolding forUp turns listOf listFrom

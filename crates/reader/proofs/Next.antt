@@ -9,7 +9,7 @@ use Rattle.card.specs.declared.Settings.{Settings}
 use Rattle.card.specs.declared.Card.{Card}
 use Rattle.card.specs.declared.Opened.{Opened}
 use Rattle.card.specs.declared.Opened.the-variants as opening
-use Rattle.card.specs.File.{said, opened}
+use Rattle.card.specs.File.{openedSaid, opened}
 use Rattle.listing.specs.Text.{Text, written}
 use Rattle.listing.specs.Listing.{refusedLine}
 use Rattle.illum.specs.declared.IlluminationModel.{IlluminationModel}
@@ -61,7 +61,7 @@ module _ (s : Settings) (palette : List Float) (xs ys : List ℤ) (raw : List Fl
 
 -- ---- opening
 
-module _ (file : List ℕ) (o : Opened) (p : said o ≡ opened 5 file) (t u : Text) where
+module _ (file : List ℕ) (o : Opened) (p : openedSaid o ≡ opened 5 file) (t u : Text) where
   pub not-opened : (n : ℕ) → o ≡ opening.Refused n → u ≡ written (refusedLine n) t → u ≡ written (cardText file) t
   unfolding cardText afterOpening
   not-opened n e g = rw (← p, e) g

@@ -11,10 +11,11 @@ use lib.Ieee.{Float}
 use lib.ListN.{length, take, drop}
 use lib.Seq.{take-append-seam, drop-append-seam}
 use Rattle.sentences.specs.Sentences.{refusal, decided}
+use Rattle.answers.specs.Answers.{Said, refusedBy, gives}
 use Rattle.card.specs.declared.Card.{Card}
 use Rattle.card.specs.declared.Opened.{Opened}
 use Rattle.card.specs.declared.Opened.the-variants as opening
-use Rattle.card.specs.File.{cardOf, Said, said, fileSentences, opened}
+use Rattle.card.specs.File.{cardOf, openedSaid, fileSentences, opened}
 use Rattle.card.specs.Sections.{positionAt}
 use Rattle.card.proofs.Signed.{position-small}
 use Rattle.listing.specs.Text.{Text, text, written}
@@ -79,15 +80,15 @@ card-in s c h t =
 opened-small : (pairs : ℕ) (s : List ℕ) → opened pairs s .number < 100
 unfolding opened tiny
 opened-small pairs s =
-    number-small (λ e. e .number) (λ n. said (opening.Refused n)) (said (opening.Accepted (cardOf pairs s))) (refusal (fileSentences pairs s)) (λ n. refl) refl
+    number-small (λ e. e .number) refusedBy (gives (cardOf pairs s)) (refusal (fileSentences pairs s)) (λ n. refl) refl
     (refusal-small (fileSentences pairs s) refl)
 
-module _ (s : List ℕ) (o : Opened) (p : said o ≡ opened 5 s) where
+module _ (s : List ℕ) (o : Opened) (p : openedSaid o ≡ opened 5 s) where
   pub refused-in : (n : ℕ) → o ≡ opening.Refused n → length (cardText s) ≤ listingRoom
   unfolding cardText afterOpening
   refused-in n e =
-      let q : said (opening.Refused n) ≡ opened 5 s = ap said (sym e) ∙ p in
-      rw (← q) (line-in n (omega (arith, opened-small 5 s, ap (λ (a : Said). a .number) q)))
+      let q : refusedBy n ≡ opened 5 s = ap openedSaid (sym e) ∙ p in
+      rw (← q) (line-in n (omega (arith, opened-small 5 s, ap (λ (a : Said Card). a .number) q)))
 
   pub opened-in : (c : Card) → o ≡ opening.Accepted c → length (fitText (sheetOf s c) (referencesOf s c)) ≤ listingRoom → length (cardText s) ≤ listingRoom
   unfolding cardText afterOpening

@@ -6,19 +6,19 @@ use mathlib.Core.Bool.{Bool, true, false}
 use Rattle.sentences.specs.Sentences.{refusal, decided}
 use Rattle.card.specs.declared.Card.{Card}
 use Rattle.card.specs.declared.Opened.the-variants.{Refused, Accepted}
-use Rattle.card.specs.File.{malformed, cardOf, said, opened}
+use Rattle.card.specs.File.{malformed, cardOf, openedSaid, opened}
 use borrow.Author.Needs.{needs}
 use Rattle.card.proofs.open.Statement.{statement}
 use Rattle.card.proofs.open.Tie as tie
 
 module _ (s : List ℕ) (pairs : ℕ) (r : Bool) (e : r ≡ malformed pairs s) where
-  refused : r ≡ true → said (Refused 1) ≡ opened pairs s
+  refused : r ≡ true → openedSaid (Refused 1) ≡ opened pairs s
   unfolding opened refusal decided
   refused t = rw (← e, t)
 
-  accepted : (k : Card) → r ≡ false → k ≡ cardOf pairs s → said (Accepted k) ≡ opened pairs s
+  accepted : (k : Card) → r ≡ false → k ≡ cardOf pairs s → openedSaid (Accepted k) ≡ opened pairs s
   unfolding opened refusal decided
-  accepted k t f = rw (← e, t) (ap (λ (c : Card). said (Accepted c)) f)
+  accepted k t f = rw (← e, t) (ap (λ (c : Card). openedSaid (Accepted c)) f)
 
 returns : tie.Need-returns
 returns c = search (refused)

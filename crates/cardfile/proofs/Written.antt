@@ -1,6 +1,6 @@
 -- A card's file is opened and read as the card: each number is read from the bytes that it was written as, since every section lies where the sections before it end, and each record in
 -- it where the records before it end. Assumes nothing.
-use mathlib.Core.Path.{_≡_, refl, sym, ap, _∙_}
+use mathlib.Core.Path.{_≡_, refl, sym, ap, subst, _∙_}
 use mathlib.Core.Bool.{Bool, false, not, _||_}
 use mathlib.Core.List.{List, [], _∷_, _++_, append-assoc}
 use Prim.Native.Nat.{ℕ, zero, suc, _+_, _-_, _*_, _/_, _%_, _≤_, _<_}
@@ -12,16 +12,16 @@ use lib.IntN.{ℤ, pos, negsuc}
 use lib.Signed.{mag}
 use lib.ListN.{length, getD, length-append, List·getD-append}
 use lib.Seq.{getD-append-add, ext-getD}
-use lib.Ieee.{Float, nan, binary32, fits, ofBits, toBits}
-use lib.Ieee.Bits.{ofBits-toBits, toBits-lt}
+use lib.Ieee.{Float, nan, binary32, fits, isNan, ofBits, toBits}
+use lib.Ieee.Bits.{is-true, ofBits-toBits, toBits-lt}
+use Rattle.floatlaws.specs.Nan.{only-nan}
+use Rattle.answers.specs.Answers.{gives}
 use Rattle.loops.specs.Loops.{someOf, anyUp}
 use Rattle.card.specs.Number.{u16At, u32At, f32At, i16Of, i16At}
-use Rattle.card.specs.File.{offsetOf, lengthOf, startOf, misplacedAt, badDirectory, badPalette, badLengths, largeSide, malformed, settingsAt, sectionOf, cardOf, Said, said, opened}
+use Rattle.card.specs.File.{offsetOf, lengthOf, startOf, misplacedAt, badDirectory, badPalette, badLengths, largeSide, malformed, settingsAt, sectionOf, cardOf, opened}
 use Rattle.card.specs.Sections.{floatAt, positionAt, coordinateAt, componentAt}
 use Rattle.card.specs.declared.Settings.{Settings}
 use Rattle.card.specs.declared.Card.{Card}
-use Rattle.card.specs.declared.Opened.{Opened}
-use Rattle.card.specs.declared.Opened.the-variants.{Accepted}
 use Rattle.card.proofs.Accepted.{not-refused}
 use Rattle.listing.specs.Text.{row, rows}
 use Rattle.readout.specs.Sheet.{Sheet, sheet}
@@ -29,7 +29,8 @@ use Rattle.reader.specs.File.{listOf, sheetOf, referencesOf}
 use Rattle.reader.specs.Fitting.{fitText}
 use Rattle.reader.specs.Text.{afterOpening, cardText}
 use Rattle.reader.proofs.Lists.{list-length, list-at}
-use Rattle.promises.specs.CardFile.{u16Bytes, u32Bytes, bitsOf, i16Bytes, f32Bytes, settingsBytes, floatAtBytes, floatsBytes, colourBytes, moduleBytes, modulesBytes, cellBytes, cellsBytes, directory, sections, cardFile, Fits, cardIn, Opens, Typed, Returned}
+use Rattle.cardfile.specs.Writer.{u16Bytes, u32Bytes, bitsOf, i16Bytes, f32Bytes, settingsBytes, floatAtBytes, floatsBytes, colourBytes, moduleBytes, modulesBytes, cellBytes, cellsBytes, directory, sections, cardFile}
+use Rattle.cardfile.specs.Laws.{Fits, cardIn, Opens, Typed, NanAsWritten, Plain, Returned}
 
 -- ---- numbers from their bytes
 
@@ -54,30 +55,29 @@ i16-back (negsuc n) h = rw (le-ltb (65535 - n) 32768 (omega arith)) (ap negsuc (
 
 -- ---- the text of a file that is opened
 
-pub read-as : (s : List ℕ) (r : Opened) (card : Card) (c : Sheet) (references : List Float) → r ≡ Accepted card → sheetOf s card ≡ c → referencesOf s card ≡ references →
-    afterOpening s r ≡ fitText c references
-unfolding afterOpening
-read-as s r card c references e p q = rw (e, p, q)
+pub read-as : (s : List ℕ) (card : Card) (c : Sheet) (references : List Float) → opened 5 s ≡ gives card → sheetOf s card ≡ c → referencesOf s card ≡ references → cardText s ≡ fitText c references
+unfolding cardText afterOpening
+read-as s card c references e p q = rw (e, p, q)
 
 -- ---- a directory of five pairs
 
-abbrev laidOut : List ℕ → List ℕ → List ℕ → List ℕ → List ℕ → List ℕ
+abbrev pub laidOut : List ℕ → List ℕ → List ℕ → List ℕ → List ℕ → List ℕ
 laidOut a b c d e = directory 40 (a ∷ b ∷ c ∷ d ∷ e ∷ []) ++ (a ++ (b ++ (c ++ (d ++ (e ++ [])))))
 
-record Pairs (s : List ℕ) (l0 l1 l2 l3 l4 : ℕ) : Type 0 where
-  offset-0 : offsetOf s 0 ≡ 40
-  offset-1 : offsetOf s 1 ≡ 40 + l0
-  offset-2 : offsetOf s 2 ≡ 40 + l0 + l1
-  offset-3 : offsetOf s 3 ≡ 40 + l0 + l1 + l2
-  offset-4 : offsetOf s 4 ≡ 40 + l0 + l1 + l2 + l3
-  length-0 : lengthOf s 0 ≡ l0
-  length-1 : lengthOf s 1 ≡ l1
-  length-2 : lengthOf s 2 ≡ l2
-  length-3 : lengthOf s 3 ≡ l3
-  length-4 : lengthOf s 4 ≡ l4
-  whole : length s ≡ 40 + l0 + l1 + l2 + l3 + l4
+pub record Pairs (s : List ℕ) (l0 l1 l2 l3 l4 : ℕ) : Type 0 where
+  pub offset-0 : offsetOf s 0 ≡ 40
+  pub offset-1 : offsetOf s 1 ≡ 40 + l0
+  pub offset-2 : offsetOf s 2 ≡ 40 + l0 + l1
+  pub offset-3 : offsetOf s 3 ≡ 40 + l0 + l1 + l2
+  pub offset-4 : offsetOf s 4 ≡ 40 + l0 + l1 + l2 + l3
+  pub length-0 : lengthOf s 0 ≡ l0
+  pub length-1 : lengthOf s 1 ≡ l1
+  pub length-2 : lengthOf s 2 ≡ l2
+  pub length-3 : lengthOf s 3 ≡ l3
+  pub length-4 : lengthOf s 4 ≡ l4
+  pub whole : length s ≡ 40 + l0 + l1 + l2 + l3 + l4
 
-forty : (a b c d e : List ℕ) → length (directory 40 (a ∷ b ∷ c ∷ d ∷ e ∷ [])) ≡ 40
+pub forty : (a b c d e : List ℕ) → length (directory 40 (a ∷ b ∷ c ∷ d ∷ e ∷ [])) ≡ 40
 unfolding directory u32Bytes u16Bytes
 forty a b c d e = refl
 
@@ -86,7 +86,7 @@ lengths a b c d e =
     omega (arith, length-append a (b ++ (c ++ (d ++ (e ++ [])))), length-append b (c ++ (d ++ (e ++ []))), length-append c (d ++ (e ++ [])), length-append d (e ++ []), length-append e [])
 
 module _ (a b c d e : List ℕ) (small : 40 + length a + length b + length c + length d + length e ≤ 16384) where
-  all : length (laidOut a b c d e) ≡ 40 + length a + length b + length c + length d + length e
+  pub all : length (laidOut a b c d e) ≡ 40 + length a + length b + length c + length d + length e
   all = omega (arith, length-append (directory 40 (a ∷ b ∷ c ∷ d ∷ e ∷ [])) (a ++ (b ++ (c ++ (d ++ (e ++ []))))), forty a b c d e, lengths a b c d e)
 
   pairs : Pairs (laidOut a b c d e) (length a) (length b) (length c) (length d) (length e)
@@ -109,6 +109,10 @@ module _ (a b c d e : List ℕ) (small : 40 + length a + length b + length c + l
 settings-same : (st : Settings) (x y z : ℕ) → x ≡ st .side → y ≡ st .mask → z ≡ st .grid →
     record { side = x; version = st .version; hues = st .hues; size = st .size; mask = y; grid = z } ≡ st
 settings-same st x y z e f g = rw (e, f, g)
+
+mask-in : (st : Settings) (b c d e : List ℕ) → getD (laidOut (settingsBytes st) b c d e) 45 0 ≡ st .mask
+unfolding directory u32Bytes u16Bytes settingsBytes
+mask-in st b c d e = refl
 
 mask-back : (n : ℕ) → n < 8 → n % 8 ≡ n
 mask-back n h = omega arith
@@ -250,28 +254,49 @@ bits-back l single i = u32-back (toBits binary32 (getD l i nan)) (toBits-lt bina
 f32-back : (v : Float) → T (fits binary32 v) → (n : ℕ) → n ≡ toBits binary32 v → ofBits binary32 n ≡ v
 f32-back v h n e = ap (ofBits binary32) e ∙ ofBits-toBits binary32 v h
 
+pub the-nan : toBits binary32 nan ≡ 0x7fc0_0000
+unfolding toBits
+the-nan = refl
+
+-- where a NaN is read, one was written
+nan-written : (s : List ℕ) (p : ℕ) (v : Float) → T (fits binary32 v) → u32At s p ≡ toBits binary32 v → NanAsWritten s p
+unfolding f32At
+nan-written s p v h e is =
+    let back : ofBits binary32 (u32At s p) ≡ v = f32-back v h (u32At s p) e in
+    e ∙ ap (toBits binary32) (only-nan v (is-true (isNan v) (subst (λ (x : Float). T (isNan x)) back is))) ∙ the-nan
+
 module _ (l : List Float) (single : (i : ℕ) → T (fits binary32 (getD l i nan))) (s : List ℕ) (at : ℕ) where
   float-back : (i : ℕ) → u32At (floatAtBytes l i) 0 ≡ toBits binary32 (getD l i nan)
   unfolding u32At u16At floatAtBytes f32Bytes u32Bytes u16Bytes
   float-back i = bits-back l single i
 
+  word-in : Lies 4 (floatAtBytes l) (length l) s at → (i : ℕ) → i < length l → u32At s (at + 4 * i) ≡ toBits binary32 (getD l i nan)
+  word-in lies i h = u32-in 4 (floatAtBytes l) (length l) s at lies i h 0 (at + 4 * i) (omega arith) (omega arith) ∙ float-back i
+
   floats-are : Lies 4 (floatAtBytes l) (length l) s at → (n : ℕ) → n ≡ length l → listOf (floatAt s at) n ≡ l
   unfolding f32At
-  floats-are lies n e =
-      list-is nan (floatAt s at) l n e
-      (λ i h. f32-back (getD l i nan) (single i) (u32At s (at + 4 * i)) (u32-in 4 (floatAtBytes l) (length l) s at lies i h 0 (at + 4 * i) (omega arith) (omega arith) ∙ float-back i))
+  floats-are lies n e = list-is nan (floatAt s at) l n e (λ i h. f32-back (getD l i nan) (single i) (u32At s (at + 4 * i)) (word-in lies i h))
+
+  floats-plain : Lies 4 (floatAtBytes l) (length l) s at → (i : ℕ) → i < length l → NanAsWritten s (at + 4 * i)
+  floats-plain lies i h = nan-written s (at + 4 * i) (getD l i nan) (single i) (word-in lies i h)
 
 module _ (f : ℕ → List ℕ) (raw : List Float) (single : (i : ℕ) → T (fits binary32 (getD raw i nan))) (n : ℕ) (s : List ℕ) (at : ℕ) (lies : Lies 16 f n s at) where
-  colours-are : ((j r : ℕ) → r < 3 → u32At (f j) (4 + 4 * r) ≡ toBits binary32 (getD raw (3 * j + r) nan)) → length raw ≡ 3 * n → listOf (componentAt s at) (3 * n) ≡ raw
-  unfolding f32At
-  colours-are coloured e =
-      list-is nan (componentAt s at) raw (3 * n) (sym e)
-      (λ i h. let p = at + 16 * (i / 3) + 4 + 4 * (i % 3) in
-      f32-back (getD raw i nan) (single i) (u32At s p)
-      (u32-in 16 f n s at lies (i / 3) (omega arith) (4 + 4 * (i % 3)) p (omega arith) (omega arith) ∙ coloured (i / 3) (i % 3) (omega arith) ∙ ap (λ (m : ℕ). toBits binary32 (getD raw m nan)) (parts i)))
-    where
-      parts : (i : ℕ) → 3 * (i / 3) + i % 3 ≡ i
-      parts i = omega arith
+  module _ (coloured : (j r : ℕ) → r < 3 → u32At (f j) (4 + 4 * r) ≡ toBits binary32 (getD raw (3 * j + r) nan)) where
+    component-in : (j r : ℕ) → j < n → r < 3 → u32At s (at + 16 * j + 4 + 4 * r) ≡ toBits binary32 (getD raw (3 * j + r) nan)
+    component-in j r h g = u32-in 16 f n s at lies j h (4 + 4 * r) (at + 16 * j + 4 + 4 * r) (omega arith) (omega arith) ∙ coloured j r g
+
+    colours-are : length raw ≡ 3 * n → listOf (componentAt s at) (3 * n) ≡ raw
+    unfolding f32At
+    colours-are e =
+        list-is nan (componentAt s at) raw (3 * n) (sym e)
+        (λ i h. f32-back (getD raw i nan) (single i) (u32At s (at + 16 * (i / 3) + 4 + 4 * (i % 3)))
+        (component-in (i / 3) (i % 3) (omega arith) (omega arith) ∙ ap (λ (m : ℕ). toBits binary32 (getD raw m nan)) (parts i)))
+      where
+        parts : (i : ℕ) → 3 * (i / 3) + i % 3 ≡ i
+        parts i = omega arith
+
+    colours-plain : (j r : ℕ) → j < n → r < 3 → NanAsWritten s (at + 16 * j + 4 + 4 * r)
+    colours-plain j r h g = nan-written s (at + 16 * j + 4 + 4 * r) (getD raw (3 * j + r) nan) (single (3 * j + r)) (component-in j r h g)
 
   positions-are : (xs : List ℤ) (k q : ℕ) → ((i : ℕ) → mag (getD xs i (pos 0)) < 32768) → ((j : ℕ) → u16At (f j) k ≡ bitsOf (getD xs j (pos 0))) → q ≡ at + k → k + 1 < 16 → length xs ≡ n →
       listOf (positionAt s q) n ≡ xs
@@ -323,28 +348,28 @@ cell-y : (cxs cys : List ℕ) (raw : List Float) (j : ℕ) → getD cys j 0 < 65
 unfolding u16At cellBytes u16Bytes
 cell-y cxs cys raw j h = u16-back (getD cys j 0) h
 
-float-wide : (l : List Float) (i : ℕ) → length (floatAtBytes l i) ≡ 4
+pub float-wide : (l : List Float) (i : ℕ) → length (floatAtBytes l i) ≡ 4
 unfolding floatAtBytes f32Bytes u32Bytes u16Bytes
 float-wide l i = refl
 
-module-wide : (xs ys : List ℤ) (raw : List Float) (i : ℕ) → length (moduleBytes xs ys raw i) ≡ 16
+pub module-wide : (xs ys : List ℤ) (raw : List Float) (i : ℕ) → length (moduleBytes xs ys raw i) ≡ 16
 unfolding moduleBytes colourBytes i16Bytes f32Bytes u32Bytes u16Bytes
 module-wide xs ys raw i = refl
 
-cell-wide : (cxs cys : List ℕ) (raw : List Float) (i : ℕ) → length (cellBytes cxs cys raw i) ≡ 16
+pub cell-wide : (cxs cys : List ℕ) (raw : List Float) (i : ℕ) → length (cellBytes cxs cys raw i) ≡ 16
 unfolding cellBytes colourBytes f32Bytes u32Bytes u16Bytes
 cell-wide cxs cys raw i = refl
 
-settings-wide : (st : Settings) → length (settingsBytes st) ≡ 8
+pub settings-wide : (st : Settings) → length (settingsBytes st) ≡ 8
 unfolding settingsBytes u16Bytes
 settings-wide st = refl
 
 -- ---- the file of a card
 
-abbrev written : Sheet → List Float → List ℕ
+abbrev pub written : Sheet → List Float → List ℕ
 written c references = laidOut (settingsBytes (c .settings)) (floatsBytes (c .palette)) (floatsBytes references) (modulesBytes c) (cellsBytes c)
 
-is-laid-out : (c : Sheet) (references : List Float) → cardFile c references ≡ written c references
+pub is-laid-out : (c : Sheet) (references : List Float) → cardFile c references ≡ written c references
 unfolding cardFile sections row
 is-laid-out c references = refl
 
@@ -361,13 +386,13 @@ fourth t a b c d e = third t a b c d e ∙ sym (append-assoc ((t ++ a) ++ b) c (
 fifth : (t a b c d e : List ℕ) → t ++ (a ++ (b ++ (c ++ (d ++ (e ++ []))))) ≡ ((((t ++ a) ++ b) ++ c) ++ d) ++ (e ++ [])
 fifth t a b c d e = fourth t a b c d e ∙ sym (append-assoc (((t ++ a) ++ b) ++ c) d (e ++ []))
 
-long-floats : (l : List Float) → length (floatsBytes l) ≡ 4 * length l
+pub long-floats : (l : List Float) → length (floatsBytes l) ≡ 4 * length l
 long-floats l = rows-length 4 (floatAtBytes l) (float-wide l) (length l) 0
 
-long-modules : (c : Sheet) → length (modulesBytes c) ≡ 16 * length (c .xs)
+pub long-modules : (c : Sheet) → length (modulesBytes c) ≡ 16 * length (c .xs)
 long-modules c = rows-length 16 (moduleBytes (c .xs) (c .ys) (c .raw)) (module-wide (c .xs) (c .ys) (c .raw)) (length (c .xs)) 0
 
-long-cells : (c : Sheet) → length (cellsBytes c) ≡ 16 * length (c .cxs)
+pub long-cells : (c : Sheet) → length (cellsBytes c) ≡ 16 * length (c .cxs)
 long-cells c = rows-length 16 (cellBytes (c .cxs) (c .cys) (c .craw)) (cell-wide (c .cxs) (c .cys) (c .craw)) (length (c .cxs)) 0
 
 -- ---- every number of a file is a byte
@@ -510,8 +535,8 @@ module _ (c : Sheet) (references : List Float) (f : Fits c references) where
       card-is (written c references) (c .settings) (4 * length (c .palette)) (4 * length references) (16 * length (c .xs)) (16 * length (c .cxs)) the-pairs small the-settings
       (length references / 8) (length (c .xs)) (length (c .cxs)) (omega arith) (omega arith) (omega arith)
 
-  opened-as : opened 5 (cardFile c references) ≡ said (Accepted (cardIn c references))
-  opened-as = ap (opened 5) (is-laid-out c references) ∙ not-refused 5 (written c references) accepted ∙ ap (λ (k : Card). said (Accepted k)) the-card
+  opened-as : opened 5 (cardFile c references) ≡ gives (cardIn c references)
+  opened-as = ap (opened 5) (is-laid-out c references) ∙ not-refused 5 (written c references) accepted ∙ ap gives the-card
 
   pub opens : Opens c references
   opens = record { bytes = file-bytes c references f; accepted = opened-as }
@@ -601,6 +626,16 @@ module _ (c : Sheet) (references : List Float) (f : Fits c references) (t : Type
   unfolding referencesOf
   the-references = floats-are references (t .of-references) s (cardIn c references .references .at) (references-lie c references) (8 * (length references / 8)) (omega (arith, f .eights))
 
+  the-plain : Plain (written c references) (cardIn c references)
+  the-plain =
+      record {
+        mask = omega (arith, mask-in (c .settings) (floatsBytes (c .palette)) (floatsBytes references) (modulesBytes c) (cellsBytes c), f .mask);
+        palette = λ i h. floats-plain (c .palette) (t .palette) s 48 (palette-lies c references) i (omega (arith, f .palette));
+        of-references = λ i h. floats-plain references (t .of-references) s (cardIn c references .references .at) (references-lie c references) i (omega (arith, f .eights));
+        raw = colours-plain (moduleBytes (c .xs) (c .ys) (c .raw)) (c .raw) (t .raw) (length (c .xs)) s m (modules-lie c references) (module-colours (c .raw) (t .raw) (c .xs) (c .ys));
+        craw = colours-plain (cellBytes (c .cxs) (c .cys) (c .craw)) (c .craw) (t .craw) (length (c .cxs)) s n (cells-lie c references) (cell-colours (c .craw) (t .craw) (c .cxs) (c .cys));
+      }
+
   in-file : sheetOf (cardFile c references) (cardIn c references) ≡ c
   in-file = ap (λ (l : List ℕ). sheetOf l (cardIn c references)) (is-laid-out c references) ∙ the-sheet
 
@@ -608,9 +643,7 @@ module _ (c : Sheet) (references : List Float) (f : Fits c references) (t : Type
   references-in-file = ap (λ (l : List ℕ). referencesOf l (cardIn c references)) (is-laid-out c references) ∙ the-references
 
   text-of-file : cardText (cardFile c references) ≡ fitText c references
-  unfolding cardText
-  text-of-file =
-      read-as (cardFile c references) (opened 5 (cardFile c references) .answer) (cardIn c references) c references (ap (λ (a : Said). a .answer) (opened-as c references f)) in-file references-in-file
+  text-of-file = read-as (cardFile c references) (cardIn c references) c references (opened-as c references f) in-file references-in-file
 
   pub returned : Returned c references
-  returned = record { same-sheet = in-file; same-references = references-in-file; text = text-of-file }
+  returned = record { same-sheet = in-file; same-references = references-in-file; text = text-of-file; plain = rw (is-laid-out c references) the-plain }

@@ -4,6 +4,7 @@ use mathlib.Core.List.{[]}
 use mathlib.Core.Bool.{xor}
 use lib.Ieee.{add, sub, mul, div, neg, lt, le, eq, isNan, round, ofInt, toUnsigned, toBits, ofBits}
 use Rattle.sentences.specs.Sentences.{refusal, decided}
+use Rattle.answers.specs.Answers.{gives}
 use Rattle.loops.specs.Loops.{someOf, anyUp, turns, forUp}
 use Rattle.limits.specs.Limits.{badSide, badHues, badCellSize, badModules, badCounts, badCell}
 use Rattle.limits.specs.Chroma.{chromaOn, halvings, log2, weighted, symbolBits, chromaEntries, chromaLength}
@@ -38,7 +39,6 @@ use Rattle.card.specs.Number.{u16At, u32At, f32At, i16Of, i16At}
 use Rattle.card.specs.File as file
 use Rattle.card.specs.File.{offsetOf, lengthOf, startOf, badDirectory, badPalette, largeSide, malformed, settingsAt, sectionOf, cardOf, opened}
 use Rattle.card.specs.declared.Card.{Card}
-use Rattle.card.specs.declared.Opened.the-variants.{Accepted}
 use Rattle.listing.specs.Text.{row, rows}
 use Rattle.listing.specs.Listing as listing
 use Rattle.listing.specs.Listing.{decimal, signed, hexDigit, hex, scoreEnd, fitLine, lumaLine}
@@ -46,8 +46,9 @@ use Rattle.readout.specs.Reading.{afterSymbols, afterBits, afterUnmasking, read
 use Rattle.reader.specs.File.{listFrom, listOf, sheetOf, referencesOf}
 use Rattle.reader.specs.Fitting.{afterMeasuring, measureText, afterFitting, fitText}
 use Rattle.reader.specs.Text.{cardText}
-use Rattle.promises.specs.CardFile.{u16Bytes, u32Bytes, bitsOf, i16Bytes, f32Bytes, settingsBytes, floatAtBytes, colourBytes, moduleBytes, cellBytes, directory, sections, cardFile, theCase, theText}
-use Rattle.promises.proofs.Written.{read-as}
+use Rattle.cardfile.specs.Writer.{u16Bytes, u32Bytes, bitsOf, i16Bytes, f32Bytes, settingsBytes, floatAtBytes, colourBytes, moduleBytes, cellBytes, directory, sections, cardFile}
+use Rattle.cardfile.specs.Laws.{theCase, theText}
+use Rattle.cardfile.proofs.Written.{read-as}
 
 -- ---- the case
 
@@ -61,7 +62,7 @@ caseCard =
       cells = record { at = 120; count = 0 };
     }
 
-case-opens : opened 5 (cardFile theCase []) .answer ≡ Accepted caseCard
+case-opens : opened 5 (cardFile theCase []) ≡ gives caseCard
 unfolding u16Bytes u32Bytes bitsOf i16Bytes f32Bytes settingsBytes floatAtBytes colourBytes moduleBytes cellBytes directory sections cardFile row rows fraction round toBits opened refusal decided malformed badDirectory badPalette file.badLengths largeSide cardOf settingsAt sectionOf offsetOf lengthOf startOf u16At u32At anyUp someOf
 case-opens = refl
 
@@ -78,5 +79,4 @@ unfolding add sub mul div neg lt le eq round isNan fraction toBits ofBits abs ma
 case-text = refl
 
 pub the-case : cardText (cardFile theCase []) ≡ theText
-unfolding cardText
-the-case = read-as (cardFile theCase []) (opened 5 (cardFile theCase []) .answer) caseCard theCase [] case-opens case-sheet case-references ∙ case-text
+the-case = read-as (cardFile theCase []) caseCard theCase [] case-opens case-sheet case-references ∙ case-text

@@ -1,89 +1,22 @@
--- The card file of document 01, "Card file and listing", as it is written: from a card to the bytes of its file, in the document's words, and what `card` and `reader` read from them. Definitions only.
+-- What `card` and `reader` make of the files that the writer writes, and what the writer makes of the files that they read: document 01's case, every card, every file. Definitions only.
 use mathlib.Core.Path.{_≡_}
 use mathlib.Core.List.{List, [], _∷_, _++_}
-use Prim.Native.Nat.{ℕ, _+_, _-_, _*_, _/_, _%_, _≤_, _<_}
+use Prim.Native.Nat.{ℕ, _+_, _*_, _/_, _%_, _≤_, _<_}
 use lib.Dec.{T}
-use lib.IntN.{ℤ, pos, negsuc}
+use lib.IntN.{pos}
 use lib.Signed.{mag}
 use lib.ListN.{length, getD}
-use lib.Ieee.{Float, nan, binary32, fits, toBits}
+use lib.Ieee.{Float, nan, binary32, fits, isNan}
+use Rattle.answers.specs.Answers.{gives}
 use Rattle.color.specs.Color.{whole}
-use Rattle.card.specs.declared.Settings.{Settings}
+use Rattle.card.specs.Number.{u32At, f32At}
 use Rattle.card.specs.declared.Card.{Card}
-use Rattle.card.specs.declared.Opened.the-variants.{Accepted}
-use Rattle.card.specs.File.{said, opened}
-use Rattle.listing.specs.Text.{row, rows}
+use Rattle.card.specs.File.{opened}
 use Rattle.readout.specs.Sheet.{Sheet}
 use Rattle.reader.specs.File.{sheetOf, referencesOf}
 use Rattle.reader.specs.Fitting.{fitText}
 use Rattle.reader.specs.Text.{cardText}
-
--- ---- numbers: "Little-endian"
-
--- the low byte first
-unfoldable pub u16Bytes : ℕ → List ℕ
-u16Bytes n = n % 256 ∷ n / 256 % 256 ∷ []
-
--- the low half first
-unfoldable pub u32Bytes : ℕ → List ℕ
-u32Bytes n = u16Bytes n ++ u16Bytes (n / 65536)
-
--- the 16 bits of a signed number in two's complement: below zero, 2^16 more
-unfoldable pub bitsOf : ℤ → ℕ
-bitsOf (pos n) = n
-bitsOf (negsuc n) = 65535 - n
-
-unfoldable pub i16Bytes : ℤ → List ℕ
-i16Bytes z = u16Bytes (bitsOf z)
-
--- the bit pattern, for a NaN always 7FC00000
-unfoldable pub f32Bytes : Float → List ℕ
-f32Bytes v = u32Bytes (toBits binary32 v)
-
--- ---- the sections
-
--- "Settings (8 bytes): side u16, version u8, hues u8, cell size u8, mask u8 (low three bits count), grid modules u16."
-unfoldable pub settingsBytes : Settings → List ℕ
-settingsBytes s = u16Bytes (s .side) ++ (s .version ∷ s .hues ∷ s .size ∷ s .mask ∷ u16Bytes (s .grid))
-
--- f32 one after the other: "Palette, f32: two levels, a and b per hue, Lab per colour. References: eight f32 (x, y, observed, nominal)."
-unfoldable pub floatAtBytes : List Float → ℕ → List ℕ
-floatAtBytes l i = f32Bytes (getD l i nan)
-
-abbrev pub floatsBytes : List Float → List ℕ
-floatsBytes l = rows (floatAtBytes l) (length l) 0
-
--- the "three f32" of record i
-unfoldable pub colourBytes : List Float → ℕ → List ℕ
-colourBytes raw i = f32Bytes (getD raw (3 * i) nan) ++ (f32Bytes (getD raw (3 * i + 1) nan) ++ f32Bytes (getD raw (3 * i + 2) nan))
-
--- "Modules: x, y as i16, three f32."
-unfoldable pub moduleBytes : List ℤ → List ℤ → List Float → ℕ → List ℕ
-moduleBytes xs ys raw i = i16Bytes (getD xs i (pos 0)) ++ (i16Bytes (getD ys i (pos 0)) ++ colourBytes raw i)
-
--- "Cells: cx, cy as u16, three f32."
-unfoldable pub cellBytes : List ℕ → List ℕ → List Float → ℕ → List ℕ
-cellBytes cxs cys craw i = u16Bytes (getD cxs i 0) ++ (u16Bytes (getD cys i 0) ++ colourBytes craw i)
-
-abbrev pub modulesBytes : Sheet → List ℕ
-modulesBytes c = rows (moduleBytes (c .xs) (c .ys) (c .raw)) (length (c .xs)) 0
-
-abbrev pub cellsBytes : Sheet → List ℕ
-cellsBytes c = rows (cellBytes (c .cxs) (c .cys) (c .craw)) (length (c .cxs)) 0
-
--- ---- the file
-
--- "pairs of u32 offset and length, sorted by offset", the first section at this place, "each next where the last ended"
-unfoldable pub directory : ℕ → List (List ℕ) → List ℕ
-directory at [] = []
-directory at (section ∷ rest) = u32Bytes at ++ (u32Bytes (length section) ++ directory (at + length section) rest)
-
-unfoldable pub sections : Sheet → List Float → List (List ℕ)
-sections c references = settingsBytes (c .settings) ∷ floatsBytes (c .palette) ∷ floatsBytes references ∷ modulesBytes c ∷ cellsBytes c ∷ []
-
--- "the first starts at 40 .., the fifth ending the file"
-unfoldable pub cardFile : Sheet → List Float → List ℕ
-cardFile c references = directory 40 (sections c references) ++ row (sections c references)
+use Rattle.cardfile.specs.Writer.{cardFile}
 
 -- ---- document 01's case
 
@@ -149,7 +82,7 @@ cardIn c references =
 -- its file is one of bytes, and is accepted, with its settings and its sections where they were written
 pub record Opens (c : Sheet) (references : List Float) : Type 0 where
   pub bytes : (i : ℕ) → getD (cardFile c references) i 0 < 256
-  pub accepted : opened 5 (cardFile c references) ≡ said (Accepted (cardIn c references))
+  pub accepted : opened 5 (cardFile c references) ≡ gives (cardIn c references)
 
 abbrev pub FileOpens : Type 0
 FileOpens = (c : Sheet) (references : List Float) → Fits c references → Opens c references
@@ -165,11 +98,41 @@ pub record Typed (c : Sheet) (references : List Float) : Type 0 where
   pub cys : (i : ℕ) → getD (c .cys) i 0 < 65536
   pub craw : (i : ℕ) → T (fits binary32 (getD (c .craw) i nan))
 
--- what is read from the file is the card, every number being the one that went in, and the file's text is that of the card
+-- ---- which files are written
+
+-- where the f32 at this place is a NaN, it is the one that is written
+abbrev pub NanAsWritten : List ℕ → ℕ → Type 0
+NanAsWritten s p = T (isNan (f32At s p)) → u32At s p ≡ 0x7fc0_0000
+
+-- a file with this card in it that has no bit which reading passes over: of the mask's byte the "low three bits count", and of a NaN's bits none but that it is one
+pub record Plain (s : List ℕ) (card : Card) : Type 0 where
+  pub mask : getD s 45 0 < 8
+  pub palette : (i : ℕ) → i < 2 + 8 * card .settings .hues → NanAsWritten s (card .palette + 4 * i)
+  pub of-references : (i : ℕ) → i < 8 * card .references .count → NanAsWritten s (card .references .at + 4 * i)
+  pub raw : (i r : ℕ) → i < card .modules .count → r < 3 → NanAsWritten s (card .modules .at + 16 * i + 4 + 4 * r)
+  pub craw : (i r : ℕ) → i < card .cells .count → r < 3 → NanAsWritten s (card .cells .at + 16 * i + 4 + 4 * r)
+
+-- ---- what is read from a written file
+
+-- what is read from the file is the card, every number being the one that went in; the file's text is that of the card; and it has no bit that reading passes over
 pub record Returned (c : Sheet) (references : List Float) : Type 0 where
   pub same-sheet : sheetOf (cardFile c references) (cardIn c references) ≡ c
   pub same-references : referencesOf (cardFile c references) (cardIn c references) ≡ references
   pub text : cardText (cardFile c references) ≡ fitText c references
+  pub plain : Plain (cardFile c references) (cardIn c references)
 
 abbrev pub FileReturns : Type 0
 FileReturns = (c : Sheet) (references : List Float) → Fits c references → Typed c references → Returned c references
+
+-- ---- every file
+
+-- what is read from an opened file is a card that a file has room for, its numbers of the types that they are written as. Its own file has the same text, and is the one that was read, byte for
+-- byte, where that one is plain
+pub record Rewritten (s : List ℕ) (card : Card) : Type 0 where
+  pub room : Fits (sheetOf s card) (referencesOf s card)
+  pub typed : Typed (sheetOf s card) (referencesOf s card)
+  pub text : cardText (cardFile (sheetOf s card) (referencesOf s card)) ≡ cardText s
+  pub bytes : Plain s card → cardFile (sheetOf s card) (referencesOf s card) ≡ s
+
+abbrev pub OpenedReturns : Type 0
+OpenedReturns = (s : List ℕ) (card : Card) → ((i : ℕ) → getD s i 0 < 256) → opened 5 s ≡ gives card → Rewritten s card
