@@ -1,11 +1,11 @@
 -- What a call leaves, as its own contract has it, is what its export leaves: the answer is turned into a struct, and the slices are the same.
 -- Assumes nothing.
 use mathlib.Core.Path.{_≡_, refl}
+use mathlib.Core.Bool.{Bool}
 use mathlib.Core.List.{List}
 use Prim.Native.Nat.{ℕ}
 use lib.Ieee.{Float}
 use Rattle.answers.specs.Answers as told
-use Rattle.answers.specs.declared.Number as number
 use Rattle.answers.specs.declared.Outcome as writing
 use Rattle.demod.specs.Call as demod
 use Rattle.math.specs.Gauss as gauss
@@ -15,19 +15,16 @@ use Rattle.modulate.specs.Draw as draw
 use Rattle.modulate.specs.Score as write
 use Rattle.order.specs.Deviation as deviation
 use Rattle.refine.specs.Calls as refine
-use Rattle.math.specs.declared.Outcome as solving
 use Rattle.modulate.specs.declared.Cell as cell
-use Rattle.order.specs.declared.Sigma as sigma
 use Rattle.stats.specs.declared.Noise as noise
 use Rattle.exports.specs.declared.replies.SolveAnswer.{SolveAnswer}
 use Rattle.exports.specs.declared.replies.NoiseAnswer.{NoiseAnswer}
-use Rattle.exports.specs.declared.replies.NumberAnswer.{NumberAnswer}
 use Rattle.exports.specs.declared.replies.FloatAnswer.{FloatAnswer}
-use Rattle.exports.specs.Replies.{solveAnswer, noiseAnswer, sigmaAnswer, numberAnswer, saidAnswer}
+use Rattle.exports.specs.Replies.{solveAnswer, noiseAnswer, floatAnswer}
 use Rattle.exports.specs.Exits.{exit1, exit2, exit3, solveExit, measureExit, scoreExit, refineExit, addRowExit, fittedExit, sigmaExit, writeExit, drawExit}
 
-pub solve-exit : {o : solving.Outcome} {r : SolveAnswer} {a b x : List Float} {f : gauss.Final} →
-    r ≡ solveAnswer o → gauss.final o a b x ≡ f → exit3 r a b x ≡ solveExit f
+pub solve-exit : {s : told.Said Bool} {r : SolveAnswer} {a b x : List Float} {f : gauss.Final} →
+    r ≡ solveAnswer s → gauss.final s a b x ≡ f → exit3 r a b x ≡ solveExit f
 unfolding solveExit
 solve-exit p q = rw (p, ← q)
 
@@ -51,13 +48,13 @@ pub add-row-exit : {o : writing.Outcome} {r : ℕ} {a b : List Float} {f : norma
 unfolding addRowExit
 add-row-exit p q = rw (p, ← q)
 
-pub fitted-exit : {o : solving.Outcome} {r : SolveAnswer} {x : List Float} {f : normal.Fitted} →
-    r ≡ solveAnswer o → normal.fitted o x ≡ f → exit1 r x ≡ fittedExit f
+pub fitted-exit : {s : told.Said Bool} {r : SolveAnswer} {x : List Float} {f : normal.Fitted} →
+    r ≡ solveAnswer s → normal.fitted s x ≡ f → exit1 r x ≡ fittedExit f
 unfolding fittedExit
 fitted-exit p q = rw (p, ← q)
 
-pub sigma-exit : {o : sigma.Sigma} {r : FloatAnswer} {s : List Float} {f : deviation.Final} →
-    r ≡ sigmaAnswer o → deviation.final o s ≡ f → exit1 r s ≡ sigmaExit f
+pub sigma-exit : {s : told.Said Float} {r : FloatAnswer} {l : List Float} {f : deviation.Final} →
+    r ≡ floatAnswer s → deviation.final s l ≡ f → exit1 r l ≡ sigmaExit f
 unfolding sigmaExit
 sigma-exit p q = rw (p, ← q)
 
@@ -75,7 +72,3 @@ pub draw-exit : {o : writing.Outcome} {r : ℕ} {a b : List ℕ} {f : draw.Drawn
     r ≡ told.outcomeNumber o → draw.drawn o a b ≡ f → exit2 r a b ≡ drawExit f
 unfolding drawExit
 draw-exit p q = rw (p, ← q)
-
--- a call that gives a number
-pub said-answer : {o : number.Number} {r : NumberAnswer} {s : told.Said} → r ≡ numberAnswer o → told.said o ≡ s → r ≡ saidAnswer s
-said-answer p q = rw (p, ← q)

@@ -13,7 +13,7 @@ use Rattle.refine.specs.Calls as refine
 use Rattle.exports.specs.declared.replies.SolveAnswer.{SolveAnswer}
 use Rattle.exports.specs.declared.replies.NoiseAnswer.{NoiseAnswer}
 use Rattle.exports.specs.declared.replies.FloatAnswer.{FloatAnswer}
-use Rattle.exports.specs.Replies.{solveAnswer, noiseAnswer, sigmaAnswer}
+use Rattle.exports.specs.Replies.{solveAnswer, noiseAnswer, floatAnswer}
 
 -- an answer, and one, two or three lent slices
 pub record Exit1 (R A : Type 0) : Type 0 where
@@ -42,7 +42,7 @@ exit3 r a b c = record { answer = r; first = a; second = b; third = c }
 
 -- `solve`, `finish`
 unfoldable pub solveExit : gauss.Final → Exit3 SolveAnswer Float Float Float
-solveExit f = exit3 (solveAnswer (f .answer)) (f .a) (f .b) (f .x)
+solveExit f = exit3 (solveAnswer (f .said)) (f .a) (f .b) (f .x)
 
 -- `measure`, `measure_flat`
 unfoldable pub measureExit : measure.Final → Exit1 NoiseAnswer Float
@@ -65,11 +65,11 @@ addRowExit f = exit2 (outcomeNumber (f .answer)) (f .equations .a) (f .equations
 
 -- `least_squares`
 unfoldable pub fittedExit : normal.Fitted → Exit1 SolveAnswer Float
-fittedExit f = exit1 (solveAnswer (f .answer)) (f .x)
+fittedExit f = exit1 (solveAnswer (f .said)) (f .x)
 
 -- `mad_sigma`
 unfoldable pub sigmaExit : deviation.Final → Exit1 FloatAnswer Float
-sigmaExit f = exit1 (sigmaAnswer (f .answer)) (f .scratch)
+sigmaExit f = exit1 (floatAnswer (f .said)) (f .scratch)
 
 -- `chroma_bit_llrs`, `unmask_luma`, `read_list`, `hue_log_likelihoods`
 unfoldable pub writeExit : {A : Type 0} → Ended A → Exit1 ℕ A

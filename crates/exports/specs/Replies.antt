@@ -5,19 +5,11 @@ use mathlib.Core.Option.{Option·getD}
 use Prim.Native.Nat.{ℕ}
 use lib.Ieee.{Float, binary32, ofBits}
 use Rattle.answers.specs.Answers.{Said}
-use Rattle.answers.specs.declared.Number.{Number}
-use Rattle.answers.specs.declared.Number.the-variants as number
 use Rattle.color.specs.declared.Linear.{Linear}
-use Rattle.color.specs.declared.palette.Flag.{Flag}
-use Rattle.color.specs.declared.palette.Flag.the-variants as flag
 use Rattle.illum.specs.declared.Correction.{Correction}
 use Rattle.illum.specs.declared.Correction.the-variants as correction
-use Rattle.math.specs.declared.Outcome.{Outcome}
-use Rattle.math.specs.declared.Outcome.the-variants as solving
 use Rattle.modulate.specs.declared.Cell.{Cell}
 use Rattle.modulate.specs.declared.Cell.the-variants as cell
-use Rattle.order.specs.declared.Sigma.{Sigma}
-use Rattle.order.specs.declared.Sigma.the-variants as sigma
 use Rattle.stats.specs.declared.ChannelStats.{ChannelStats}
 use Rattle.stats.specs.declared.Figure.{Figure}
 use Rattle.stats.specs.declared.Figure.the-variants as figure
@@ -66,14 +58,12 @@ measured n c = record { number = n; noise = c }
 -- ---- each answer
 
 -- a struct of what an answer says: its number, and its value, or v where it gives none
-abbrev pub structOf : {R A : Type 0} → (ℕ → A → R) → A → Said A → R
+unfoldable pub structOf : {R A : Type 0} → (ℕ → A → R) → A → Said A → R
 structOf make v s = make (s .number) (Option·getD (s .value) v)
 
 -- `solve`, `finish`, `least_squares`
-abbrev pub solveAnswer : Outcome → SolveAnswer
-solveAnswer solving.Solved = solution 0 true
-solveAnswer solving.NoSolution = solution 0 false
-solveAnswer (solving.Refused n) = solution n false
+abbrev pub solveAnswer : Said Bool → SolveAnswer
+solveAnswer s = structOf solution false s
 
 -- `correct`
 abbrev pub linearAnswer : Correction → LinearAnswer
@@ -86,9 +76,8 @@ noiseAnswer (noise.Refused n) = measured n noRecord
 noiseAnswer (noise.Record c) = measured 0 c
 
 -- `mad_sigma`
-abbrev pub sigmaAnswer : Sigma → FloatAnswer
-sigmaAnswer (sigma.Value v) = valued 0 v
-sigmaAnswer (sigma.Refused n) = valued n zero
+abbrev pub floatAnswer : Said Float → FloatAnswer
+floatAnswer s = structOf valued zero s
 
 -- `sigma_ab_at`, `luma_llr`, `reliability`
 abbrev pub figureAnswer : Figure → FloatAnswer
@@ -102,17 +91,12 @@ verdictAnswer verdict.Yes = judged 0 true
 verdictAnswer verdict.No = judged 0 false
 
 -- `palette::is_empty`
-abbrev pub flagAnswer : Flag → FlagAnswer
-flagAnswer (flag.Refused n) = judged n false
-flagAnswer (flag.Is b) = judged 0 b
+abbrev pub flagAnswer : Said Bool → FlagAnswer
+flagAnswer s = structOf judged false s
 
--- the calls that give a number: the answer, and what the contracts say of it
-abbrev pub numberAnswer : Number → NumberAnswer
-numberAnswer (number.Refused n) = counted n 0
-numberAnswer (number.Is v) = counted 0 v
-
-abbrev pub saidAnswer : Said → NumberAnswer
-saidAnswer s = numberAnswer (s .answer)
+-- the calls that give a number
+abbrev pub numberAnswer : Said ℕ → NumberAnswer
+numberAnswer s = structOf counted 0 s
 
 -- ---- what goes in as an enum
 

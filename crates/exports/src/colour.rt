@@ -151,7 +151,7 @@ pub extern "C" fn purdolve_lab_to_linear(c: Lab) -> Linear
 // How many colours a palette has: two levels of each hue. Refused: 3.
 #[no_mangle]
 pub extern "C" fn purdolve_palette_len(hues: usize) -> NumberAnswer
-    ensures { λ r. ⌜ r ≡ spec.saidAnswer (palette_spec.len hues) ⌝ }
+    ensures { λ r. ⌜ r ≡ spec.numberAnswer (palette_spec.len hues) ⌝ }
 {
     replies::number_answer(color::palette::len(hues))
 }
@@ -167,7 +167,7 @@ pub extern "C" fn purdolve_palette_is_empty(hues: usize) -> FlagAnswer
 // The place of a colour in the palette by its level and its hue, of which the remainder by `hues` counts. Refused: 3.
 #[no_mangle]
 pub extern "C" fn purdolve_palette_index(light: bool, hue: usize, hues: usize) -> NumberAnswer
-    ensures { λ r. ⌜ r ≡ spec.saidAnswer (palette_spec.index light hue hues) ⌝ }
+    ensures { λ r. ⌜ r ≡ spec.numberAnswer (palette_spec.index light hue hues) ⌝ }
 {
     replies::number_answer(color::palette::index(light, hue, hues))
 }

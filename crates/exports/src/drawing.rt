@@ -33,7 +33,7 @@ pub extern "C" fn purdolve_gray_inverse(g: usize) -> usize
 // The hue state of a chroma symbol. Refused: 3.
 #[no_mangle]
 pub extern "C" fn purdolve_chroma_symbol_to_hue(symbol: usize, hues: usize) -> NumberAnswer
-    ensures { λ r. ⌜ r ≡ spec.saidAnswer (told.answered (told.huesOnly hues) (gray_code.chromaSymbolToHue symbol hues)) ⌝ }
+    ensures { λ r. ⌜ r ≡ spec.numberAnswer (told.answered (told.huesOnly hues) (gray_code.chromaSymbolToHue symbol hues)) ⌝ }
 {
     replies::number_answer(modulate::chroma_symbol_to_hue(symbol, hues))
 }
@@ -41,7 +41,7 @@ pub extern "C" fn purdolve_chroma_symbol_to_hue(symbol: usize, hues: usize) -> N
 // The chroma symbol of a hue state. Refused: 3.
 #[no_mangle]
 pub extern "C" fn purdolve_hue_to_chroma_symbol(hue: usize, hues: usize) -> NumberAnswer
-    ensures { λ r. ⌜ r ≡ spec.saidAnswer (told.answered (told.huesOnly hues) (gray_code.hueToChromaSymbol hue hues)) ⌝ }
+    ensures { λ r. ⌜ r ≡ spec.numberAnswer (told.answered (told.huesOnly hues) (gray_code.hueToChromaSymbol hue hues)) ⌝ }
 {
     replies::number_answer(modulate::hue_to_chroma_symbol(hue, hues))
 }
@@ -57,7 +57,7 @@ pub extern "C" fn purdolve_luma_mask(id: u8, x: u16, y: u16) -> bool
 // By how many hues the cell (cx, cy) is rotated. Refused: 3, 7.
 #[no_mangle]
 pub extern "C" fn purdolve_chroma_rotation(cx: u16, cy: u16, hues: usize) -> NumberAnswer
-    ensures { λ r. ⌜ r ≡ spec.saidAnswer (told.answered (told.huesAndCell hues cx cy) (masks.chromaRotation cx cy hues)) ⌝ }
+    ensures { λ r. ⌜ r ≡ spec.numberAnswer (told.answered (told.huesAndCell hues cx cy) (masks.chromaRotation cx cy hues)) ⌝ }
 {
     replies::number_answer(modulate::chroma_rotation(cx, cy, hues))
 }
@@ -70,7 +70,7 @@ pub extern "C" fn purdolve_chroma_mask_apply(
     cy: u16,
     hues: usize,
 ) -> NumberAnswer
-    ensures { λ r. ⌜ r ≡ spec.saidAnswer (told.answered (told.huesAndCell hues cx cy) (masks.chromaMaskApply hue cx cy hues)) ⌝ }
+    ensures { λ r. ⌜ r ≡ spec.numberAnswer (told.answered (told.huesAndCell hues cx cy) (masks.chromaMaskApply hue cx cy hues)) ⌝ }
 {
     replies::number_answer(modulate::chroma_mask_apply(hue, cx, cy, hues))
 }
@@ -83,7 +83,7 @@ pub extern "C" fn purdolve_chroma_mask_remove(
     cy: u16,
     hues: usize,
 ) -> NumberAnswer
-    ensures { λ r. ⌜ r ≡ spec.saidAnswer (told.answered (told.huesAndCell hues cx cy) (masks.chromaMaskRemove hue cx cy hues)) ⌝ }
+    ensures { λ r. ⌜ r ≡ spec.numberAnswer (told.answered (told.huesAndCell hues cx cy) (masks.chromaMaskRemove hue cx cy hues)) ⌝ }
 {
     replies::number_answer(modulate::chroma_mask_remove(hue, cx, cy, hues))
 }
@@ -161,7 +161,7 @@ pub extern "C" fn purdolve_ring_level(bit: u8) -> u8
 // The symbol of the first log2(hues) bits, high bit first. Refused: 3, 5.
 #[no_mangle]
 pub extern "C" fn purdolve_symbol_of_bits(bits: &[u8], hues: usize) -> NumberAnswer
-    ensures { λ r. ⌜ r ≡ spec.saidAnswer (told.answered (drawing_spec.symbolSentences (now (bits .entry)) hues) (drawing_spec.symbolAt (now (bits .entry)) 0 (symbols.log2 hues))) ⌝ }
+    ensures { λ r. ⌜ r ≡ spec.numberAnswer (told.answered (drawing_spec.symbolSentences (now (bits .entry)) hues) (drawing_spec.symbolAt (now (bits .entry)) 0 (symbols.log2 hues))) ⌝ }
 {
     replies::number_answer(modulate::symbol_of_bits(bits, hues))
 }
@@ -169,7 +169,7 @@ pub extern "C" fn purdolve_symbol_of_bits(bits: &[u8], hues: usize) -> NumberAns
 // The hue that the cell (cx, cy) is drawn in for its symbol. Refused: 3, 7.
 #[no_mangle]
 pub extern "C" fn purdolve_cell_hue(symbol: usize, cx: u16, cy: u16, hues: usize) -> NumberAnswer
-    ensures { λ r. ⌜ r ≡ spec.saidAnswer (told.answered (told.huesAndCell hues cx cy) (drawing_spec.cellHue symbol cx cy hues)) ⌝ }
+    ensures { λ r. ⌜ r ≡ spec.numberAnswer (told.answered (told.huesAndCell hues cx cy) (drawing_spec.cellHue symbol cx cy hues)) ⌝ }
 {
     replies::number_answer(modulate::cell_hue(symbol, cx, cy, hues))
 }
@@ -177,7 +177,7 @@ pub extern "C" fn purdolve_cell_hue(symbol: usize, cx: u16, cy: u16, hues: usize
 // The hue that a ring module is drawn in for its symbol: no mask lies on it. Refused: 3.
 #[no_mangle]
 pub extern "C" fn purdolve_ring_hue(symbol: usize, hues: usize) -> NumberAnswer
-    ensures { λ r. ⌜ r ≡ spec.saidAnswer (told.answered (told.huesOnly hues) (drawing_spec.ringHue symbol hues)) ⌝ }
+    ensures { λ r. ⌜ r ≡ spec.numberAnswer (told.answered (told.huesOnly hues) (drawing_spec.ringHue symbol hues)) ⌝ }
 {
     replies::number_answer(modulate::ring_hue(symbol, hues))
 }

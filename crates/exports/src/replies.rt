@@ -1,12 +1,16 @@
 // What calls answer that answer an enum, as structs that C can take: document 01's number, 0 where the call is accepted, and
 // the values.
 ghost use mathlib.Core.Path.{_≡_};
+ghost use Rattle.answers.specs.Answers.{said};
+ghost use Rattle.color.specs.Palette.{flagSaid};
+ghost use Rattle.math.specs.Gauss.{solvingSaid};
+ghost use Rattle.order.specs.Deviation.{sigmaSaid};
 ghost use Rattle.exports.specs.Replies as spec;
 use answers::Number;
 use color::Linear;
 use color::palette::Flag;
 use illum::Correction;
-use math::Outcome;
+use math::Solving;
 use modulate::Cell;
 use order::Sigma;
 use stats::ChannelStats;
@@ -57,19 +61,19 @@ pub struct NoiseAnswer {
 }
 
 // Of `solve`, `finish` and `least_squares`.
-pub fn solve_answer(o: Outcome) -> SolveAnswer
-    ensures { λ r. ⌜ r ≡ spec.solveAnswer o ⌝ }
+pub fn solve_answer(o: Solving) -> SolveAnswer
+    ensures { λ r. ⌜ r ≡ spec.solveAnswer (solvingSaid o) ⌝ }
 {
     match o {
-        Outcome::Solved => SolveAnswer {
+        Solving::Solved => SolveAnswer {
             number: 0,
             solved: true,
         },
-        Outcome::NoSolution => SolveAnswer {
+        Solving::NoSolution => SolveAnswer {
             number: 0,
             solved: false,
         },
-        Outcome::Refused(n) => SolveAnswer {
+        Solving::Refused(n) => SolveAnswer {
             number: n,
             solved: false,
         },
@@ -122,7 +126,7 @@ pub fn noise_answer(o: Noise) -> NoiseAnswer
 
 // Of `mad_sigma`.
 pub fn sigma_answer(o: Sigma) -> FloatAnswer
-    ensures { λ r. ⌜ r ≡ spec.sigmaAnswer o ⌝ }
+    ensures { λ r. ⌜ r ≡ spec.floatAnswer (sigmaSaid o) ⌝ }
 {
     match o {
         Sigma::Value(v) => FloatAnswer {
@@ -174,7 +178,7 @@ pub fn verdict_answer(o: Verdict) -> FlagAnswer
 
 // Of `palette::is_empty`.
 pub fn flag_answer(o: Flag) -> FlagAnswer
-    ensures { λ r. ⌜ r ≡ spec.flagAnswer o ⌝ }
+    ensures { λ r. ⌜ r ≡ spec.flagAnswer (flagSaid o) ⌝ }
 {
     match o {
         Flag::Refused(n) => FlagAnswer {
@@ -187,7 +191,7 @@ pub fn flag_answer(o: Flag) -> FlagAnswer
 
 // Of the calls that give a number.
 pub fn number_answer(o: Number) -> NumberAnswer
-    ensures { λ r. ⌜ r ≡ spec.numberAnswer o ⌝ }
+    ensures { λ r. ⌜ r ≡ spec.numberAnswer (said o) ⌝ }
 {
     match o {
         Number::Refused(n) => NumberAnswer {

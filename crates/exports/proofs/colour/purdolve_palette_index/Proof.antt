@@ -1,11 +1,10 @@
 -- `exports::colour::purdolve_palette_index` meets its contract: it is `color::palette::index`, its answer turned for C. Assumes nothing.
 use borrow.Author.Needs.{needs}
-use Rattle.exports.proofs.Laws.{said-answer}
 use Rattle.exports.proofs.colour.purdolve_palette_index.Statement.{statement}
 use Rattle.exports.proofs.colour.purdolve_palette_index.Tie as tie
 
 returns : tie.Need-returns
-returns c = search (said-answer)
+returns c = cc
 
 pub purdolve-palette-index-spec : {M : Type 1} → statement M
 purdolve-palette-index-spec =

@@ -1,11 +1,10 @@
 -- `exports::drawing::purdolve_cell_hue` meets its contract: it is `modulate::cell_hue`, its answer turned for C. Assumes nothing.
 use borrow.Author.Needs.{needs}
-use Rattle.exports.proofs.Laws.{said-answer}
 use Rattle.exports.proofs.drawing.purdolve_cell_hue.Statement.{statement}
 use Rattle.exports.proofs.drawing.purdolve_cell_hue.Tie as tie
 
 returns : tie.Need-returns
-returns c = search (said-answer)
+returns c = cc
 
 pub purdolve-cell-hue-spec : {M : Type 1} → statement M
 purdolve-cell-hue-spec =

@@ -1,11 +1,10 @@
 -- `exports::drawing::purdolve_chroma_mask_apply` meets its contract: it is `modulate::chroma_mask_apply`, its answer turned for C. Assumes nothing.
 use borrow.Author.Needs.{needs}
-use Rattle.exports.proofs.Laws.{said-answer}
 use Rattle.exports.proofs.drawing.purdolve_chroma_mask_apply.Statement.{statement}
 use Rattle.exports.proofs.drawing.purdolve_chroma_mask_apply.Tie as tie
 
 returns : tie.Need-returns
-returns c = search (said-answer)
+returns c = cc
 
 pub purdolve-chroma-mask-apply-spec : {M : Type 1} → statement M
 purdolve-chroma-mask-apply-spec =

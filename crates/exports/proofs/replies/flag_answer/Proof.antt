@@ -5,14 +5,17 @@ use mathlib.Core.Bool.{Bool, false}
 use Prim.Native.Nat.{ℕ}
 use Rattle.color.specs.declared.palette.Flag.{Flag}
 use Rattle.color.specs.declared.palette.Flag.the-variants.{Refused, Is}
-use Rattle.exports.specs.Replies.{judged, flagAnswer}
+use Rattle.color.specs.Palette.{flagSaid}
+use Rattle.exports.specs.Replies.{structOf, judged, flagAnswer}
 use Rattle.exports.proofs.replies.flag_answer.Statement.{statement}
 use Rattle.exports.proofs.replies.flag_answer.Tie as tie
 
-refused : {o : Flag} {n : ℕ} → o ≡ Refused n → judged n false ≡ flagAnswer o
+refused : {o : Flag} {n : ℕ} → o ≡ Refused n → judged n false ≡ flagAnswer (flagSaid o)
+unfolding structOf
 refused e = rw e
 
-known : {o : Flag} {b : Bool} → o ≡ Is b → judged 0 b ≡ flagAnswer o
+known : {o : Flag} {b : Bool} → o ≡ Is b → judged 0 b ≡ flagAnswer (flagSaid o)
+unfolding structOf
 known e = rw e
 
 returns : tie.Need-returns

@@ -4,14 +4,17 @@ use borrow.Author.Needs.{needs}
 use Prim.Native.Nat.{ℕ}
 use Rattle.answers.specs.declared.Number.{Number}
 use Rattle.answers.specs.declared.Number.the-variants.{Refused, Is}
-use Rattle.exports.specs.Replies.{counted, numberAnswer}
+use Rattle.answers.specs.Answers.{said}
+use Rattle.exports.specs.Replies.{structOf, counted, numberAnswer}
 use Rattle.exports.proofs.replies.number_answer.Statement.{statement}
 use Rattle.exports.proofs.replies.number_answer.Tie as tie
 
-refused : {o : Number} {n : ℕ} → o ≡ Refused n → counted n 0 ≡ numberAnswer o
+refused : {o : Number} {n : ℕ} → o ≡ Refused n → counted n 0 ≡ numberAnswer (said o)
+unfolding structOf
 refused e = rw e
 
-known : {o : Number} {v : ℕ} → o ≡ Is v → counted 0 v ≡ numberAnswer o
+known : {o : Number} {v : ℕ} → o ≡ Is v → counted 0 v ≡ numberAnswer (said o)
+unfolding structOf
 known e = rw e
 
 returns : tie.Need-returns

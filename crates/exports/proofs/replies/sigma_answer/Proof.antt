@@ -5,14 +5,17 @@ use Prim.Native.Nat.{ℕ}
 use lib.Ieee.{Float}
 use Rattle.order.specs.declared.Sigma.{Sigma}
 use Rattle.order.specs.declared.Sigma.the-variants.{Value, Refused}
-use Rattle.exports.specs.Replies.{zero, valued, sigmaAnswer}
+use Rattle.order.specs.Deviation.{sigmaSaid}
+use Rattle.exports.specs.Replies.{zero, structOf, valued, floatAnswer}
 use Rattle.exports.proofs.replies.sigma_answer.Statement.{statement}
 use Rattle.exports.proofs.replies.sigma_answer.Tie as tie
 
-known : {o : Sigma} {v : Float} → o ≡ Value v → valued 0 v ≡ sigmaAnswer o
+known : {o : Sigma} {v : Float} → o ≡ Value v → valued 0 v ≡ floatAnswer (sigmaSaid o)
+unfolding structOf
 known e = rw e
 
-refused : {o : Sigma} {n : ℕ} → o ≡ Refused n → valued n zero ≡ sigmaAnswer o
+refused : {o : Sigma} {n : ℕ} → o ≡ Refused n → valued n zero ≡ floatAnswer (sigmaSaid o)
+unfolding structOf
 refused e = rw e
 
 returns : tie.Need-returns

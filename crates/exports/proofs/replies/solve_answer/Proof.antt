@@ -3,19 +3,23 @@ use mathlib.Core.Path.{_≡_}
 use borrow.Author.Needs.{needs}
 use mathlib.Core.Bool.{true, false}
 use Prim.Native.Nat.{ℕ}
-use Rattle.math.specs.declared.Outcome.{Outcome}
-use Rattle.math.specs.declared.Outcome.the-variants.{Solved, NoSolution, Refused}
-use Rattle.exports.specs.Replies.{solution, solveAnswer}
+use Rattle.math.specs.declared.Solving.{Solving}
+use Rattle.math.specs.declared.Solving.the-variants.{Solved, NoSolution, Refused}
+use Rattle.math.specs.Gauss.{solvingSaid}
+use Rattle.exports.specs.Replies.{structOf, solution, solveAnswer}
 use Rattle.exports.proofs.replies.solve_answer.Statement.{statement}
 use Rattle.exports.proofs.replies.solve_answer.Tie as tie
 
-solved : {o : Outcome} → o ≡ Solved → solution 0 true ≡ solveAnswer o
+solved : {o : Solving} → o ≡ Solved → solution 0 true ≡ solveAnswer (solvingSaid o)
+unfolding structOf
 solved e = rw e
 
-none : {o : Outcome} → o ≡ NoSolution → solution 0 false ≡ solveAnswer o
+none : {o : Solving} → o ≡ NoSolution → solution 0 false ≡ solveAnswer (solvingSaid o)
+unfolding structOf
 none e = rw e
 
-refused : {o : Outcome} {n : ℕ} → o ≡ Refused n → solution n false ≡ solveAnswer o
+refused : {o : Solving} {n : ℕ} → o ≡ Refused n → solution n false ≡ solveAnswer (solvingSaid o)
+unfolding structOf
 refused e = rw e
 
 returns : tie.Need-returns
