@@ -16,7 +16,7 @@ use Rattle.modulate.specs.Score as write
 use Rattle.order.specs.Deviation as deviation
 use Rattle.refine.specs.Calls as refine
 use Rattle.modulate.specs.declared.Cell as cell
-use Rattle.stats.specs.declared.Noise as noise
+use Rattle.stats.specs.declared.ChannelStats.{ChannelStats}
 use Rattle.exports.specs.declared.replies.SolveAnswer.{SolveAnswer}
 use Rattle.exports.specs.declared.replies.NoiseAnswer.{NoiseAnswer}
 use Rattle.exports.specs.declared.replies.FloatAnswer.{FloatAnswer}
@@ -28,8 +28,8 @@ pub solve-exit : {s : told.Said Bool} {r : SolveAnswer} {a b x : List Float} {f 
 unfolding solveExit
 solve-exit p q = rw (p, ← q)
 
-pub measure-exit : {o : noise.Noise} {r : NoiseAnswer} {s : List Float} {f : measure.Final} →
-    r ≡ noiseAnswer o → measure.final o s ≡ f → exit1 r s ≡ measureExit f
+pub measure-exit : {s : told.Said ChannelStats} {r : NoiseAnswer} {l : List Float} {f : measure.Final} →
+    r ≡ noiseAnswer s → measure.final s l ≡ f → exit1 r l ≡ measureExit f
 unfolding measureExit
 measure-exit p q = rw (p, ← q)
 

@@ -2,7 +2,7 @@
 use mathlib.Core.List.{List}
 use Prim.Native.Nat.{ℕ}
 use lib.Ieee.{Float}
-use Rattle.answers.specs.Answers.{Ended, outcomeNumber}
+use Rattle.answers.specs.Answers.{Ended}
 use Rattle.demod.specs.Call as demod
 use Rattle.math.specs.Gauss as gauss
 use Rattle.math.specs.Normal as normal
@@ -46,22 +46,22 @@ solveExit f = exit3 (solveAnswer (f .said)) (f .a) (f .b) (f .x)
 
 -- `measure`, `measure_flat`
 unfoldable pub measureExit : measure.Final → Exit1 NoiseAnswer Float
-measureExit f = exit1 (noiseAnswer (f .answer)) (f .scratch)
+measureExit f = exit1 (noiseAnswer (f .said)) (f .scratch)
 
 -- `score`
 unfoldable pub scoreExit : demod.Final → Exit3 ℕ Float Float Float
-scoreExit f = exit3 (outcomeNumber (f .answer)) (f .luma) (f .colours) (f .chroma)
+scoreExit f = exit3 (f .number) (f .luma) (f .colours) (f .chroma)
 
 abbrev pub scored : demod.Request → Exit3 ℕ Float Float Float
 scored q = scoreExit (demod.scoredOf q)
 
 -- `add_local_luma`
 unfoldable pub refineExit : refine.Final → Exit2 ℕ Float Float
-refineExit f = exit2 (outcomeNumber (f .answer)) (f .luma) (f .scratch)
+refineExit f = exit2 (f .number) (f .luma) (f .scratch)
 
 -- `add_row`
 unfoldable pub addRowExit : normal.Grown → Exit2 ℕ Float Float
-addRowExit f = exit2 (outcomeNumber (f .answer)) (f .equations .a) (f .equations .b)
+addRowExit f = exit2 (f .number) (f .equations .a) (f .equations .b)
 
 -- `least_squares`
 unfoldable pub fittedExit : normal.Fitted → Exit1 SolveAnswer Float
@@ -73,8 +73,8 @@ sigmaExit f = exit1 (floatAnswer (f .said)) (f .scratch)
 
 -- `chroma_bit_llrs`, `unmask_luma`, `read_list`, `hue_log_likelihoods`
 unfoldable pub writeExit : {A : Type 0} → Ended A → Exit1 ℕ A
-writeExit f = exit1 (outcomeNumber (f .answer)) (f .list)
+writeExit f = exit1 (f .number) (f .list)
 
 -- `draw`
 unfoldable pub drawExit : draw.Drawn → Exit2 ℕ ℕ ℕ
-drawExit f = exit2 (outcomeNumber (f .answer)) (f .levels) (f .hues)
+drawExit f = exit2 (f .number) (f .levels) (f .hues)

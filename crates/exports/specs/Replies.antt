@@ -6,17 +6,9 @@ use Prim.Native.Nat.{ℕ}
 use lib.Ieee.{Float, binary32, ofBits}
 use Rattle.answers.specs.Answers.{Said}
 use Rattle.color.specs.declared.Linear.{Linear}
-use Rattle.illum.specs.declared.Correction.{Correction}
-use Rattle.illum.specs.declared.Correction.the-variants as correction
 use Rattle.modulate.specs.declared.Cell.{Cell}
 use Rattle.modulate.specs.declared.Cell.the-variants as cell
 use Rattle.stats.specs.declared.ChannelStats.{ChannelStats}
-use Rattle.stats.specs.declared.Figure.{Figure}
-use Rattle.stats.specs.declared.Figure.the-variants as figure
-use Rattle.stats.specs.declared.Noise.{Noise}
-use Rattle.stats.specs.declared.Noise.the-variants as noise
-use Rattle.stats.specs.declared.Verdict.{Verdict}
-use Rattle.stats.specs.declared.Verdict.the-variants as verdict
 use Rattle.exports.specs.declared.replies.SolveAnswer.{SolveAnswer}
 use Rattle.exports.specs.declared.replies.NumberAnswer.{NumberAnswer}
 use Rattle.exports.specs.declared.replies.FlagAnswer.{FlagAnswer}
@@ -66,31 +58,18 @@ abbrev pub solveAnswer : Said Bool → SolveAnswer
 solveAnswer s = structOf solution false s
 
 -- `correct`
-abbrev pub linearAnswer : Correction → LinearAnswer
-linearAnswer (correction.Refused n) = corrected n noColour
-linearAnswer (correction.Corrected c) = corrected 0 c
+abbrev pub linearAnswer : Said Linear → LinearAnswer
+linearAnswer s = structOf corrected noColour s
 
 -- `measure`, `measure_flat`, `nominal`
-abbrev pub noiseAnswer : Noise → NoiseAnswer
-noiseAnswer (noise.Refused n) = measured n noRecord
-noiseAnswer (noise.Record c) = measured 0 c
+abbrev pub noiseAnswer : Said ChannelStats → NoiseAnswer
+noiseAnswer s = structOf measured noRecord s
 
--- `mad_sigma`
+-- `mad_sigma`, `sigma_ab_at`, `luma_llr`, `reliability`
 abbrev pub floatAnswer : Said Float → FloatAnswer
 floatAnswer s = structOf valued zero s
 
--- `sigma_ab_at`, `luma_llr`, `reliability`
-abbrev pub figureAnswer : Figure → FloatAnswer
-figureAnswer (figure.Refused n) = valued n zero
-figureAnswer (figure.Value v) = valued 0 v
-
--- `margin`
-abbrev pub verdictAnswer : Verdict → FlagAnswer
-verdictAnswer (verdict.Refused n) = judged n false
-verdictAnswer verdict.Yes = judged 0 true
-verdictAnswer verdict.No = judged 0 false
-
--- `palette::is_empty`
+-- `margin`, `palette::is_empty`
 abbrev pub flagAnswer : Said Bool → FlagAnswer
 flagAnswer s = structOf judged false s
 

@@ -3,8 +3,10 @@
 ghost use mathlib.Core.Path.{_≡_};
 ghost use Rattle.answers.specs.Answers.{said};
 ghost use Rattle.color.specs.Palette.{flagSaid};
+ghost use Rattle.illum.specs.Refusals.{correctionSaid};
 ghost use Rattle.math.specs.Gauss.{solvingSaid};
 ghost use Rattle.order.specs.Deviation.{sigmaSaid};
+ghost use Rattle.stats.specs.Calls.{figureSaid, noiseSaid, verdictSaid};
 ghost use Rattle.exports.specs.Replies as spec;
 use answers::Number;
 use color::Linear;
@@ -82,7 +84,7 @@ pub fn solve_answer(o: Solving) -> SolveAnswer
 
 // Of `correct`.
 pub fn linear_answer(o: Correction) -> LinearAnswer
-    ensures { λ r. ⌜ r ≡ spec.linearAnswer o ⌝ }
+    ensures { λ r. ⌜ r ≡ spec.linearAnswer (correctionSaid o) ⌝ }
 {
     match o {
         Correction::Refused(n) => LinearAnswer {
@@ -102,7 +104,7 @@ pub fn linear_answer(o: Correction) -> LinearAnswer
 
 // Of `measure`, `measure_flat` and `nominal`.
 pub fn noise_answer(o: Noise) -> NoiseAnswer
-    ensures { λ r. ⌜ r ≡ spec.noiseAnswer o ⌝ }
+    ensures { λ r. ⌜ r ≡ spec.noiseAnswer (noiseSaid o) ⌝ }
 {
     match o {
         Noise::Refused(n) => NoiseAnswer {
@@ -142,7 +144,7 @@ pub fn sigma_answer(o: Sigma) -> FloatAnswer
 
 // Of `sigma_ab_at`, `luma_llr` and `reliability`.
 pub fn figure_answer(o: Figure) -> FloatAnswer
-    ensures { λ r. ⌜ r ≡ spec.figureAnswer o ⌝ }
+    ensures { λ r. ⌜ r ≡ spec.floatAnswer (figureSaid o) ⌝ }
 {
     match o {
         Figure::Refused(n) => FloatAnswer {
@@ -158,7 +160,7 @@ pub fn figure_answer(o: Figure) -> FloatAnswer
 
 // Of `margin`.
 pub fn verdict_answer(o: Verdict) -> FlagAnswer
-    ensures { λ r. ⌜ r ≡ spec.verdictAnswer o ⌝ }
+    ensures { λ r. ⌜ r ≡ spec.flagAnswer (verdictSaid o) ⌝ }
 {
     match o {
         Verdict::Refused(n) => FlagAnswer {

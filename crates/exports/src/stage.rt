@@ -190,7 +190,7 @@ pub extern "C" fn purdolve_nominal(palette: &[f32], hues: usize) -> NoiseAnswer
 // The chroma noise at lightness l. Refused: 8, 9.
 #[no_mangle]
 pub extern "C" fn purdolve_sigma_ab_at(noise: ChannelStats, l: f32) -> FloatAnswer
-    ensures { λ r. ⌜ r ≡ spec.figureAnswer (stats_call.sigmaAbAnswer noise l) ⌝ }
+    ensures { λ r. ⌜ r ≡ spec.floatAnswer (stats_call.sigmaAbAnswer noise l) ⌝ }
 {
     replies::figure_answer(noise.sigma_ab_at(l))
 }
@@ -198,7 +198,7 @@ pub extern "C" fn purdolve_sigma_ab_at(noise: ChannelStats, l: f32) -> FloatAnsw
 // The log-likelihood ratio of a luma sample, positive for dark. Refused: 8, 9.
 #[no_mangle]
 pub extern "C" fn purdolve_luma_llr(noise: ChannelStats, l: f32) -> FloatAnswer
-    ensures { λ r. ⌜ r ≡ spec.figureAnswer (stats_call.lumaLlrAnswer noise l) ⌝ }
+    ensures { λ r. ⌜ r ≡ spec.floatAnswer (stats_call.lumaLlrAnswer noise l) ⌝ }
 {
     replies::figure_answer(noise.luma_llr(l))
 }
@@ -211,7 +211,7 @@ pub extern "C" fn purdolve_reliability(
     palette: &[f32],
     hues: usize,
 ) -> FloatAnswer
-    ensures { λ r. ⌜ r ≡ spec.figureAnswer (stats_call.reliabilityAnswer noise sample (now (palette .entry)) hues) ⌝ }
+    ensures { λ r. ⌜ r ≡ spec.floatAnswer (stats_call.reliabilityAnswer noise sample (now (palette .entry)) hues) ⌝ }
 {
     replies::figure_answer(noise.reliability(sample, palette, hues))
 }
@@ -234,7 +234,7 @@ pub extern "C" fn purdolve_hue_log_likelihoods(
 // The margin check. Refused: 3, 5, 8, 9.
 #[no_mangle]
 pub extern "C" fn purdolve_margin(noise: ChannelStats, palette: &[f32], hues: usize) -> FlagAnswer
-    ensures { λ r. ⌜ r ≡ spec.verdictAnswer (stats_call.marginAnswer noise (now (palette .entry)) hues) ⌝ }
+    ensures { λ r. ⌜ r ≡ spec.flagAnswer (stats_call.marginAnswer noise (now (palette .entry)) hues) ⌝ }
 {
     replies::verdict_answer(stats::margin(noise, palette, hues))
 }

@@ -5,6 +5,7 @@
 ghost use mathlib.Core.Path.{_≡_};
 ghost use Rattle.fit.specs.Fit as fitting;
 ghost use Rattle.measure.specs.Measure as measuring;
+ghost use Rattle.stats.specs.Calls.{noiseSaid};
 ghost use Rattle.records.specs.Records.{flattened};
 use illum::IlluminationModel;
 use illum::Modelled;
@@ -31,7 +32,7 @@ fn measure_eight(
     hues: usize,
     scratch: &mut [f32],
 ) -> Noise
-    ensures { λ r. ⌜ measuring.final r (now (scratch .exit)) ≡ measuring.measureOf (measuring.flatRequest (flattened rs) side model (now (palette .entry)) hues (now (scratch .entry))) ⌝ }
+    ensures { λ r. ⌜ measuring.final (noiseSaid r) (now (scratch .exit)) ≡ measuring.measureOf (measuring.flatRequest (flattened rs) side model (now (palette .entry)) hues (now (scratch .entry))) ⌝ }
 {
     records::measure(&rs, side, model, palette, hues, scratch)
 }

@@ -49,6 +49,7 @@ use denote.Triple.Walked.{says, Stays, stay-none, stay-none-slice, gave-slice, w
 use denote.Exit.{yes}
 use Rattle.illum.specs.declared.IlluminationModel.{IlluminationModel}
 use Rattle.stats.specs.declared.Noise.{Noise}
+use Rattle.stats.specs.Calls.{noiseSaid}
 use Rattle.measure.specs.Measure as measuring
 use Rattle.measure.specs.Measure.{measureOf}
 use Rattle.records.specs.declared.Reference.{Reference}
@@ -124,7 +125,7 @@ module _ {M : Type 1} (𝓤 : URA M) (H : Heap 𝓤) (A : Atoms 𝓤) (W : Given
   Called = Record 𝓤 H A mem run
 
   abbrev Says : Noise → List Float → Type 0
-  Says r ss′ = measuring.final r ss′ ≡ measureOf (measuring.flatRequest (flattened xs) side model ps hues ss)
+  Says r ss′ = measuring.final (noiseSaid r) ss′ ≡ measureOf (measuring.flatRequest (flattened xs) side model ps hues ss)
 
   module _ (g : Is Eight xs (v ∷ [])) (side-fits : side < 2 ^ 64) (model-is : Is P.the-row model (mv ∷ [])) (p-room : Room f32 (length ps)) (hues-fits : hues < 2 ^ 64) (s-room : Room f32 (length ss)) where
     exits : (r : Noise) (u : Val) (ss′ : List Float) → Says r ss′ → length ss′ ≡ length ss → ent 𝓤 (⋆ 𝓤 H A ((‵ (flft κ₀ q₀) ⊛ (‵ (flft κ₁ q₁) ⊛ ‵ ftrue)) ∷ ‵ Palette ∷ ‵ (finally f32 σ ss′) ∷ ‵ (S.the-row .own r (u ∷ [])) ∷ [])) (Post u)

@@ -40,6 +40,7 @@ use denote.Triple.Walked.{says, Stays, stay-none, stay-none-slice, gave-slice, w
 use denote.Exit.{yes}
 use Rattle.illum.specs.declared.IlluminationModel.{IlluminationModel}
 use Rattle.stats.specs.declared.Noise.{Noise}
+use Rattle.stats.specs.Calls.{noiseSaid}
 use Rattle.measure.specs.Measure as measuring
 use Rattle.records.specs.declared.Reference.{Reference}
 use Rattle.records.specs.Records.{flattened}
@@ -130,7 +131,7 @@ module _ {M : Type 1} (𝓤 : URA M) (H : Heap 𝓤) (A : Atoms 𝓤) (W : Given
 
   -- what `records::measure` says
   abbrev Says : Noise → List Float → Type 0
-  Says n ss′ = measuring.final n ss′ ≡ measured
+  Says n ss′ = measuring.final (noiseSaid n) ss′ ≡ measured
 
   -- what the triples of the calls bind outside
   abbrev to-called : Called .Ghost
@@ -146,8 +147,8 @@ module _ {M : Type 1} (𝓤 : URA M) (H : Heap 𝓤) (A : Atoms 𝓤) (W : Given
   abbrev said-answer : Noise → NoiseAnswer → SProp 𝓤
   said-answer n r = ensured 𝓤 H A answer.ended (answer.clauses 𝓤 H A mem′ run) tt (n, tt) tt r
 
-  answer-said : (n : Noise) (r : NoiseAnswer) → ent 𝓤 (said-answer n r) (fact 𝓤 (r ≡ noiseAnswer n))
-  answer-said n r = exE 𝓤 _ (λ ws. snd∗ 𝓤 (sem 𝓤 H A (lasts answer.ended tt (n, tt) ws)) (fact 𝓤 (r ≡ noiseAnswer n)))
+  answer-said : (n : Noise) (r : NoiseAnswer) → ent 𝓤 (said-answer n r) (fact 𝓤 (r ≡ noiseAnswer (noiseSaid n)))
+  answer-said n r = exE 𝓤 _ (λ ws. snd∗ 𝓤 (sem 𝓤 H A (lasts answer.ended tt (n, tt) ws)) (fact 𝓤 (r ≡ noiseAnswer (noiseSaid n))))
 
   module _ (room : Room R.the-row (length ys)) (side-fits : side < 2 ^ 64) (model-is : Is P.the-row model (mv ∷ [])) (p-room : Room f32 (length ps)) (hues-fits : hues < 2 ^ 64) (s-room : Room f32 (length ss)) where
     exits : (r : NoiseAnswer) (u : Val) (ss′ : List Float) → exit1 r ss′ ≡ measureExit measured → length ss′ ≡ length ss
@@ -190,7 +191,7 @@ module _ {M : Type 1} (𝓤 : URA M) (H : Heap 𝓤) (A : Atoms 𝓤) (W : Given
           use1 W (raw (Answer .pre (to-answer n u₀))) (goes-answer n u₀) $
           calls-at ! fm Answer known-answer (to-answer n u₀) (and-then ! (load ! (from ! (stop !)) (look ! 11 refl)) (no-more !)) (λ u.
           use1 W (later (some (λ (r : NoiseAnswer). (‵ ftrue ⊛ ‵ (S.the-row .own r (u ∷ []))) ⊛ raw (said-answer n r)))) (id⊢ 𝓤 _) $ await ! tt $ pick ! (λ r.
-          split ! $ move ! (1 ∷ []) $ use1 W (raw (fact 𝓤 (r ≡ noiseAnswer n))) (answer-said n r) $ heard ! (r ≡ noiseAnswer n) (λ d. split ! $ move ! (1 ∷ []) $
+          split ! $ move ! (1 ∷ []) $ use1 W (raw (fact 𝓤 (r ≡ noiseAnswer (noiseSaid n)))) (answer-said n r) $ heard ! (r ≡ noiseAnswer (noiseSaid n)) (λ d. split ! $ move ! (1 ∷ []) $
           peeks ! S.the-row (Is S.the-row) (shows 𝓤 H A S.the-row) r (u ∷ []) (λ is. land ! (from ! (stop !)) (init ! 26 refl (LL.lawful S.the-type S′.the-laws 𝓤 H A W .typed r _ is .0)) $
           -- [the result; true; the tokens; scratch's last list; true; palette; refs; true; _9; …]
           returns ! (look ! 26 refl) $ forget ! 8 refl $ forget ! 10 refl $ forget ! 12 refl $ forget ! 14 refl $ forget ! 16 refl $ forget ! 18 refl $ forget ! 20 refl $ forget ! 22 refl $ forget ! 24 refl $ forget ! 26 refl $

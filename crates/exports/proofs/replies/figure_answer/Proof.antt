@@ -5,14 +5,17 @@ use Prim.Native.Nat.{ℕ}
 use lib.Ieee.{Float}
 use Rattle.stats.specs.declared.Figure.{Figure}
 use Rattle.stats.specs.declared.Figure.the-variants.{Refused, Value}
-use Rattle.exports.specs.Replies.{zero, valued, figureAnswer}
+use Rattle.stats.specs.Calls.{figureSaid}
+use Rattle.exports.specs.Replies.{zero, structOf, valued, floatAnswer}
 use Rattle.exports.proofs.replies.figure_answer.Statement.{statement}
 use Rattle.exports.proofs.replies.figure_answer.Tie as tie
 
-refused : {o : Figure} {n : ℕ} → o ≡ Refused n → valued n zero ≡ figureAnswer o
+refused : {o : Figure} {n : ℕ} → o ≡ Refused n → valued n zero ≡ floatAnswer (figureSaid o)
+unfolding structOf
 refused e = rw e
 
-known : {o : Figure} {v : Float} → o ≡ Value v → valued 0 v ≡ figureAnswer o
+known : {o : Figure} {v : Float} → o ≡ Value v → valued 0 v ≡ floatAnswer (figureSaid o)
+unfolding structOf
 known e = rw e
 
 returns : tie.Need-returns

@@ -5,17 +5,21 @@ use mathlib.Core.Bool.{true, false}
 use Prim.Native.Nat.{ℕ}
 use Rattle.stats.specs.declared.Verdict.{Verdict}
 use Rattle.stats.specs.declared.Verdict.the-variants.{Refused, Yes, No}
-use Rattle.exports.specs.Replies.{judged, verdictAnswer}
+use Rattle.stats.specs.Calls.{verdictSaid}
+use Rattle.exports.specs.Replies.{structOf, judged, flagAnswer}
 use Rattle.exports.proofs.replies.verdict_answer.Statement.{statement}
 use Rattle.exports.proofs.replies.verdict_answer.Tie as tie
 
-refused : {o : Verdict} {n : ℕ} → o ≡ Refused n → judged n false ≡ verdictAnswer o
+refused : {o : Verdict} {n : ℕ} → o ≡ Refused n → judged n false ≡ flagAnswer (verdictSaid o)
+unfolding structOf
 refused e = rw e
 
-yes : {o : Verdict} → o ≡ Yes → judged 0 true ≡ verdictAnswer o
+yes : {o : Verdict} → o ≡ Yes → judged 0 true ≡ flagAnswer (verdictSaid o)
+unfolding structOf
 yes e = rw e
 
-no : {o : Verdict} → o ≡ No → judged 0 false ≡ verdictAnswer o
+no : {o : Verdict} → o ≡ No → judged 0 false ≡ flagAnswer (verdictSaid o)
+unfolding structOf
 no e = rw e
 
 returns : tie.Need-returns
