@@ -62,7 +62,7 @@ fn put_correct(out: &mut List, model: &Model, samples: &[[f32; 5]]) {
     record.end(out);
 }
 
-fn put_fit(out: &mut List, flat: &[f32], n: usize, side: usize, version: u8, len: usize) {
+pub fn put_fit(out: &mut List, flat: &[f32], n: usize, side: usize, version: u8, len: usize) {
     let fill = 7.5f32;
     let record = Record::new("fit").slice(flat).w(n).w(side).w(version).w(len).w(fill).is();
     let mut scratch = vec![fill; len];
@@ -75,7 +75,7 @@ fn put_fit(out: &mut List, flat: &[f32], n: usize, side: usize, version: u8, len
 }
 
 /// A fit of all references with as much scratch as it needs, and one element more.
-fn put_whole_fit(out: &mut List, flat: &[f32], side: usize, version: u8) {
+pub fn put_whole_fit(out: &mut List, flat: &[f32], side: usize, version: u8) {
     put_fit(out, flat, flat.len() / 8, side, version, flat.len() / 2 + 1);
 }
 

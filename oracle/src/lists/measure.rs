@@ -23,7 +23,7 @@ pub const KIND: Kind = Kind {
     one,
 };
 
-fn put_measure(out: &mut List, q: &Measuring, len: usize) {
+pub fn put_measure(out: &mut List, q: &Measuring, len: usize) {
     let fill = -3.25f32;
     let record = put_model(Record::new("measure").slice(&q.flat).w(q.n).w(q.side), &q.model);
     let record = record.slice(&q.palette).w(q.k).w(len).w(fill).is();
@@ -36,7 +36,7 @@ fn put_measure(out: &mut List, q: &Measuring, len: usize) {
 }
 
 /// `dark` and `light` references of palette colours, then `grey` ones of none.
-fn counted(rng: &mut Rng, k: usize, dark: usize, light: usize, grey: usize) -> Measuring {
+pub fn counted(rng: &mut Rng, k: usize, dark: usize, light: usize, grey: usize) -> Measuring {
     let palette = make::palette(k, 30.0, 75.0, 50.0, 0.0);
     let mut flat = Vec::new();
     for i in 0..dark + light + grey {
