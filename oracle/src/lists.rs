@@ -10,6 +10,7 @@ mod math;
 mod measure;
 mod modulate;
 mod private;
+mod records;
 mod refine;
 mod stats;
 mod whole;
@@ -36,6 +37,7 @@ pub const KINDS: &[Kind] = &[
     illum::KIND,
     stats::KIND,
     measure::KIND,
+    records::KIND,
     demod::KIND,
     refine::KIND,
     whole::KIND,
@@ -43,13 +45,19 @@ pub const KINDS: &[Kind] = &[
 ];
 
 impl Kind {
-    /// The stored list.
-    pub fn stored(&self, to: &mut dyn std::io::Write) {
+    /// The records of the stored list, and how many they are.
+    fn body(&self) -> (Vec<u8>, usize) {
         let mut body = Vec::new();
         let mut list = List::new(&mut body);
         (self.structured)(&mut list);
         self.randoms(&mut list, self.random, self.seed);
         let records = list.records;
+        (body, records)
+    }
+
+    /// The stored list.
+    pub fn stored(&self, to: &mut dyn std::io::Write) {
+        let (body, records) = self.body();
         let mut out = List::new(to);
         out.put(&format!("# Inputs and answers for the crate `{}`: {records} records.", self.name));
         out.put(&format!("# Made by oracle/ (`oracle list {}`), seed {}.", self.name, self.seed));

@@ -114,7 +114,7 @@ fn replay(text: &[u8], names: &[u8]) -> Tally {
 fn main() {
     // the one function
     let names = b"measure\n";
-    let mut text = [0u8; 131072];
+    let mut text = [0u8; 262144];
     let n = vectors::load(b"measure.txt", &mut text);
     let t = replay(&text[..n], names);
     vectors::report(&text[..n], names, t);

@@ -1,8 +1,10 @@
-// Replays stored answers of `fit` and `measure` through the crate `records`: eight references as an array of records, lent as a
-// slice. Each call's number, model or noise record, and the scratch that it leaves behind, every bit.
+// Replays stored answers of `fit` and `measure` through the crate `records`: up to 64 references as records of an array, the
+// first of which are lent as a slice. Each call's number, model or noise record, and the scratch that it leaves behind, every bit.
 //
-// `fit_eight` and `measure_eight` take the array by value, so that their callers are covered; the two are proved by a walk.
+// `fit_first` and `measure_first` take the array by value, so that their callers are covered; the two are proved by a walk.
 ghost use mathlib.Core.Path.{_≡_};
+ghost use Prim.Native.Nat.{_≤_};
+ghost use lib.ListN.{take};
 ghost use Rattle.fit.specs.Fit as fitting;
 ghost use Rattle.measure.specs.Measure as measuring;
 ghost use Rattle.stats.specs.Calls.{noiseSaid};
@@ -16,25 +18,34 @@ use vectors::Tally;
 
 // ---- the calls
 
-// `records::fit` of eight references.
-fn fit_eight(rs: [Reference; 8], side: usize, version: u8, scratch: &mut [f32]) -> Modelled
-    ensures { λ r. ⌜ fitting.final r (now (scratch .exit)) ≡ fitting.fitOf (fitting.flatRequest (flattened rs) side version (now (scratch .entry))) ⌝ }
+// `records::fit` of the first n references.
+fn fit_first(
+    rs: [Reference; 64],
+    n: usize,
+    side: usize,
+    version: u8,
+    scratch: &mut [f32],
+) -> Modelled
+    requires { ⌜ n ≤ 64 ⌝ }
+    ensures { λ r. ⌜ fitting.final r (now (scratch .exit)) ≡ fitting.fitOf (fitting.flatRequest (flattened (take n rs)) side version (now (scratch .entry))) ⌝ }
 {
-    records::fit(&rs, side, version, scratch)
+    records::fit(&rs[..n], side, version, scratch)
 }
 
-// `records::measure` of eight references.
-fn measure_eight(
-    rs: [Reference; 8],
+// `records::measure` of the first n references.
+fn measure_first(
+    rs: [Reference; 64],
+    n: usize,
     side: usize,
     model: IlluminationModel,
     palette: &[f32],
     hues: usize,
     scratch: &mut [f32],
 ) -> Noise
-    ensures { λ r. ⌜ measuring.final (noiseSaid r) (now (scratch .exit)) ≡ measuring.measureOf (measuring.flatRequest (flattened rs) side model (now (palette .entry)) hues (now (scratch .entry))) ⌝ }
+    requires { ⌜ n ≤ 64 ⌝ }
+    ensures { λ r. ⌜ measuring.final (noiseSaid r) (now (scratch .exit)) ≡ measuring.measureOf (measuring.flatRequest (flattened (take n rs)) side model (now (palette .entry)) hues (now (scratch .entry))) ⌝ }
 {
-    records::measure(&rs, side, model, palette, hues, scratch)
+    records::measure(&rs[..n], side, model, palette, hues, scratch)
 }
 
 // ---- inputs: words of a row
@@ -51,18 +62,24 @@ fn reference(row: &[u64], at: usize) -> Reference {
     }
 }
 
-// The eight references that a row begins with, after the count of their floats.
-fn references(row: &[u64]) -> [Reference; 8] {
-    [
-        reference(row, 1),
-        reference(row, 9),
-        reference(row, 17),
-        reference(row, 25),
-        reference(row, 33),
-        reference(row, 41),
-        reference(row, 49),
-        reference(row, 57),
-    ]
+// How many references a row has, by the count that stands at a place, and 64 where it says more.
+fn references_in(row: &[u64], at: usize) -> usize
+    ensures { λ n. ⌜ n ≤ 64 ⌝ }
+{
+    let n = stage_words::count(row, at, 0);
+    if n < 64 {
+        return n;
+    }
+    64
+}
+
+// The references that a row begins with, after the count of their floats; those past its end are zero.
+fn references(row: &[u64]) -> [Reference; 64] {
+    let mut rs = [reference(row, row.len()); 64];
+    for k in 0..64usize {
+        rs[k] = reference(row, 1 + 8 * k);
+    }
+    rs
 }
 
 // ---- answers: words put into a row
@@ -94,14 +111,15 @@ fn put_measured(got: &mut [u64], n: Noise) -> usize {
 fn fit_in(row: &[u64], at: usize, v: f32, scratch: &mut [f32], got: &mut [u64]) -> usize {
     let side = stage_words::count(row, at, 1);
     let version = vectors::u8_of(vectors::word_at(row, at, 2));
-    let fitted = fit_eight(references(row), side, version, scratch);
+    let n = references_in(row, at);
+    let fitted = fit_first(references(row), n, side, version, scratch);
     let to_zeros = put_modelled(got, fitted);
     stage_words::put_scratch(got, to_zeros, scratch, v)
 }
 
 // fit |flat| n side version len fill = no MODEL zeros
 fn fit(row: &[u64], got: &mut [u64]) -> usize {
-    let mut scratch = [0.0f32; 64];
+    let mut scratch = [0.0f32; 512];
     let at = vectors::past_slice(row, 0);
     let v = stage_words::single(row, at, 4);
     let len = stage_words::spread(&mut scratch, stage_words::count(row, at, 3), v);
@@ -120,7 +138,8 @@ fn measure_in(
 ) -> usize {
     let side = stage_words::count(row, at, 1);
     let model = stage_words::model(row, stage_words::past(row, at, 2));
-    let measured = measure_eight(references(row), side, model, palette, hues, scratch);
+    let n = references_in(row, at);
+    let measured = measure_first(references(row), n, side, model, palette, hues, scratch);
     let to_zeros = put_measured(got, measured);
     stage_words::put_scratch(got, to_zeros, scratch, v)
 }
@@ -128,7 +147,7 @@ fn measure_in(
 // measure |flat| n side MODEL |palette| hues len fill = no STATS zeros
 fn measure(row: &[u64], got: &mut [u64]) -> usize {
     let mut palette = [0.0f32; 256];
-    let mut scratch = [0.0f32; 64];
+    let mut scratch = [0.0f32; 512];
     let at = vectors::past_slice(row, 0);
     let at_palette = stage_words::past_model(row, stage_words::past(row, at, 2));
     let p = vectors::load_f32(row, at_palette, &mut palette);
@@ -154,7 +173,7 @@ fn answers(function: usize, row: &[u64], got: &mut [u64]) -> usize {
 
 // Reads the record that begins at `at` and compares its answers.
 fn replayed(text: &[u8], at: usize, names: &[u8]) -> Compared {
-    let mut row = [0u64; 512];
+    let mut row = [0u64; 1024];
     let mut wanted = [0u64; 128];
     let mut got = [0u64; 128];
     let f = vectors::function_of(text, at, names);
@@ -179,7 +198,7 @@ fn replay(text: &[u8], names: &[u8]) -> Tally {
 fn main() {
     // the functions, one a line
     let names = b"fit\nmeasure\n";
-    let mut text = [0u8; 131072];
+    let mut text = [0u8; 262144];
     let n = vectors::load(b"records.txt", &mut text);
     let t = replay(&text[..n], names);
     vectors::report(&text[..n], names, t);

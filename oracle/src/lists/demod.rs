@@ -1,6 +1,6 @@
 //! Scoring: `demodulate` without its last call.
 use super::Kind;
-use super::illum::{model, put_model};
+use super::illum::{Beyond, beyond_bounds, model, put_model};
 use super::stats::{any_stats, put_stats, stats};
 use crate::calls::demod::*;
 use crate::calls::illum::identity;
@@ -99,6 +99,26 @@ fn structured(out: &mut List) {
     }
     unusual(out, rng);
     refused(out, rng);
+    for case in beyond_bounds() {
+        beyond(out, &case);
+    }
+}
+
+/// One module and, where its place can be a cell's, one cell that is corrected beyond 1,048,576.
+fn beyond(out: &mut List, (model, [x, y], colour): &Beyond) {
+    let mut q = card(&mut Rng::new(81), 1, 1, [0, 0, 0]);
+    q.model = model.clone();
+    let mut module = q.clone();
+    (module.xs, module.ys) = (vec![(x - 0.5) as i32], vec![(y - 0.5) as i32]);
+    module.raw = colour.to_vec();
+    put_score(out, &module, lengths(&module));
+    if *x > 0.0 && *y > 0.0 {
+        let mut cell = q;
+        (cell.k, cell.palette) = (2, make::palette(2, 30.0, 75.0, 50.0, 0.0));
+        (cell.cxs, cell.cys) = (vec![(x - 0.5) as u16], vec![(y - 0.5) as u16]);
+        cell.cell_raw = colour.to_vec();
+        put_score(out, &cell, lengths(&cell));
+    }
 }
 
 /// Repeats, ring modules inside the grid, the corners of the places, a vanishing sigma (NaN chroma scores),

@@ -62,7 +62,7 @@ fn put_correct(out: &mut List, model: &Model, samples: &[[f32; 5]]) {
     record.end(out);
 }
 
-fn put_fit(out: &mut List, flat: &[f32], n: usize, side: usize, version: u8, len: usize) {
+pub fn put_fit(out: &mut List, flat: &[f32], n: usize, side: usize, version: u8, len: usize) {
     let fill = 7.5f32;
     let record = Record::new("fit").slice(flat).w(n).w(side).w(version).w(len).w(fill).is();
     let mut scratch = vec![fill; len];
@@ -75,7 +75,7 @@ fn put_fit(out: &mut List, flat: &[f32], n: usize, side: usize, version: u8, len
 }
 
 /// A fit of all references with as much scratch as it needs, and one element more.
-fn put_whole_fit(out: &mut List, flat: &[f32], side: usize, version: u8) {
+pub fn put_whole_fit(out: &mut List, flat: &[f32], side: usize, version: u8) {
     put_fit(out, flat, flat.len() / 8, side, version, flat.len() / 2 + 1);
 }
 
@@ -103,6 +103,8 @@ fn structured(out: &mut List) {
     refused(out, rng);
     corrections(out, rng);
     surfaces(out);
+    second_pass(out);
+    bad_numbers(out);
 }
 
 /// Two private functions of the Rust, through the shims, which the port has in the open.
@@ -185,6 +187,19 @@ fn degenerate(out: &mut List, rng: &mut Rng) {
         flat.extend([1.0 + i as f32, 9.0, 10.0, 20.0, 30.0, nominal, 2.0 * nominal, nominal]);
     }
     put_whole_fit(out, &flat, 21, 1);
+}
+
+/// Pass one is finite and pass two is not: two nominal colours are huge, and pass one's residuals still have squares.
+/// With 4 terms and with 9: the residual of a rejected reference alone, the root mean square alone, a live residual.
+fn second_pass(out: &mut List) {
+    for (seed, n, version) in [(0, 9, 1), (9, 9, 10), (389, 9, 1), (103, 9, 10), (676, 10, 1), (676, 10, 10)] {
+        let rng = &mut Rng::new(seed);
+        let mut flat = with_outliers(rng, n, 0);
+        for reference in flat.chunks_mut(8).take(2) {
+            reference[5..].fill_with(|| (rng.normal() * 1e19) as f32);
+        }
+        put_whole_fit(out, &flat, 21, version);
+    }
 }
 
 fn refused(out: &mut List, rng: &mut Rng) {
@@ -299,6 +314,71 @@ fn bad_models(out: &mut List, rng: &mut Rng, samples: &[[f32; 5]]) {
     let mut nine = model(rng, 9, 21);
     nine.flare[2][8] = f64::NAN;
     put_correct(out, &nine, &[samples[0], [f32::NAN, 0.0, 2e6, 0.0, 0.0]]);
+}
+
+/// Each part of a model, of 4 terms and of 9, with one number that is not finite. An infinite gain makes a channel's
+/// inverse 0, so that the corrected colour is finite and does not show it.
+fn bad_numbers(out: &mut List) {
+    const INF: f64 = f64::INFINITY;
+    let rng = &mut Rng::new(52);
+    for (terms, places, values, gains) in [
+        (4, [0, 1, 3], [INF, -INF, f64::NAN], [INF, -INF, INF]),
+        (9, [8, 4, 0], [f64::NAN, INF, -INF], [-INF, INF, -INF]),
+    ] {
+        let base = model(rng, terms, 21);
+        let mut put = |change: &dyn Fn(&mut Model)| {
+            let mut m = base.clone();
+            change(&mut m);
+            put_correct(out, &m, &[[15.0, 17.0, 0.25, 0.5, 0.75]]);
+        };
+        for c in 0..3 {
+            put(&|m| m.affine[c][c] = values[c]);
+            put(&|m| m.gain[c][places[c]] = gains[c]);
+            put(&|m| m.flare[c][places[c]] = values[c]);
+        }
+        put(&|m| m.gain[0][terms - 1] = f64::NAN);
+        put(&|m| m.residual_rms = gains[0] as f32);
+    }
+}
+
+/// A model, a position and a colour that it corrects beyond 1,048,576.
+pub type Beyond = (Model, [f32; 2], [f32; 3]);
+
+/// The model of nine terms that takes colours farthest from 0 where u and v have this sign: all affine numbers alike,
+/// all flare coefficients alike in magnitude, and gains of 0, which are held.
+fn farthest(side: usize, sign: i32, affine: f64, flare: f64) -> Model {
+    let mut m = identity(side).unwrap();
+    m.terms = 9;
+    m.affine = [[affine; 4]; 3];
+    m.gain = [[0.0; 9]; 3];
+    let signs = [1, sign, sign, 1, 1, 1, sign, sign, 1];
+    m.flare = [signs.map(|s| -flare * s as f64); 3];
+    m
+}
+
+/// Corrections beyond 1,048,576, each with one thing outside the bounds within which there are none: a model's numbers
+/// from -8 to 8, a position from -side to 2 x side, a colour from -256 to 256. All else is at its bound or near. In
+/// order: an affine row of 12, flares of 13, gains whose surface is no number, colours of 1,000 and of -1,000, and a
+/// position to the right, below, to the left and above.
+pub fn beyond_bounds() -> Vec<Beyond> {
+    let (corner, full) = ([19.5; 2], [256.0; 3]);
+    let inside = farthest(10, 1, 8.0, 8.0);
+    let (mut affine, mut gains) = (inside.clone(), inside.clone());
+    affine.affine[1] = [12.0; 4];
+    gains.gain[2] = [0.0, f64::MAX, -f64::MAX, 0.0, 0.0, 0.0, 0.0, 0.0, 0.0];
+    let mut cases = vec![
+        (affine, corner, full),
+        (farthest(10, 1, 8.0, 13.0), corner, full),
+        (gains, corner, full),
+        (inside, corner, [1000.0; 3]),
+        (farthest(10, 1, 8.0, -8.0), corner, [-1000.0; 3]),
+    ];
+    let (right, left) = (farthest(2, 1, 8.0, 8.0), farthest(2, -1, 8.0, 8.0));
+    for (model, far, near) in [(right, 5.5, 3.5), (left, -3.5, -1.5)] {
+        cases.push((model.clone(), [far, near], full));
+        cases.push((model, [near, far], full));
+    }
+    cases
 }
 
 fn one(out: &mut List, rng: &mut Rng) {

@@ -1,6 +1,6 @@
 //! Measuring the channel's noise.
 use super::Kind;
-use super::illum::{model, put_model, zeros};
+use super::illum::{Beyond, beyond_bounds, model, put_model, zeros};
 use super::stats::put_stats;
 use crate::calls::illum::identity;
 use crate::calls::measure::*;
@@ -23,7 +23,7 @@ pub const KIND: Kind = Kind {
     one,
 };
 
-fn put_measure(out: &mut List, q: &Measuring, len: usize) {
+pub fn put_measure(out: &mut List, q: &Measuring, len: usize) {
     let fill = -3.25f32;
     let record = put_model(Record::new("measure").slice(&q.flat).w(q.n).w(q.side), &q.model);
     let record = record.slice(&q.palette).w(q.k).w(len).w(fill).is();
@@ -36,7 +36,7 @@ fn put_measure(out: &mut List, q: &Measuring, len: usize) {
 }
 
 /// `dark` and `light` references of palette colours, then `grey` ones of none.
-fn counted(rng: &mut Rng, k: usize, dark: usize, light: usize, grey: usize) -> Measuring {
+pub fn counted(rng: &mut Rng, k: usize, dark: usize, light: usize, grey: usize) -> Measuring {
     let palette = make::palette(k, 30.0, 75.0, 50.0, 0.0);
     let mut flat = Vec::new();
     for i in 0..dark + light + grey {
@@ -79,9 +79,40 @@ fn structured(out: &mut List) {
     }
     borders(out, rng);
     refused(out, rng);
+    middles(out, rng);
+    for case in beyond_bounds() {
+        beyond(out, rng, case);
+    }
 }
 
-/// A nominal L exactly at the middle, deviations around 12, chroma around 20, reversed and equal levels.
+/// Eight references, the last of which is corrected beyond 1,048,576, and the others are not.
+fn beyond(out: &mut List, rng: &mut Rng, (model, [x, y], colour): Beyond) {
+    let mut q = counted(rng, 1, 4, 4, 0);
+    let centre = model.side / 2.0;
+    q.flat.chunks_mut(8).for_each(|r| r[..2].fill(centre));
+    q.flat[56..58].copy_from_slice(&[x, y]);
+    q.flat[58..61].copy_from_slice(&colour);
+    q.model = model;
+    put_measure(out, &q, 4 * q.n);
+}
+
+/// References whose nominal L is exactly the middle of the levels, so that they count as light: five of eight, white,
+/// and five of twelve, red, which count for the chroma of their level too.
+fn middles(out: &mut List, rng: &mut Rng) {
+    for (n, [r, g, b], l) in [(8, [1.0, 1.0, 1.0], 100.0), (12, [1.0, 0.0, 0.0], 53.24079)] {
+        let mut q = counted(rng, 2, n, 0, 0);
+        q.palette[..2].copy_from_slice(&[l - 8.0, l + 8.0]);
+        for (i, reference) in q.flat.chunks_mut(8).enumerate() {
+            let light = [0.9, 1.0, 1.1][(i > 2) as usize + (i > 7) as usize];
+            let nominal = [light * r, light * g, light * b];
+            reference[2..5].copy_from_slice(&nominal.map(|v| v + 0.01 * rng.normal() as f32));
+            reference[5..].copy_from_slice(&nominal);
+        }
+        put_measure(out, &q, 4 * q.n);
+    }
+}
+
+/// Deviations around 12, chroma around 20, reversed and equal levels.
 fn borders(out: &mut List, rng: &mut Rng) {
     for (l0, l1) in
         [(75.0, 30.0), (50.0, 50.0), (0.0, 100.0), (18.0, 87.0), (17.99, 87.1), (42.0, 63.0), (30.0, 1e5), (-1e6, 1e6)]
