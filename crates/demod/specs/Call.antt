@@ -54,7 +54,7 @@ wildColourAt colour i = wildLinear (colour i)
 abbrev pub wildColours : (ℕ → Linear) → ℕ → Bool
 wildColours colour n = anyUp 0 n (wildColourAt colour)
 
--- 12, of modules and, with chroma on, of cells: "with chroma off, cells are neither corrected nor scored"
+-- 12, of modules and, with chroma on, of cells: "With chroma off, cells are neither corrected nor scored."
 unfoldable pub badCorrected : ℕ → (ℕ → Linear) → ℕ → (ℕ → Linear) → ℕ → Bool
 badCorrected hues modules m cells c = wildColours modules m || cond (chromaOn hues) (wildColours cells c) false
 

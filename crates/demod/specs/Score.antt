@@ -187,7 +187,7 @@ ringBlock n palette hues cells grid colour from k chroma = forUp from (from + k)
 unfoldable pub ringChroma : Layout → ChannelStats → List Float → ℕ → (ℕ → Linear) → ℕ → List Float → List Float
 ringChroma l n palette cells colour m chroma = cond (eqb (l .size) 1) (writeRings n palette (l .hues) cells (l .grid) colour m chroma) chroma
 
--- "chroma is on when hues exceed 1": the cells, then the ring modules
+-- "Chroma is on when hues exceed 1": the cells, then the ring modules
 unfoldable pub chromaWritten : Layout → ChannelStats → List Float → (ℕ → Linear) → ℕ → List ℕ → List ℕ → (ℕ → Linear) → List Float → List Float
 chromaWritten l n palette modules m cxs cys cells chroma =
     cond (chromaOn (l .hues))

@@ -79,7 +79,7 @@ solvedSurface p x =
     let t = termsUsed (p .terms) in
     record { gain = coefficients x 0 t; flare = cond (p .flare) (coefficients x t t) noFlare }
 
--- "a channel without a solution keeps unit gain"
+-- a channel without a solution keeps unit gain
 abbrev pub orUnit : Plan → Settled → Surface
 orUnit p s = cond (s .found) (solvedSurface p (s .x)) unitSurface
 

@@ -146,7 +146,7 @@ pub record Request : Type 0 where
 abbrev pub request : List Float → Bool → ℕ → ℕ → ℕ → List Float → Request
 request flat cut n side version scratch = record { flat = flat; cut = cut; n = n; side = side; version = version; scratch = scratch }
 
--- "eight a reference"
+-- eight floats a reference
 abbrev pub flatRequest : List Float → ℕ → ℕ → List Float → Request
 flatRequest flat side version scratch = request flat (not (eqb (length flat % 8) 0)) (length flat / 8) side version scratch
 

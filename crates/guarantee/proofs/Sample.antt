@@ -141,7 +141,7 @@ module _ (n : ChannelStats) (palette : List Float) (hues : ℕ) (held : Held n) 
         let t = lab-tame palette hues calm i h in
         record { l = near-any (wider (good .sigma-l)) (P .at _) (t .l) (near .l); a = near-any scale (P .at _) (t .a) (near .a); b = near-any scale (P .at _) (t .b) (near .b) }
 
-    -- "weight at least 0.9931"
+    -- the weight is at least 0.9931
     pub weight : Weight (reliability n sample palette hues)
     weight = reliable n good palette hues colour-in sample sample-in i h near
 

@@ -71,7 +71,7 @@ ends-in : {d : Float} → In binary32 (whole 0) (fraction 3 4) d → In binary32
 unfolding weight sqrtOf add mul div fraction round
 ends-in p = div-in (point (one-is .is)) (add-in (point (one-is .is)) (fourth-in p) tt) tt
 
--- "weight at least 0.9931"
+-- the weight is at least 0.9931
 pub weight-in : {d : Float} → In binary32 (whole 0) (fraction 3 4) d → Weight (weight d)
 unfolding weight sqrtOf add mul div le ofBits fraction round
 weight-in p =

@@ -1,5 +1,5 @@
--- The read guarantee (document 01, demand 3; README, promise 3): "Inside the margin, with each corrected colour within half a sigma of its drawn colour, the bits read are the bits drawn, place for place,
--- none missing, none added." Two cards share layout, palette, mask, model and noise record; palette and record hold f32 values (`Singles`). The margin check says yes (`InMargin`); each card is drawn from
+-- The read guarantee (document 01, demand 3; README, promise 3): inside the margin, with each corrected colour within half a sigma of its drawn colour, the bits read are the bits drawn, place for place,
+-- none missing, none added. Two cards share layout, palette, mask, model and noise record; palette and record hold f32 values (`Singles`). The margin check says yes (`InMargin`); each card is drawn from
 -- its bits, accepted, and near what was drawn (`Readable`). Then each is read as it was drawn (`ReadAsDrawn`), so the two are read as equal exactly when they were drawn from equal bits.
 -- `proofs/Guarantee.antt` proves it. Definitions only.
 use mathlib.Core.Path.{_≡_}
@@ -24,7 +24,7 @@ pub record Singles (s : Setting) : Type 0 where
   pub sigma-ab-dark : T (fits binary32 (s .noise .«sigma_ab_dark»))
   pub sigma-ab-light : T (fits binary32 (s .noise .«sigma_ab_light»))
 
--- "Inside the margin": the margin check says yes, so it is not refused
+-- inside the margin: the margin check says yes, so it is not refused
 abbrev pub InMargin : Setting → Type 0
 InMargin s = marginAnswer (s .noise) (s .palette) (s .layout .hues) ≡ gives true
 
@@ -41,7 +41,7 @@ pub record NearCell (s : Setting) (c : Card) (j : ℕ) : Type 0 where
   pub below : level < 2
   pub near : halfSigma (s .noise) (cellLab s c j) (paletteColour s level (getD (drawnCard s c .hues) j 0)) ≡ true
 
--- "with each corrected colour within half a sigma of its drawn colour": every module's, and with chroma on every cell's, since "With chroma off, cells are neither corrected nor scored."
+-- each corrected colour is within half a sigma of its drawn colour: every module's, and with chroma on every cell's, since "With chroma off, cells are neither corrected nor scored."
 pub record Near (s : Setting) (c : Card) : Type 0 where
   pub each-module : (i : ℕ) → i < modules s → NearModule s c i
   pub each-cell : chromaOn (s .layout .hues) ≡ true → (j : ℕ) → j < length (s .cxs) → NearCell s c j
@@ -52,7 +52,7 @@ pub record Readable (s : Setting) (c : Card) : Type 0 where
   pub accepted : Accepted s c
   pub near : Near s c
 
--- "the bits read are the bits drawn, place for place, none missing, none added"
+-- the bits read are the bits drawn, place for place, none missing, none added
 pub record ReadAsDrawn (s : Setting) (c : Card) : Type 0 where
   pub drawn-length : length (bitsDrawn s c) ≡ modules s + chromaScores s
   pub read-length : length (bitsRead s c) ≡ modules s + chromaScores s

@@ -45,20 +45,20 @@ space = 32 ∷ []
 abbrev pub lineFeed : List ℕ
 lineFeed = 10 ∷ []
 
--- " HHHHHHHH b" and the line feed: the score's bit pattern, and the bit. (`toBits` of a NaN is 7FC00000.)
+-- ` HHHHHHHH b` and the line feed: the score's bit pattern, and the bit. (`toBits` of a NaN is 7FC00000.)
 unfoldable pub scoreEnd : Float → ℕ → List ℕ
 scoreEnd score bit = row (space ∷ hex 8 (toBits binary32 score) ∷ space ∷ decimal bit ∷ lineFeed ∷ [])
 
--- "fit T K R": terms, kept, rejected
+-- `fit T K R`: terms, kept, rejected
 unfoldable pub fitLine : ℕ → ℕ → ℕ → List ℕ
 fitLine terms kept rejected =
     row ((102 ∷ 105 ∷ 116 ∷ 32 ∷ []) ∷ decimal terms ∷ space ∷ decimal kept ∷ space ∷ decimal rejected ∷ lineFeed ∷ [])
 
--- "L x y HHHHHHHH b"
+-- `L x y HHHHHHHH b`
 unfoldable pub lumaLine : ℤ → ℤ → Float → ℕ → List ℕ
 lumaLine x y score bit = row ((76 ∷ 32 ∷ []) ∷ signed x ∷ space ∷ signed y ∷ scoreEnd score bit ∷ [])
 
--- "C i HHHHHHHH b"
+-- `C i HHHHHHHH b`
 unfoldable pub chromaLine : ℕ → Float → ℕ → List ℕ
 chromaLine place score bit = row ((67 ∷ 32 ∷ []) ∷ decimal place ∷ scoreEnd score bit ∷ [])
 
@@ -81,6 +81,6 @@ unfoldable pub listing : ℕ → ℕ → ℕ → ℕ → List ℤ → List ℤ �
 listing terms kept rejected modules xs ys luma bits places chroma symbols =
     row (fitLine terms kept rejected ∷ lumaLines modules xs ys luma bits ∷ chromaLines places chroma symbols ∷ [])
 
--- "refused N"
+-- `refused N`
 unfoldable pub refusedLine : ℕ → List ℕ
 refusedLine number = row ((114 ∷ 101 ∷ 102 ∷ 117 ∷ []) ∷ (115 ∷ 101 ∷ 100 ∷ 32 ∷ []) ∷ decimal number ∷ lineFeed ∷ [])

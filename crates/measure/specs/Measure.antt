@@ -154,7 +154,7 @@ measuredOf m palette flat n =
     recordOf palette n (darkOf m palette flat n) (lightOf m palette flat n) (errorsOf m flat n) (levelErrorsOf false m palette flat n)
     (levelErrorsOf true m palette flat n)
 
--- "under 8 references `nominal`"
+-- under 8 references: `nominal`
 unfoldable pub measured : IlluminationModel → List Float → List Float → ℕ → ChannelStats
 measured m palette flat n = cond (ltb n 8) (nominal palette) (measuredOf m palette flat n)
 
@@ -175,7 +175,7 @@ abbrev pub request : List Float → Bool → ℕ → ℕ → IlluminationModel �
 request flat cut n side model palette hues scratch =
     record { flat = flat; cut = cut; n = n; side = side; model = model; palette = palette; hues = hues; scratch = scratch }
 
--- "eight a reference"
+-- eight floats a reference
 abbrev pub flatRequest : List Float → ℕ → IlluminationModel → List Float → ℕ → List Float → Request
 flatRequest flat side model palette hues scratch =
     request flat (not (eqb (length flat % 8) 0)) (length flat / 8) side model palette hues scratch
