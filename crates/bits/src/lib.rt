@@ -103,7 +103,11 @@ pub fn read_bits(
     bits: &mut [u8],
     symbols: &mut [u8],
 ) -> Outcome
-    ensures { λ r. ⌜ (let s = setting layout (now (xs .entry)) (now (ys .entry)) (now (cxs .entry)) (now (cys .entry)) (now (palette .entry)) mask model noise in let c = card (now (raw .entry)) (now (craw .entry)) (now (luma .entry)) (now (colours .entry)) (now (chroma .entry)) (now (scratch .entry)) (now (bits .entry)) (now (symbols .entry)) in let f = left r (now (luma .exit)) (now (colours .exit)) (now (chroma .exit)) (now (scratch .exit)) (now (bits .exit)) (now (symbols .exit)) in (f ≡ readOf s c) × Joined s c f × ReadGuarantee) ⌝ }
+    ensures { λ r. ⌜ (
+        let s = setting layout (now (xs .entry)) (now (ys .entry)) (now (cxs .entry)) (now (cys .entry)) (now (palette .entry)) mask model noise in
+        let c = card (now (raw .entry)) (now (craw .entry)) (now (luma .entry)) (now (colours .entry)) (now (chroma .entry)) (now (scratch .entry)) (now (bits .entry)) (now (symbols .entry)) in
+        let f = left r (now (luma .exit)) (now (colours .exit)) (now (chroma .exit)) (now (scratch .exit)) (now (bits .exit)) (now (symbols .exit)) in
+        (f ≡ readOf s c) × Joined s c f × ReadGuarantee) ⌝ }
 {
     match demod::score(
         layout,
