@@ -76,7 +76,7 @@ unfolding drawing.drawOf
 draw-zero q =
     done-at (λ x. x .number) (λ x. x .answer) (drawing.notDrawn q) (drawing.drawn outcome.Done (drawing.levelsOf q) (drawing.huesOf q)) (λ n. refl) refl (refusal (drawing.drawSentences q))
 
-score-zero : (q : scoring.Request) → outcomeNumber (scoring.scoredOf q .answer) ≡ 0 → scoring.scoredOf q .answer ≡ outcome.Done
+pub score-zero : (q : scoring.Request) → outcomeNumber (scoring.scoredOf q .answer) ≡ 0 → scoring.scoredOf q .answer ≡ outcome.Done
 unfolding scoring.scoredOf
 score-zero q = done-at (λ x. outcomeNumber (x .answer)) (λ x. x .answer) (scoring.turnedAway q) (scoring.done q) (λ n. refl) refl (refusal (scoring.sentencesOf q))
 

@@ -51,6 +51,10 @@ module _ (luma : List Float) (side : ℕ) (xs ys : List ℤ) (g mask : ℕ) (z :
   all : g ≤ length luma
   all = le-trans (unmask-grid luma side xs ys g 0 (sym none) refl) (unmask-scores luma side xs ys g 0 (sym none) refl)
 
+  -- it leaves a score a module
+  pub unmask-luma-long : length xs ≤ length (unmaskLumaOf luma side xs ys g mask .list)
+  unmask-luma-long = rw (written luma side xs ys g mask none, reached nan (unmaskAt mask xs ys) luma g all .long) (unmask-scores luma side xs ys g 0 (sym none) refl)
+
   pub unmask-luma-twice : unmaskLumaOf (unmaskLumaOf luma side xs ys g mask .list) side xs ys g mask .list ≡ luma
   unmask-luma-twice =
       let once = unmasked mask xs ys g luma in

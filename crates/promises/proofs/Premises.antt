@@ -14,7 +14,6 @@ use Rattle.limits.specs.Chroma.{chromaOn}
 use Rattle.layout.specs.Groups.{shape, placement, Paired}
 use Rattle.layout.proofs.Laws.{shape-sound, placement-sound}
 use Rattle.answers.specs.declared.Outcome.the-variants.{Done}
-use Rattle.answers.specs.Answers.{outcomeNumber}
 use Rattle.modulate.specs.Draw as drawing
 use Rattle.modulate.specs.Draw.{entriesOf, shortBits, shortHues, badDrawLengths, drawSentences, drawOf}
 use Rattle.modulate.proofs.Lengths.{draw-lengths, bits-long, hues-long}
@@ -25,13 +24,15 @@ use Rattle.measure.specs.Measure.{measureOf}
 use Rattle.measure.proofs.Passes.{answered-passes}
 use Rattle.demod.specs.Call as scoring
 use Rattle.demod.proofs.Accepted as scored
-use Rattle.guarantee.specs.Card.{Setting, Card, modules, chromaScores, toDraw, drawnCard, toScore, scoredCard}
+use Rattle.guarantee.specs.Card.{Setting, Card, modules, chromaScores, toDraw, drawnCard, toScore}
 use Rattle.guarantee.specs.Guarantee.{Singles}
+use Rattle.bits.specs.Reading.{scoringNumber}
 use Rattle.card.specs.declared.Card as opened
+use Rattle.readout.specs.Reading.{settingOf}
 use Rattle.reader.specs.File.{sheetOf, referencesOf}
 use Rattle.reader.specs.Fitting.{toMeasure}
 use Rattle.reader.proofs.Listed.{floats-fit}
-use Rattle.promises.specs.Premises.{settingOf, DrawingRoom, RefusedByLength}
+use Rattle.promises.specs.Premises.{DrawingRoom, RefusedByLength}
 
 -- ---- the palette and the noise record of a file are f32 values
 
@@ -54,7 +55,7 @@ drawn-number : (q : drawing.Card) → drawOf q .number ≡ refusal (drawSentence
 unfolding drawOf
 drawn-number q = drawn-by q (refusal (drawSentences q))
 
-module _ (s : Setting) (c : Card) (z : outcomeNumber (scoredCard s c .answer) ≡ 0) where
+module _ (s : Setting) (c : Card) (z : scoringNumber s c ≡ 0) where
   nothing : 0 ≡ refusal (scoring.sentencesOf (toScore s c))
   nothing = sym z ∙ scored.number (toScore s c)
 

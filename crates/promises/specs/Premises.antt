@@ -7,26 +7,20 @@ use mathlib.Core.List.{List}
 use Prim.Native.Nat.{ℕ, _+_, _≤_}
 use lib.ListN.{length}
 use Rattle.limits.specs.Chroma.{chromaOn}
-use Rattle.answers.specs.Answers.{outcomeNumber}
 use Rattle.modulate.specs.Draw.{entriesOf}
 use Rattle.illum.specs.declared.IlluminationModel.{IlluminationModel}
 use Rattle.stats.specs.declared.ChannelStats.{ChannelStats}
 use Rattle.stats.specs.declared.Noise.the-variants as noise
 use Rattle.measure.specs.Measure.{measureOf}
-use Rattle.guarantee.specs.Card.{Setting, Card, modules, chromaScores, drawnCard, scoredCard}
+use Rattle.guarantee.specs.Card.{Setting, Card, modules, chromaScores, drawnCard}
 use Rattle.guarantee.specs.Guarantee.{Singles}
+use Rattle.bits.specs.Reading.{scoringNumber}
 use Rattle.card.specs.declared.Card as opened
-use Rattle.readout.specs.Sheet.{Sheet}
-use Rattle.readout.specs.Reading.{layoutOf}
+use Rattle.readout.specs.Reading.{settingOf}
 use Rattle.reader.specs.File.{sheetOf, referencesOf}
 use Rattle.reader.specs.Fitting.{toMeasure}
 
 -- ---- a card that `readcard` reads
-
--- what the guarantee calls the setting of a card: the file's layout, places, palette and mask, a model, and a noise record
-abbrev pub settingOf : Sheet → IlluminationModel → ChannelStats → Setting
-settingOf c m n =
-    record { layout = layoutOf (c .settings); xs = c .xs; ys = c .ys; cxs = c .cxs; cys = c .cys; palette = c .palette; mask = c .settings .mask; model = m; noise = n }
 
 -- of every file, and every model: where its references are measured, the palette and the record hold f32 values
 abbrev pub ReadableAreSingles : Type 0
@@ -50,4 +44,4 @@ pub record RefusedByLength (s : Setting) (c : Card) : Type 0 where
 
 -- the layout and the places are those of an accepted scoring
 abbrev pub DrawingAfterScoring : Type 0
-DrawingAfterScoring = (s : Setting) (c : Card) → outcomeNumber (scoredCard s c .answer) ≡ 0 → RefusedByLength s c
+DrawingAfterScoring = (s : Setting) (c : Card) → scoringNumber s c ≡ 0 → RefusedByLength s c
