@@ -1,21 +1,25 @@
--- What drawing answers by the number that its sentences give, and what holds of a card that is drawn: each sentence's opposite. Assumes nothing.
+-- What drawing answers by the number that its sentences give, and what holds of a card that is drawn, and of scores that are unmasked: each sentence's opposite. Assumes nothing.
 use mathlib.Core.Path.{_≡_, refl, sym, ap, _∙_}
-use mathlib.Core.Bool.{true}
-use mathlib.Core.List.{[], _∷_}
+use mathlib.Core.Bool.{true, false}
+use mathlib.Core.List.{List, [], _∷_}
 use Prim.Native.Nat.{ℕ, zero, suc, _≤_, _<_}
 use native.Mathlib.Omega.{arith}
+use lib.IntN.{ℤ}
 use lib.ListN.{length, getD}
+use lib.Ieee.{Float}
 use Rattle.sentences.specs.Sentences.{refusal, decided, at, sound, fresh}
 use Rattle.sentences.proofs.Laws.{refuses, accepts, split}
 use Rattle.limits.specs.Chroma.{chromaOn}
-use Rattle.layout.specs.Groups.{shape, placement, Shaped, Placed}
-use Rattle.layout.proofs.Laws.{shape-sound, shaped, placed}
+use Rattle.limits.proofs.Laws.{side-in}
+use Rattle.layout.specs.Groups.{shape, placement, modulePlacement, Shaped, Placed, ModulesPlaced, Positions}
+use Rattle.layout.proofs.Laws.{shape-sound, shaped, placed, modules-placed}
 use Rattle.answers.specs.declared.Outcome.the-variants.{Refused, Done}
 use Rattle.answers.specs.Answers.{outcomeNumber}
 use Rattle.modulate.specs.Draw.{Card, notDrawn, drawn, levelAt, levelAtOf, hueAt, hueAtOf, entriesOf, drawnHues, levelsOf, huesOf, drawSentences, drawOf}
+use Rattle.modulate.specs.Score.{unmaskSentences}
 use Rattle.answers.proofs.Answers.{none-of}
 use Rattle.lists.proofs.Laws.{reached}
-use Rattle.modulate.proofs.Lengths.{DrawLengths, draw-lengths, bits-long, hues-long}
+use Rattle.modulate.proofs.Lengths.{DrawLengths, draw-lengths, bits-long, hues-long, luma-lengths}
 
 -- no sentence holds
 pub record Accepted (q : Card) : Type 0 where
@@ -99,3 +103,28 @@ module _ (q : Card) where
   drawn-refused n z h =
       let e : n ≡ refusal (drawSentences q) = sym (ap outcomeNumber h) ∙ number-is in
       (e, sym (not-drawn q n e z))
+
+-- ---- unmasking
+
+module _ (luma : List Float) (side : ℕ) (xs ys : List ℤ) (g n : ℕ) (e : n ≡ refusal (unmaskSentences luma side xs ys g)) (z : n ≡ 0) where
+  none : (m : ℕ) → at m (unmaskSentences luma side xs ys g) ≡ false
+  unfolding unmaskSentences modulePlacement sound fresh
+  none = none-of (unmaskSentences luma side xs ys g) refl n e z
+
+  on-card : ModulesPlaced side g xs ys
+  unfolding unmaskSentences sound fresh
+  on-card = modules-placed side g xs ys 0 (split (_ ∷ _ ∷ []) _ refl (sym z ∙ e) .1) refl
+
+  one-each : (length xs ≡ length ys) × (length xs ≤ length luma)
+  unfolding unmaskSentences at
+  one-each = luma-lengths (length xs) (length ys) (length luma) (none 5)
+
+  pub unmask-positions : Positions side g xs ys
+  unfolding unmaskSentences at
+  unmask-positions = record { side-most = side-in side (none 2) .1; pairs = one-each .0; places-good = on-card .places-good }
+
+  pub unmask-grid : g ≤ length xs
+  unmask-grid = on-card .grid-most
+
+  pub unmask-scores : length xs ≤ length luma
+  unmask-scores = one-each .1

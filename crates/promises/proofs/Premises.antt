@@ -27,10 +27,11 @@ use Rattle.demod.proofs.Accepted as scored
 use Rattle.guarantee.specs.Card.{Setting, Card, modules, chromaScores, toDraw, drawnCard, toScore, scoredCard}
 use Rattle.guarantee.specs.Guarantee.{Singles}
 use Rattle.card.specs.declared.Card as opened
+use Rattle.readout.specs.Reading.{settingOf}
 use Rattle.reader.specs.File.{sheetOf, referencesOf}
 use Rattle.reader.specs.Fitting.{toMeasure}
 use Rattle.reader.proofs.Listed.{floats-fit}
-use Rattle.promises.specs.Premises.{settingOf, DrawingRoom, RefusedByLength}
+use Rattle.promises.specs.Premises.{DrawingRoom, RefusedByLength}
 
 -- ---- the palette and the noise record of a file are f32 values
 

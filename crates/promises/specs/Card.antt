@@ -1,11 +1,11 @@
--- Whole cards (crate `guarantee`): that the read guarantee speaks of cards that exist and of what the calls leave, and that the definitions give the worked examples. Definitions only.
+-- Whole cards (crate `guarantee`): that the read guarantee speaks of cards that exist, and that the definitions give the worked examples. Definitions only.
 use mathlib.Core.Path.{_≡_}
 use mathlib.Core.Bool.{Bool, true, false, _&&_}
-use mathlib.Core.List.{List, [], _∷_, _++_, map}
+use mathlib.Core.List.{List, [], _∷_, map}
 use Prim.Native.Nat.{ℕ, _*_, _<_}
 use lib.IntN.{pos, natAbs, _-ℤ_}
 use lib.Signed.{leZ}
-use lib.ListN.{length, take, getD}
+use lib.ListN.{length, getD}
 use lib.Ieee.{Float, neg}
 use Rattle.float.specs.Select.{abs}
 use Rattle.limits.specs.Chroma.{chromaOn}
@@ -15,15 +15,9 @@ use Rattle.color.specs.Palette.{hueAb}
 use Rattle.stats.specs.declared.ChannelStats.{ChannelStats}
 use Rattle.stats.specs.Arithmetic.{_⊕_, _⊖_, _⊘_}
 use Rattle.stats.specs.Noise.{sigmaAbAt, lumaLlr}
-use Rattle.answers.specs.declared.Outcome.{Outcome}
-use Rattle.answers.specs.Answers.{outcomeNumber, ended}
-use Rattle.modulate.specs.Score.{unmaskLumaOf}
-use Rattle.reading.specs.Read.{readListOf}
-use Rattle.demod.specs.Call as scoring
-use Rattle.refine.specs.Calls as refinement
 use Rattle.guarantee.specs.Within.{units, halfApart}
-use Rattle.guarantee.specs.Card.{Setting, Card, modules, chromaScores, drawnCard, toScore, bitsDrawn, bitsRead, moduleLab, cellLab, paletteColour, carriesChroma}
-use Rattle.guarantee.specs.Guarantee.{Singles, InMargin, Near, Readable}
+use Rattle.guarantee.specs.Card.{Setting, Card, modules, drawnCard, bitsDrawn, bitsRead, moduleLab, cellLab, paletteColour, carriesChroma}
+use Rattle.guarantee.specs.Guarantee.{Singles, InMargin, Readable}
 use Rattle.guarantee.specs.Table.{Row, table}
 
 -- a card of the setting s that meets the guarantee's premises, and the bits that it is drawn from and that are read from it
@@ -103,43 +97,3 @@ pub record Met : Type 0 where
 -- every row of the table: what the definitions give is what is said
 abbrev pub Worked : Type 0
 Worked = map (λ (r : Row). r .gives) table ≡ map (λ (r : Row). r .says) table
-
--- what `score`, `add_local_luma`, `unmask_luma` and `read_list`, twice, answer and leave, each handed what the one before it left: the five equations are those of their contracts
-pub record Called (s : Setting) (c : Card) : Type 0 where
-  pub score-answer : Outcome
-  pub luma : List Float
-  pub colours : List Float
-  pub chroma : List Float
-  pub score-is : scoring.final score-answer luma colours chroma ≡ scoring.scoredOf (toScore s c)
-  pub refine-answer : Outcome
-  pub refined : List Float
-  pub scratch : List Float
-  pub refine-is : refinement.final refine-answer refined scratch ≡
-      refinement.refineOf (refinement.request luma (s .layout .side) (s .layout .hues) (s .xs) (s .ys) (s .layout .grid) colours (s .palette) (s .noise) (c .scratch))
-  pub unmask-answer : Outcome
-  pub unmasked : List Float
-  pub unmask-is : ended unmask-answer unmasked ≡ unmaskLumaOf refined (s .layout .side) (s .xs) (s .ys) (s .layout .grid) (s .mask)
-  pub luma-answer : Outcome
-  pub luma-bits : List ℕ
-  pub luma-is : ended luma-answer luma-bits ≡ readListOf unmasked (c .lumaBits)
-  pub chroma-answer : Outcome
-  pub chroma-bits : List ℕ
-  pub chroma-is : ended chroma-answer chroma-bits ≡ readListOf chroma (c .chromaBits)
-
--- the bits that a program then has
-abbrev pub bitsHad : (s : Setting) (c : Card) → Called s c → List ℕ
-bitsHad s c p = take (modules s) (p .luma-bits) ++ take (chromaScores s) (p .chroma-bits)
-
--- none of the calls is refused: each number is 0
-pub record AllAccepted (s : Setting) (c : Card) (p : Called s c) : Type 0 where
-  pub score : outcomeNumber (p .score-answer) ≡ 0
-  pub refine : outcomeNumber (p .refine-answer) ≡ 0
-  pub unmask : outcomeNumber (p .unmask-answer) ≡ 0
-  pub luma : outcomeNumber (p .luma-answer) ≡ 0
-  pub chroma : outcomeNumber (p .chroma-answer) ≡ 0
-
-pub record ProgramReads : Type 0 where
-  -- they are the bits read that the guarantee speaks of
-  pub had : (s : Setting) (c : Card) (p : Called s c) → bitsHad s c p ≡ bitsRead s c
-  -- and inside the margin, of a card that is drawn, accepted and near what was drawn, the bits drawn
-  pub drawn : (s : Setting) (c : Card) (p : Called s c) → Singles s → InMargin s → drawnCard s c .number ≡ 0 → AllAccepted s c p → Near s c → bitsHad s c p ≡ bitsDrawn s c

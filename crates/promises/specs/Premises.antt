@@ -15,17 +15,11 @@ use Rattle.measure.specs.Measure.{measureOf}
 use Rattle.guarantee.specs.Card.{Setting, Card, modules, chromaScores, drawnCard, scoredCard}
 use Rattle.guarantee.specs.Guarantee.{Singles}
 use Rattle.card.specs.declared.Card as opened
-use Rattle.readout.specs.Sheet.{Sheet}
-use Rattle.readout.specs.Reading.{layoutOf}
+use Rattle.readout.specs.Reading.{settingOf}
 use Rattle.reader.specs.File.{sheetOf, referencesOf}
 use Rattle.reader.specs.Fitting.{toMeasure}
 
 -- ---- a card that `readcard` reads
-
--- what the guarantee calls the setting of a card: the file's layout, places, palette and mask, a model, and a noise record
-abbrev pub settingOf : Sheet → IlluminationModel → ChannelStats → Setting
-settingOf c m n =
-    record { layout = layoutOf (c .settings); xs = c .xs; ys = c .ys; cxs = c .cxs; cys = c .cys; palette = c .palette; mask = c .settings .mask; model = m; noise = n }
 
 -- of every file, and every model: where its references are measured, the palette and the record hold f32 values
 abbrev pub ReadableAreSingles : Type 0

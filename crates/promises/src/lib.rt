@@ -3,8 +3,7 @@
 // changed definition makes false, fails this crate. The definitions are in the specs/ of the crates named below, the
 // theorems in their proofs/.
 
-ghost use Rattle.guarantee.specs.Guarantee.{ReadGuarantee};
-ghost use Rattle.promises.specs.Card.{ProgramReads, Met, Worked};
+ghost use Rattle.promises.specs.Card.{Met, Worked};
 ghost use Rattle.promises.specs.Premises.{ReadableAreSingles, DrawingAfterScoring};
 ghost use Rattle.promises.specs.Floats.{NearestRoots};
 ghost use Rattle.promises.specs.Colour.{SrgbFormula, NearestSrgb, BothWays, LightnessRises};
@@ -17,21 +16,7 @@ ghost use Rattle.promises.specs.Scores.{ScoresInRange, ScoringAnswers};
 ghost use Rattle.promises.specs.Window.{WindowInCoordinates};
 ghost use Rattle.promises.specs.Reading.{AcceptedIsListed, RoomForAll};
 
-// ---- the crate guarantee: whole cards
-
-// The read guarantee. Two cards of one layout, palette, mask, model and noise record, inside the margin and with
-// each corrected colour within half a sigma of its drawn colour, are read as they were drawn, bit for bit. They are
-// read as equal exactly when they were drawn from equal bits.
-pub fn read_guarantee()
-    ensures { λ _. ⌜ ReadGuarantee ⌝ }
-{}
-
-// What the guarantee calls the bits read are the bits that a program has after the five calls `score`,
-// `add_local_luma`, `unmask_luma` and `read_list`, for luma and for chroma, by their contracts alone. Inside the
-// margin they are the bits drawn.
-pub fn program_reads()
-    ensures { λ _. ⌜ ProgramReads ⌝ }
-{}
+// ---- the crate guarantee: whole cards (the read guarantee itself is the contract of `bits::read_bits`)
 
 // The guarantee's premises can be met, with chroma off and with chroma on, and at their edges: here are cards of each
 // kind and the bits that are read from them. Two pairs of cards, of cell sizes 1 and 2, have every colour exactly half
@@ -211,10 +196,11 @@ pub fn window_in_coordinates()
     ensures { λ _. ⌜ WindowInCoordinates ⌝ }
 {}
 
-// ---- the crates readout and reader
+// ---- the crates bits, readout and reader
 
-// A card whose scoring is accepted is listed: refinement, unmasking and reading are not refused after it. So a card
-// file that opens, and whose fit, measurement and scoring are accepted, is read as its listing.
+// Where scoring is accepted, refinement, unmasking and reading are refused by lengths alone: `read_bits` is not refused
+// where scratch has (side + 12)² floats, and there is a bit for each luma score and for each chroma score that is lent.
+// So a card file that opens, and whose fit, measurement and scoring are accepted, is read as its listing.
 pub fn accepted_is_listed()
     ensures { λ _. ⌜ AcceptedIsListed ⌝ }
 {}

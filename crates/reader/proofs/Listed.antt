@@ -7,9 +7,8 @@ use lib.Dec.{T}
 use lib.ListN.{length, getD}
 use lib.Ieee.{Float, nan, binary32, fits}
 use lib.Ieee.Bits.{ofBits-fits}
-use Rattle.answers.specs.declared.Outcome.the-variants as outcome
-use Rattle.answers.specs.Answers.{gives}
 use Rattle.sentences.specs.Sentences.{decided}
+use Rattle.answers.specs.Answers.{gives}
 use Rattle.card.specs.declared.Card.{Card}
 use Rattle.card.specs.Number.{u32At, f32At}
 use Rattle.card.specs.Sections.{floatAt, componentAt}
@@ -18,11 +17,10 @@ use Rattle.illum.specs.declared.IlluminationModel.{IlluminationModel}
 use Rattle.stats.specs.declared.ChannelStats.{ChannelStats}
 use Rattle.measure.specs.Measure.{measureOf}
 use Rattle.measure.proofs.Passes.{F32, answered-passes}
-use Rattle.demod.specs.Call as scoring
-use Rattle.listing.specs.Listing.{listing}
+use Rattle.guarantee.specs.Card.{scoredCard}
 use Rattle.readout.specs.Sheet.{Sheet}
-use Rattle.readout.specs.Reading.{toScore}
-use Rattle.readout.proofs.Never.{luma, bits, symbols, is-listed}
+use Rattle.readout.specs.Reading.{settingOf, cardOf, listingOf}
+use Rattle.readout.proofs.Never.{is-listed}
 use Rattle.reader.specs.File.{listOf, floatsOf, coloursOf, sheetOf, referencesOf}
 use Rattle.reader.specs.Fitting.{toMeasure, fitted, afterMeasuring, measureText, afterFitting, fitText}
 use Rattle.reader.specs.Text.{afterOpening, cardText}
@@ -58,9 +56,7 @@ module _ (s : List ℕ) (card : Card) where
   model = fitted sheet references .model
 
   pub card-listed : (r : ChannelStats) → opened 5 s ≡ gives card → fitted sheet references .number ≡ 0 → measureOf (toMeasure sheet references model) .said ≡ gives r →
-      scoring.scoredOf (toScore sheet model r) .answer ≡ outcome.Done →
-      cardText s ≡ listing (model .terms) (model .kept) (model .rejected) (length (sheet .xs)) (sheet .xs) (sheet .ys) (luma sheet model r) (bits sheet model r)
-      (length (scoring.scoredOf (toScore sheet model r) .chroma)) (scoring.scoredOf (toScore sheet model r) .chroma) (symbols sheet model r)
+      scoredCard (settingOf sheet model r) (cardOf sheet) .number ≡ 0 → cardText s ≡ listingOf (settingOf sheet model r) (cardOf sheet)
   unfolding cardText afterOpening fitText afterFitting measureText afterMeasuring decided sheetOf referencesOf
   card-listed r o f m d =
       let p = answered-passes (toMeasure sheet references model) (floats-fit s (card .references .at) (8 * card .references .count)) (floats-fit s (card .palette) (2 + 8 * card .settings .hues)) r m in

@@ -1,98 +1,96 @@
--- What a call's answer makes of the text: where it refused, the line of its number; where it was done, what comes next, on what it left. Assumes nothing.
-use mathlib.Core.Path.{_≡_}
+-- What the answer of `bits::read_bits` makes of the text: where it refused, the line of its number; where it was done, the listing of what it left, its luma scores unmasked once more, which are then as
+-- they were before unmasking. What is listed is there, since the call was not refused by 5. Assumes nothing.
+use mathlib.Core.Path.{_≡_, refl, sym, ap, _∙_}
 use mathlib.Core.List.{List}
-use Prim.Native.Nat.{ℕ, _*_}
+use Prim.Native.Nat.{ℕ, _*_, _≤_}
+use native.Mathlib.Omega.{arith}
 use lib.IntN.{ℤ}
 use lib.ListN.{length}
 use lib.Ieee.{Float}
+use Rattle.sentences.specs.Sentences.{decided}
+use Rattle.sentences.proofs.Laws.{refuses, accepts}
 use Rattle.card.specs.declared.Settings.{Settings}
 use Rattle.listing.specs.Text.{Text, written}
 use Rattle.listing.specs.Listing.{listing, refusedLine}
 use Rattle.answers.specs.declared.Outcome.{Outcome}
-use Rattle.answers.specs.declared.Outcome.the-variants as outcome
-use Rattle.answers.specs.Answers.{Ended, ended}
+use Rattle.answers.specs.declared.Outcome.the-variants.{Refused, Done}
+use Rattle.answers.specs.Answers.{outcomeNumber, Ended, ended}
 use Rattle.modulate.specs.Score.{unmaskLumaOf}
-use Rattle.reading.specs.Read.{readListOf}
+use Rattle.modulate.proofs.Written.{unmask-luma-long, unmask-luma-twice}
+use Rattle.layout.specs.declared.Layout.{Layout}
 use Rattle.illum.specs.declared.IlluminationModel.{IlluminationModel}
 use Rattle.stats.specs.declared.ChannelStats.{ChannelStats}
-use Rattle.demod.specs.Call as scoring
 use Rattle.refine.specs.Refine.{squares}
-use Rattle.refine.specs.Calls as refining
-use Rattle.readout.specs.Sheet.{sheet}
-use Rattle.readout.specs.Reading.{zeros, noBits, unless, layoutOf, afterSymbols, afterBits, afterUnmasking, readText, afterRefinement, refineText, placesOf, afterScoring, scoreText}
+use Rattle.guarantee.specs.Card.{Setting, Card, modules, scoredCard, refinedCard, unmaskedCard}
+use Rattle.guarantee.proofs.Known.{read-long}
+use Rattle.bits.specs.Reading.{Left, setting, card, left, readOf}
+use Rattle.bits.proofs.Joined.{all-accepted, all-done, refused-above}
+use Rattle.bits.proofs.Never.{facts}
+use Rattle.readout.specs.Sheet.{Sheet, sheet}
+use Rattle.readout.specs.Reading.{listingOf, Listable, textOf, zeros, noBits, placesOf, layoutOf, settingOf, cardOf, scoreText}
 
--- ---- unmasking and reading: calls that write one list
+-- a listing of scores that were unmasked
+pub relisted : (o : Outcome) (l : List Float) (e : Ended Float) (t u : Text) (terms kept rejected n : ℕ) (xs ys : List ℤ) (bits : List ℕ) (k : ℕ) (chroma : List Float) (symbols : List ℕ) → ended o l ≡ e →
+    u ≡ written (listing terms kept rejected n xs ys l bits k chroma symbols) t → u ≡ written (listing terms kept rejected n xs ys (e .list) bits k chroma symbols) t
+relisted o l e t u terms kept rejected n xs ys bits k chroma symbols p h = rw (← p) h
 
-pub away : {A : Type 0} (o : Outcome) (l : List A) (e : Ended A) (t u : Text) (n : ℕ) (next : List ℕ) → ended o l ≡ e → o ≡ outcome.Refused n →
-    u ≡ written (refusedLine n) t → u ≡ written (unless (e .answer) next) t
-away o l e t u n next p r h = rw (← p, r) h
+-- what was left, and the text u that was written on t
+module _ (s : Setting) (c : Card) (f : Left) (p : f ≡ readOf s c) (t u : Text) where
+  abbrev text-by : ℕ → List ℕ
+  text-by k = decided k refusedLine (listingOf s c)
 
-module _ (o : Outcome) (m : IlluminationModel) (xs ys : List ℤ) (luma chroma : List Float) (t u : Text) where
-  pub listed : (l : List ℕ) (e : Ended ℕ) (bits : List ℕ) → ended o l ≡ e → o ≡ outcome.Done →
-      u ≡ written (listing (m .terms) (m .kept) (m .rejected) (length xs) xs ys luma bits (length chroma) chroma l) t →
-      u ≡ written (afterSymbols m xs ys luma bits chroma e) t
-  unfolding afterSymbols
-  listed l e bits p d h = rw (← p, d) h
+  is-text : (k : ℕ) (l : List ℕ) → f .number ≡ k → l ≡ text-by k → u ≡ written l t → u ≡ written (textOf s c) t
+  unfolding textOf
+  is-text k l e q h = h ∙ ap (λ (x : List ℕ). written x t) (q ∙ ap text-by (sym e ∙ ap (λ (g : Left). g .number) p))
 
-  pub bits-read : (l : List ℕ) (e : Ended ℕ) (symbols : List ℕ) → ended o l ≡ e → o ≡ outcome.Done → symbols ≡ noBits (length chroma) →
-      u ≡ written (afterSymbols m xs ys luma l chroma (readListOf chroma symbols)) t → u ≡ written (afterBits m xs ys luma chroma e) t
-  unfolding afterBits
-  bits-read l e symbols p d q h = rw (← p, d) (rw q at h)
+  refused : (k : ℕ) → f .answer ≡ Refused k → f .number ≡ k → u ≡ written (refusedLine k) t → u ≡ written (textOf s c) t
+  refused k r e h = is-text k (refusedLine k) e (refuses refusedLine (listingOf s c) k k (refused-above s c k (ap (λ (g : Left). g .answer) (sym p) ∙ r)) refl) h
 
-  unmasked-is : (l : List Float) (e : Ended Float) (bits : List ℕ) → ended o l ≡ e → o ≡ outcome.Done → bits ≡ noBits (length luma) →
-      u ≡ written (afterBits m xs ys luma chroma (readListOf l bits)) t → u ≡ written (afterUnmasking m xs ys luma chroma e) t
-  unfolding afterUnmasking
-  unmasked-is l e bits p d b h = rw (← p, d) (rw b at h)
+  listed : f .number ≡ 0 →
+      u ≡ written (listing (s .model .terms) (s .model .kept) (s .model .rejected) (modules s) (s .xs) (s .ys) (unmaskLumaOf (f .lent .luma) (s .layout .side) (s .xs) (s .ys) (s .layout .grid) (s .mask) .list) (f .lent .bits) (length (f .lent .chroma)) (f .lent .chroma) (f .lent .symbols)) t →
+      u ≡ written (textOf s c) t
+  listed e h =
+      let z = ap (λ (g : Left). g .number) (sym p) ∙ e in
+      is-text 0 (listingOf s c) e (accepts refusedLine (listingOf s c) 0 0 refl refl)
+      (rw (p ∙ all-done s c z, unmask-luma-twice (refinedCard s c .luma) (s .layout .side) (s .xs) (s .ys) (s .layout .grid) (s .mask) (all-accepted s c z .unmasking)) at h)
 
-  module _ (s : Settings) (l from : List Float) (p : ended o l ≡ unmaskLumaOf from (s .side) xs ys (s .grid) (s .mask)) (q : from ≡ luma) where
-    handed : ended o l ≡ unmaskLumaOf luma (s .side) xs ys (s .grid) (s .mask)
-    handed = rw q at p
+-- the same over plain names
+module _ (q : Layout) (xs ys : List ℤ) (raw : List Float) (cxs cys : List ℕ) (craw palette : List Float) (mask : ℕ) (m : IlluminationModel) (n : ChannelStats)
+    (luma colours chroma scratch : List Float) (bits symbols : List ℕ) (o : Outcome) (l d h k : List Float) (b y : List ℕ)
+    (p : left o l d h k b y ≡ readOf (setting q xs ys cxs cys palette mask m n) (card raw craw luma colours chroma scratch bits symbols)) where
+  abbrev s : Setting
+  s = setting q xs ys cxs cys palette mask m n
 
-    pub unmasked : (bits : List ℕ) → o ≡ outcome.Done → bits ≡ noBits (length luma) →
-        u ≡ written (afterBits m xs ys luma chroma (readListOf l bits)) t → u ≡ written (readText s xs ys m luma chroma) t
-    unfolding readText
-    unmasked bits d b h = unmasked-is l (unmaskLumaOf luma (s .side) xs ys (s .grid) (s .mask)) bits handed d b h
+  abbrev c : Card
+  c = card raw craw luma colours chroma scratch bits symbols
 
-    pub not-unmasked : (n : ℕ) → o ≡ outcome.Refused n → u ≡ written (refusedLine n) t → u ≡ written (readText s xs ys m luma chroma) t
-    unfolding readText afterUnmasking
-    not-unmasked n r h = away o l (unmaskLumaOf luma (s .side) xs ys (s .grid) (s .mask)) t u n _ handed r h
+  pub not-read : (t u : Text) (j : ℕ) → o ≡ Refused j → u ≡ written (refusedLine j) t → u ≡ written (textOf (setting q xs ys cxs cys palette mask m n) (card raw craw luma colours chroma scratch bits symbols)) t
+  not-read t u j r = refused s c (left o l d h k b y) p t u j r (ap outcomeNumber r)
 
--- ---- refinement
+  pub is-read : (t u : Text) → o ≡ Done →
+      u ≡ written (listing (m .terms) (m .kept) (m .rejected) (length xs) xs ys (unmaskLumaOf l (q .side) xs ys (q .grid) mask .list) b (length h) h y) t →
+      u ≡ written (textOf (setting q xs ys cxs cys palette mask m n) (card raw craw luma colours chroma scratch bits symbols)) t
+  is-read t u r = listed s c (left o l d h k b y) p t u (ap outcomeNumber r)
 
-module _ (s : Settings) (palette : List Float) (xs ys : List ℤ) (m : IlluminationModel) (n : ChannelStats) (chroma : List Float) (t u : Text) where
-  module _ (o : Outcome) (l left : List Float) (e : refining.Final) (p : refining.final o l left ≡ e) where
-    refined-is : o ≡ outcome.Done → u ≡ written (readText s xs ys m l chroma) t → u ≡ written (afterRefinement s xs ys m chroma e) t
-    unfolding afterRefinement
-    refined-is d h = rw (← p, d) h
+  pub listable : o ≡ Done → Listable xs ys l h b y
+  listable r =
+      let z = ap (λ (g : Left). g .number) (sym p) ∙ ap outcomeNumber r in
+      let a = all-accepted s c z in
+      let e = p ∙ all-done s c z in
+      let scores = unmask-luma-long (refinedCard s c .luma) (q .side) xs ys (q .grid) mask (a .unmasking) in
+      record {
+        ys-are = omega (arith, facts s c (a .scoring) .fit .lengths .pairs .modules);
+        luma-is = omega (arith, scores, ap (λ (g : Left). length (g .lent .luma)) e);
+        bits-are = omega (arith, scores, read-long (unmaskedCard s c .list) bits (a .luma), ap (λ (g : Left). length (g .lent .bits)) e);
+        symbols-are = omega (arith, read-long (scoredCard s c .chroma) symbols (a .chroma), ap (λ (g : Left). length (g .lent .chroma)) e, ap (λ (g : Left). length (g .lent .symbols)) e);
+      }
 
-    not-refined-is : (k : ℕ) → o ≡ outcome.Refused k → u ≡ written (refusedLine k) t → u ≡ written (afterRefinement s xs ys m chroma e) t
-    unfolding afterRefinement
-    not-refined-is k d h = rw (← p, d) h
+-- ---- the card of a file, whose slices are zero
 
-  module _ (o : Outcome) (luma colours l left scratch : List Float)
-      (p : refining.final o l left ≡ refining.refineOf (refining.request luma (s .side) (s .hues) xs ys (s .grid) colours palette n scratch)) (z : scratch ≡ zeros (squares (s .side))) where
-    pub refined : o ≡ outcome.Done → u ≡ written (readText s xs ys m l chroma) t → u ≡ written (refineText s palette xs ys m n luma colours chroma) t
-    unfolding refineText
-    refined d h = refined-is o l left _ (rw z at p) d h
-
-    pub not-refined : (k : ℕ) → o ≡ outcome.Refused k → u ≡ written (refusedLine k) t → u ≡ written (refineText s palette xs ys m n luma colours chroma) t
-    unfolding refineText
-    not-refined k d h = not-refined-is o l left _ (rw z at p) k d h
-
--- ---- scoring
-
-module _ (s : Settings) (palette : List Float) (xs ys : List ℤ) (raw : List Float) (cxs cys : List ℕ) (craw : List Float) (m : IlluminationModel) (t u : Text) where
-  module _ (n : ChannelStats) (o : Outcome) (l c h luma colours chroma : List Float)
-      (p : scoring.final o l c h ≡ scoring.scoredOf (scoring.request (layoutOf s) xs ys raw cxs cys craw palette m n luma colours chroma))
-      (a : luma ≡ zeros (length xs)) (b : colours ≡ zeros (3 * length xs)) (d : chroma ≡ zeros (placesOf s (length xs) (length cxs))) where
-    lent : scoring.final o l c h ≡
-        scoring.scoredOf (scoring.request (layoutOf s) xs ys raw cxs cys craw palette m n (zeros (length xs)) (zeros (3 * length xs)) (zeros (placesOf s (length xs) (length cxs))))
-    lent = rw (a, b, d) at p
-
-    pub scored : o ≡ outcome.Done → u ≡ written (refineText s palette xs ys m n l c h) t → u ≡ written (scoreText (sheet s palette xs ys raw cxs cys craw) m n) t
-    unfolding scoreText afterScoring
-    scored e g = rw (← lent, e) g
-
-    pub not-scored : (k : ℕ) → o ≡ outcome.Refused k → u ≡ written (refusedLine k) t → u ≡ written (scoreText (sheet s palette xs ys raw cxs cys craw) m n) t
-    unfolding scoreText afterScoring
-    not-scored k e g = rw (← lent, e) g
+module _ (s : Settings) (palette : List Float) (xs ys : List ℤ) (raw : List Float) (cxs cys : List ℕ) (craw : List Float) (m : IlluminationModel) (n : ChannelStats) (t u : Text)
+    (luma colours chroma scratch : List Float) (bits symbols : List ℕ) where
+  pub of-file : u ≡ written (textOf (setting (layoutOf s) xs ys cxs cys palette (s .mask) m n) (card raw craw luma colours chroma scratch bits symbols)) t →
+      luma ≡ zeros (length xs) → colours ≡ zeros (3 * length xs) → chroma ≡ zeros (placesOf s (length xs) (length cxs)) → scratch ≡ zeros (squares (s .side)) →
+      bits ≡ noBits (length xs) → symbols ≡ noBits (placesOf s (length xs) (length cxs)) → u ≡ written (scoreText (sheet s palette xs ys raw cxs cys craw) m n) t
+  unfolding scoreText
+  of-file h a b d e f g = rw (a, b, d, e, f, g) at h

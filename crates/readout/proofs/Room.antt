@@ -32,8 +32,12 @@ use Rattle.stats.specs.declared.ChannelStats.{ChannelStats}
 use Rattle.demod.specs.Call as scoring
 use Rattle.demod.proofs.Outcome.{at-done}
 use Rattle.refine.specs.Calls as refining
+use Rattle.guarantee.specs.Card.{Setting, Card, toScore, scoredCard, toRefine, refinedCard, unmaskedCard, lumaRead, chromaRead}
+use Rattle.bits.specs.Reading.{Lent, Left, stopped, readOf}
+use Rattle.bits.proofs.Joined.{all-accepted}
+use Rattle.bits.proofs.Never.{facts, chroma-long}
 use Rattle.readout.specs.Sheet.{Sheet, Few}
-use Rattle.readout.specs.Reading.{noBits, unless, afterSymbols, afterBits, afterUnmasking, readText, afterRefinement, refineText, placesOf, toScore, afterScoring, scoreText}
+use Rattle.readout.specs.Reading.{noBits, placesOf, settingOf, cardOf, listingOf, textOf, scoreText}
 use Rattle.readout.proofs.Places.{entries-below}
 
 -- ---- refusals are small numbers
@@ -62,34 +66,48 @@ unfolding decided
 number-small number r d zero a b h = omega arith
 number-small number r d (suc k) a b h = omega (arith, a (suc k))
 
-ended-small : {A : Type 0} (ss : List Sentence) (before after : List A) → tiny ss ≡ true → outcomeNumber (writtenOr ss before after .answer) < 100
+ended-small : {A : Type 0} (ss : List Sentence) (before after : List A) → tiny ss ≡ true → writtenOr ss before after .number < 100
 ended-small ss before after h =
-    number-small (λ e. outcomeNumber (e .answer)) (λ n. ended (outcome.Refused n) before) (ended outcome.Done after) (refusal ss) (λ n. refl) refl (refusal-small ss h)
+    number-small (λ e. e .number) (λ n. ended (outcome.Refused n) before) (ended outcome.Done after) (refusal ss) (λ n. refl) refl (refusal-small ss h)
 
-read-small : (scores : List Float) (bits : List ℕ) → outcomeNumber (readListOf scores bits .answer) < 100
+read-small : (scores : List Float) (bits : List ℕ) → readListOf scores bits .number < 100
 unfolding readListOf readSentences tiny
 read-small scores bits = ended-small (readSentences scores bits) bits (readList scores bits) refl
 
-unmask-small : (luma : List Float) (side : ℕ) (xs ys : List ℤ) (g mask : ℕ) → outcomeNumber (unmaskLumaOf luma side xs ys g mask .answer) < 100
+unmask-small : (luma : List Float) (side : ℕ) (xs ys : List ℤ) (g mask : ℕ) → unmaskLumaOf luma side xs ys g mask .number < 100
 unfolding unmaskLumaOf unmaskSentences modulePlacement tiny
 unmask-small luma side xs ys g mask = ended-small (unmaskSentences luma side xs ys g) luma _ refl
 
-refine-small : (q : refining.Request) → outcomeNumber (refining.refineOf q .answer) < 100
+refine-small : (q : refining.Request) → refining.refineOf q .number < 100
 unfolding refining.refineOf refining.sentencesOf modulePlacement tiny
-refine-small q = number-small (λ e. outcomeNumber (e .answer)) (refining.turnedAway q) _ (refusal (refining.sentencesOf q)) (λ n. refl) refl (refusal-small (refining.sentencesOf q) refl)
+refine-small q = number-small (λ e. e .number) (refining.turnedAway q) _ (refusal (refining.sentencesOf q)) (λ n. refl) refl (refusal-small (refining.sentencesOf q) refl)
 
-score-small : (q : scoring.Request) → outcomeNumber (scoring.scoredOf q .answer) < 100
+score-small : (q : scoring.Request) → scoring.scoredOf q .number < 100
 unfolding scoring.scoredOf scoring.sentencesOf shape placement tiny
-score-small q = number-small (λ e. outcomeNumber (e .answer)) (scoring.turnedAway q) (scoring.done q) (refusal (scoring.sentencesOf q)) (λ n. refl) refl (refusal-small (scoring.sentencesOf q) refl)
+score-small q = number-small (λ e. e .number) (scoring.turnedAway q) (scoring.done q) (refusal (scoring.sentencesOf q)) (λ n. refl) refl (refusal-small (scoring.sentencesOf q) refl)
+
+either-small : (k : ℕ) (m : Lent) (next : Left) → k < 100 → next .number < 100 → decided k (stopped m) next .number < 100
+unfolding decided
+either-small zero m next h g = g
+either-small (suc k) m next h g = h
+
+read-bits-small : (s : Setting) (c : Card) → readOf s c .number < 100
+unfolding readOf
+read-bits-small s c =
+    either-small _ _ _ (score-small (toScore s c))
+    (either-small _ _ _ (refine-small (toRefine s c))
+    (either-small _ _ _ (unmask-small (refinedCard s c .luma) (s .layout .side) (s .xs) (s .ys) (s .layout .grid) (s .mask))
+    (either-small _ _ _ (read-small (unmaskedCard s c .list) (c .lumaBits)) (either-small _ _ _ (read-small (scoredCard s c .chroma) (c .chromaBits)) (omega arith)))))
 
 -- ---- a text that follows a call
 
 pub line-in : (n : ℕ) → n < 10 ^ 20 → length (refusedLine n) ≤ 101047
 line-in n h = omega (arith, refused-length n h)
 
-unless-in : (o : Outcome) (next : List ℕ) → outcomeNumber o < 100 → (o ≡ outcome.Done → length next ≤ 101047) → length (unless o next) ≤ 101047
-unless-in (outcome.Refused n) next h g = line-in n (omega arith)
-unless-in outcome.Done next h g = g refl
+after-in : (k : ℕ) (next : List ℕ) → k < 100 → (k ≡ 0 → length next ≤ 101047) → length (decided k refusedLine next) ≤ 101047
+unfolding decided
+after-in zero next h g = g refl
+after-in (suc k) next h g = line-in (suc k) (omega arith)
 
 -- ---- bits are 0 or 1, also where none was read
 
@@ -145,64 +163,47 @@ Small xs = (i : ℕ) → i < length xs → mag (getD xs i (pos 0)) < 32768
 paired : (xs ys : List ℤ) → length ys ≡ length xs → Small ys → (i : ℕ) → i < length xs → mag (getD ys i (pos 0)) < 32768
 paired xs ys e p i h = p i (omega arith)
 
-module _ (m : IlluminationModel) (xs ys : List ℤ) (f : Figures m) (few : length xs ≤ 1020) (pairs : length ys ≡ length xs) (px : Small xs) (py : Small ys) where
-  module _ (luma chroma : List Float) (short : length chroma ≤ 4080) where
-    symbols-in : (bits : List ℕ) → Bits bits → length (afterSymbols m xs ys luma bits chroma (readListOf chroma (noBits (length chroma)))) ≤ 101047
-    unfolding afterSymbols
-    symbols-in bits b =
-        unless-in (readListOf chroma (noBits (length chroma)) .answer) _ (read-small chroma (noBits (length chroma)))
-        (λ e. listing-length (m .terms) (m .kept) (m .rejected) (length xs) xs ys luma bits (length chroma) chroma (readListOf chroma (noBits (length chroma)) .list)
-        (record {
-          terms-in = f .terms;
-          kept-in = f .kept;
-          rejected-in = f .rejected;
-          modules-in = few;
-          places-in = short;
-          xs-in = px;
-          ys-in = paired xs ys pairs py;
-          bits-in = λ i h. omega (arith, b i);
-          symbols-in = λ i h. omega (arith, read-bits chroma (length chroma) i);
-        }))
-
-    bits-in : (unmasked : List Float) (n : ℕ) → length (afterBits m xs ys luma chroma (readListOf unmasked (noBits n))) ≤ 101047
-    unfolding afterBits
-    bits-in unmasked n =
-        unless-in (readListOf unmasked (noBits n) .answer) _ (read-small unmasked (noBits n)) (λ e. symbols-in (readListOf unmasked (noBits n) .list) (read-bits unmasked n))
-
-    read-in : (s : Settings) → length (readText s xs ys m luma chroma) ≤ 101047
-    unfolding readText afterUnmasking
-    read-in s =
-        unless-in (unmaskLumaOf luma (s .side) xs ys (s .grid) (s .mask) .answer) _ (unmask-small luma (s .side) xs ys (s .grid) (s .mask))
-        (λ e. bits-in (unmaskLumaOf luma (s .side) xs ys (s .grid) (s .mask) .list) (length luma))
-
-  refine-in : (s : Settings) (palette : List Float) (n : ChannelStats) (luma colours chroma : List Float) → length chroma ≤ 4080 → length (refineText s palette xs ys m n luma colours chroma) ≤ 101047
-  unfolding refineText afterRefinement
-  refine-in s palette n luma colours chroma h =
-      unless-in (refining.refineOf _ .answer) _ (refine-small _) (λ e. read-in (refining.refineOf _ .luma) chroma h s)
-
--- the chroma list of an accepted call has its length, and at most 4 bits a place
-chroma-kept : (q : scoring.Request) → scoring.scoredOf q .answer ≡ outcome.Done → length (scoring.scoredOf q .chroma) ≡ length (q .chroma)
-chroma-kept q e = by (chromaOn (q .layout .hues)) refl
-  where
-    by : (b : Bool) → chromaOn (q .layout .hues) ≡ b → length (scoring.scoredOf q .chroma) ≡ length (q .chroma)
-    by true o = ap (λ (f : scoring.Final). length (f .chroma)) (at-done q e .left) ∙ at-done q e .chroma o .long
-    by false o = ap (λ (f : scoring.Final). length (f .chroma)) (at-done q e .left) ∙ ap length (at-done q e .no-chroma o)
-
 few-places : (k c r size : ℕ) → symbolBits k ≤ 4 → c + r ≤ 1020 → chromaLength k c r size ≤ 4080
 unfolding chromaLength
 few-places k c r size h g = mul-le-mul h (entries-below c r size g)
 
 -- every card of a card file
-pub score-in : (c : Sheet) (m : IlluminationModel) (n : ChannelStats) → Figures m → Few (c .settings) (length (c .xs)) (length (c .cxs)) → length (c .ys) ≡ length (c .xs) → Small (c .xs) → Small (c .ys) →
-    length (scoreText c m n) ≤ 101047
-unfolding scoreText afterScoring
-score-in c m n f few e px py =
-    let q = toScore c m n in
-    unless-in (scoring.scoredOf q .answer) _ (score-small q)
-    (λ d. refine-in m (c .xs) (c .ys) f (omega arith) e px py (c .settings) (c .palette) n (scoring.scoredOf q .luma) (scoring.scoredOf q .colours) (scoring.scoredOf q .chroma)
-    (omega (
-      arith,
-      chroma-kept q d,
-      length-replicate (placesOf (c .settings) (length (c .xs)) (length (c .cxs))) (ofBits binary32 0),
-      few-places (c .settings .hues) (length (c .cxs)) (length (c .xs) - c .settings .grid) (c .settings .size) (symbol-bits-few (c .settings .hues) (at-done q d .fit .shaped .hues-good)) (omega arith),
-    )))
+module _ (c : Sheet) (m : IlluminationModel) (n : ChannelStats) (f : Figures m) (few : Few (c .settings) (length (c .xs)) (length (c .cxs))) (pairs : length (c .ys) ≡ length (c .xs)) (px : Small (c .xs)) (py : Small (c .ys)) where
+  abbrev s : Setting
+  s = settingOf c m n
+
+  abbrev k : Card
+  k = cardOf c
+
+  abbrev places : ℕ
+  places = placesOf (c .settings) (length (c .xs)) (length (c .cxs))
+
+  -- the chroma list of an accepted call has its length, and at most 4 bits a place
+  short : scoredCard s k .number ≡ 0 → length (scoredCard s k .chroma) ≤ 4080
+  short z =
+      omega (
+        arith,
+        chroma-long s k z,
+        length-replicate places (ofBits binary32 0),
+        few-places (c .settings .hues) (length (c .cxs)) (length (c .xs) - c .settings .grid) (c .settings .size) (symbol-bits-few (c .settings .hues) (facts s k z .fit .shaped .hues-good)) (omega arith),
+      )
+
+  listing-in : scoredCard s k .number ≡ 0 → length (listingOf s k) ≤ 101047
+  listing-in z =
+      let chroma = scoredCard s k .chroma in
+      listing-length (m .terms) (m .kept) (m .rejected) (length (c .xs)) (c .xs) (c .ys) (refinedCard s k .luma) (lumaRead s k .list) (length chroma) chroma (chromaRead s k .list)
+      (record {
+        terms-in = f .terms;
+        kept-in = f .kept;
+        rejected-in = f .rejected;
+        modules-in = omega arith;
+        places-in = short z;
+        xs-in = px;
+        ys-in = paired (c .xs) (c .ys) pairs py;
+        bits-in = λ i h. omega (arith, read-bits (unmaskedCard s k .list) (length (c .xs)) i);
+        symbols-in = λ i h. omega (arith, read-bits chroma places i);
+      })
+
+  pub score-in : length (scoreText c m n) ≤ 101047
+  unfolding scoreText textOf
+  score-in = after-in (readOf s k .number) (listingOf s k) (read-bits-small s k) (λ e. listing-in (all-accepted s k e .scoring))

@@ -1,27 +1,42 @@
 -- Document 01: the program "fits, measures, scores, refines and prints, or prints one line, `refused` and the number: .. that of the first call refused".
--- Each call is handed what the one before it left, and the slices that it writes, all zero and just as long as they have to be. Definitions only.
+-- The calls from scoring on are those of `bits::read_bits`; of a card file they are lent slices that are all zero and just as long as they have to be. Definitions only.
 use mathlib.Core.List.{List}
-use Prim.Native.Nat.{ℕ, _*_}
+use Prim.Native.Nat.{ℕ, _*_, _≤_}
 use lib.IntN.{ℤ}
 use lib.ListN.{length, replicate}
 use lib.Ieee.{Float, binary32, ofBits}
+use Rattle.sentences.specs.Sentences.{decided}
 use Rattle.limits.specs.Chroma.{ringModules, chromaLength}
 use Rattle.layout.specs.declared.Layout.{Layout}
 use Rattle.card.specs.declared.Settings.{Settings}
 use Rattle.listing.specs.Listing.{listing, refusedLine}
-use Rattle.answers.specs.declared.Outcome.{Outcome}
-use Rattle.answers.specs.declared.Outcome.the-variants as outcome
-use Rattle.answers.specs.Answers.{Ended}
-use Rattle.modulate.specs.Score.{unmaskLumaOf}
-use Rattle.reading.specs.Read.{readListOf}
 use Rattle.illum.specs.declared.IlluminationModel.{IlluminationModel}
 use Rattle.stats.specs.declared.ChannelStats.{ChannelStats}
-use Rattle.demod.specs.Call as scoring
-use Rattle.demod.specs.Call.{scoredOf}
 use Rattle.refine.specs.Refine.{squares}
-use Rattle.refine.specs.Calls as refining
-use Rattle.refine.specs.Calls.{refineOf}
+use Rattle.guarantee.specs.Card.{Setting, Card, modules, scoredCard, refinedCard, lumaRead, chromaRead}
+use Rattle.bits.specs.Reading.{setting, card, readOf}
 use Rattle.readout.specs.Sheet.{Sheet}
+
+-- ---- the text of a card
+
+-- "`L`: x, y, score before unmasking .., bit read. `C` lines follow: place in the chroma score list from 0, score, bit.": a luma score is listed as refinement left it
+abbrev pub listingOf : Setting → Card → List ℕ
+listingOf s c =
+    let chroma = scoredCard s c .chroma in
+    listing (s .model .terms) (s .model .kept) (s .model .rejected) (modules s) (s .xs) (s .ys) (refinedCard s c .luma) (lumaRead s c .list) (length chroma) chroma (chromaRead s c .list)
+
+-- what is listed is there: a place, a score and a bit a module, and a bit a chroma score
+pub record Listable (xs ys : List ℤ) (luma chroma : List Float) (bits symbols : List ℕ) : Type 0 where
+  pub ys-are : length xs ≤ length ys
+  pub luma-is : length xs ≤ length luma
+  pub bits-are : length xs ≤ length bits
+  pub symbols-are : length chroma ≤ length symbols
+
+-- the listing, or the line of the first call refused
+unfoldable pub textOf : Setting → Card → List ℕ
+textOf s c = decided (readOf s c .number) refusedLine (listingOf s c)
+
+-- ---- the same of a card file, on lent slices that are all zero
 
 -- n floats, and n bits, that a call is lent to write
 abbrev pub zeros : ℕ → List Float
@@ -30,42 +45,6 @@ zeros n = replicate n (ofBits binary32 0)
 abbrev pub noBits : ℕ → List ℕ
 noBits n = replicate n 0
 
--- what follows a call: the line of its refusal, or what comes next
-abbrev pub unless : Outcome → List ℕ → List ℕ
-unless (outcome.Refused n) next = refusedLine n
-unless outcome.Done next = next
-
--- ---- from the last call to the first
-
--- "`L`: x, y, score before unmasking .., bit read. `C` lines follow: place in the chroma score list from 0, score, bit."
-unfoldable pub afterSymbols : IlluminationModel → List ℤ → List ℤ → List Float → List ℕ → List Float → Ended ℕ → List ℕ
-afterSymbols m xs ys luma bits chroma read =
-    unless (read .answer) (listing (m .terms) (m .kept) (m .rejected) (length xs) xs ys luma bits (length chroma) chroma (read .list))
-
--- "Chroma scores likewise, without unmasking."
-unfoldable pub afterBits : IlluminationModel → List ℤ → List ℤ → List Float → List Float → Ended ℕ → List ℕ
-afterBits m xs ys luma chroma read = unless (read .answer) (afterSymbols m xs ys luma (read .list) chroma (readListOf chroma (noBits (length chroma))))
-
--- "after `unmask_luma` on grid modules, a score below zero is 1"
-unfoldable pub afterUnmasking : IlluminationModel → List ℤ → List ℤ → List Float → List Float → Ended Float → List ℕ
-afterUnmasking m xs ys luma chroma unmasked =
-    unless (unmasked .answer) (afterBits m xs ys luma chroma (readListOf (unmasked .list) (noBits (length luma))))
-
--- "unmasking those that refinement left": the refined scores are listed, a copy of them is unmasked
-unfoldable pub readText : Settings → List ℤ → List ℤ → IlluminationModel → List Float → List Float → List ℕ
-readText s xs ys m luma chroma = afterUnmasking m xs ys luma chroma (unmaskLumaOf luma (s .side) xs ys (s .grid) (s .mask))
-
-unfoldable pub afterRefinement : Settings → List ℤ → List ℤ → IlluminationModel → List Float → refining.Final → List ℕ
-afterRefinement s xs ys m chroma refined = unless (refined .answer) (readText s xs ys m (refined .luma) chroma)
-
--- "refinement takes the luma scores that scoring left"
-abbrev pub toRefine : Settings → List Float → List ℤ → List ℤ → ChannelStats → List Float → List Float → refining.Request
-toRefine s palette xs ys noise luma colours =
-    refining.request luma (s .side) (s .hues) xs ys (s .grid) colours palette noise (zeros (squares (s .side)))
-
-unfoldable pub refineText : Settings → List Float → List ℤ → List ℤ → IlluminationModel → ChannelStats → List Float → List Float → List Float → List ℕ
-refineText s palette xs ys m noise luma colours chroma = afterRefinement s xs ys m chroma (refineOf (toRefine s palette xs ys noise luma colours))
-
 -- "log2(hues) scores a cell and, at cell size 1, a ring module"
 abbrev pub placesOf : Settings → ℕ → ℕ → ℕ
 placesOf s modules cells = chromaLength (s .hues) cells (ringModules modules (s .grid)) (s .size)
@@ -73,15 +52,14 @@ placesOf s modules cells = chromaLength (s .hues) cells (ringModules modules (s 
 abbrev pub layoutOf : Settings → Layout
 layoutOf s = record { side = s .side; hues = s .hues; size = s .size; grid = s .grid }
 
--- "scoring corrects them by the model"
-abbrev pub toScore : Sheet → IlluminationModel → ChannelStats → scoring.Request
-toScore c m noise =
-    scoring.request (layoutOf (c .settings)) (c .xs) (c .ys) (c .raw) (c .cxs) (c .cys) (c .craw) (c .palette) m noise
-    (zeros (length (c .xs))) (zeros (3 * length (c .xs))) (zeros (placesOf (c .settings) (length (c .xs)) (length (c .cxs))))
+abbrev pub settingOf : Sheet → IlluminationModel → ChannelStats → Setting
+settingOf c m n = setting (layoutOf (c .settings)) (c .xs) (c .ys) (c .cxs) (c .cys) (c .palette) (c .settings .mask) m n
 
-unfoldable pub afterScoring : Sheet → IlluminationModel → ChannelStats → scoring.Final → List ℕ
-afterScoring c m noise scored =
-    unless (scored .answer) (refineText (c .settings) (c .palette) (c .xs) (c .ys) m noise (scored .luma) (scored .colours) (scored .chroma))
+abbrev pub cardOf : Sheet → Card
+cardOf c =
+    let modules = length (c .xs) in
+    let places = placesOf (c .settings) modules (length (c .cxs)) in
+    card (c .raw) (c .craw) (zeros modules) (zeros (3 * modules)) (zeros places) (zeros (squares (c .settings .side))) (noBits modules) (noBits places)
 
 unfoldable pub scoreText : Sheet → IlluminationModel → ChannelStats → List ℕ
-scoreText c m noise = afterScoring c m noise (scoredOf (toScore c m noise))
+scoreText c m n = textOf (settingOf c m n) (cardOf c)

@@ -1,9 +1,7 @@
 -- What a card is read from once its model and its noise record are there, and how much of it there is in a card file. Definitions only.
-use mathlib.Core.Path.{_≡_}
 use mathlib.Core.List.{List}
 use Prim.Native.Nat.{ℕ, _+_, _≤_}
 use lib.IntN.{ℤ}
-use lib.ListN.{length}
 use lib.Ieee.{Float}
 use Rattle.card.specs.declared.Settings.{Settings}
 
@@ -21,11 +19,6 @@ pub record Sheet : Type 0 where
 abbrev pub sheet : Settings → List Float → List ℤ → List ℤ → List Float → List ℕ → List ℕ → List Float → Sheet
 sheet settings palette xs ys raw cxs cys craw =
     record { settings = settings; palette = palette; xs = xs; ys = ys; raw = raw; cxs = cxs; cys = cys; craw = craw }
-
--- positions run in pairs, and each module has a score
-pub record Scored (xs ys : List ℤ) (luma : List Float) : Type 0 where
-  pub ys-are : length ys ≡ length xs
-  pub luma-is : length luma ≡ length xs
 
 -- what is in a file of at most 16,384 bytes, of m modules and c cells: 32 bytes a hue, 16 bytes a module and a cell
 pub record Few (settings : Settings) (m c : ℕ) : Type 0 where

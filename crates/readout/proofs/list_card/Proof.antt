@@ -1,19 +1,22 @@
--- `readout::list_card` meets its contract: the line of a refusal, or the listing. Assumes nothing.
+-- `readout::list_card` meets its contract: the line of a refusal, or the listing of what was read. Assumes nothing.
 use borrow.Author.Needs.{needs}
-use Rattle.readout.specs.Reading.{afterSymbols}
-use Rattle.readout.proofs.Next.{away, listed}
+use Rattle.readout.proofs.Next.{listable, not-read, is-read}
 use Rattle.readout.proofs.list_card.Statement.{statement}
 use Rattle.readout.proofs.list_card.Tie as tie
 
+list-read-requires : tie.Need-list-read-requires
+list-read-requires c κs = listable _ _ _ _ _ _ _ _ _ _ _ _ _ _ _ _ _ _ _ _ _ _ _ _ (c .before .before .before .before .before .before .before .before .before .before .before .before .before .before .before .before .before .before .before .read-bits .ensures .0) (search needs)
+
 returns : tie.Need-returns
-unfolding afterSymbols
-returns c = search (away)
+returns c = search (not-read)
 
 returns-2 : tie.Need-returns-2
-returns-2 c = search (listed)
+returns-2 c = search (is-read)
 
 pub list-card-spec : {M : Type 1} → statement M
 list-card-spec =
     tie.close
-    (tie.spec (λ c κs. search needs) (λ c. search needs) (λ c κs. search needs) (λ c. search needs) (λ c. search needs) (λ c. search needs)
-    (λ c κs. search needs) (λ c. search needs) (λ c. search needs) returns (λ c. search needs) (λ c. search needs) returns-2)
+    (tie.spec (λ c κs. search needs) (λ c. search needs) (λ c κs. search needs) (λ c. search needs) list-read-requires (λ c. search needs)
+    (λ c. search needs) (λ c. search needs) (λ c. search needs) (λ c. search needs) (λ c. search needs) (λ c. search needs) returns
+    (λ c. search needs) (λ c. search needs) (λ c. search needs) (λ c. search needs) (λ c. search needs) (λ c. search needs) (λ c. search needs)
+    returns-2)
