@@ -7,6 +7,7 @@ use Prim.Native.Nat.{ℕ}
 use lib.Ieee.{Float}
 use Rattle.answers.specs.Answers as told
 use Rattle.answers.specs.declared.Outcome as writing
+use Rattle.bits.specs.Reading as bits
 use Rattle.demod.specs.Call as demod
 use Rattle.math.specs.Gauss as gauss
 use Rattle.math.specs.Normal as normal
@@ -21,7 +22,7 @@ use Rattle.exports.specs.declared.replies.SolveAnswer.{SolveAnswer}
 use Rattle.exports.specs.declared.replies.NoiseAnswer.{NoiseAnswer}
 use Rattle.exports.specs.declared.replies.FloatAnswer.{FloatAnswer}
 use Rattle.exports.specs.Replies.{solveAnswer, noiseAnswer, floatAnswer}
-use Rattle.exports.specs.Exits.{exit1, exit2, exit3, solveExit, measureExit, scoreExit, refineExit, addRowExit, fittedExit, sigmaExit, writeExit, drawExit}
+use Rattle.exports.specs.Exits.{exit1, exit2, exit3, exit6, solveExit, measureExit, scoreExit, readExit, refineExit, addRowExit, fittedExit, sigmaExit, writeExit, drawExit}
 
 pub solve-exit : {s : told.Said Bool} {r : SolveAnswer} {a b x : List Float} {f : gauss.Final} →
     r ≡ solveAnswer s → gauss.final s a b x ≡ f → exit3 r a b x ≡ solveExit f
@@ -37,6 +38,11 @@ pub score-exit : {o : writing.Outcome} {r : ℕ} {a b c : List Float} {f : demod
     r ≡ told.outcomeNumber o → demod.final o a b c ≡ f → exit3 r a b c ≡ scoreExit f
 unfolding scoreExit
 score-exit p q = rw (p, ← q)
+
+pub read-exit : {o : writing.Outcome} {r : ℕ} {luma colours chroma scratch : List Float} {b y : List ℕ} {f : bits.Left} →
+    r ≡ told.outcomeNumber o → bits.left o luma colours chroma scratch b y ≡ f → exit6 r luma colours chroma scratch b y ≡ readExit f
+unfolding readExit
+read-exit p q = rw (p, ← q)
 
 pub refine-exit : {o : writing.Outcome} {r : ℕ} {a b : List Float} {f : refine.Final} →
     r ≡ told.outcomeNumber o → refine.final o a b ≡ f → exit2 r a b ≡ refineExit f

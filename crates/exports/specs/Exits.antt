@@ -3,6 +3,7 @@ use mathlib.Core.List.{List}
 use Prim.Native.Nat.{ℕ}
 use lib.Ieee.{Float}
 use Rattle.answers.specs.Answers.{Ended}
+use Rattle.bits.specs.Reading as bits
 use Rattle.demod.specs.Call as demod
 use Rattle.math.specs.Gauss as gauss
 use Rattle.math.specs.Normal as normal
@@ -54,6 +55,17 @@ scoreExit f = exit3 (f .number) (f .luma) (f .colours) (f .chroma)
 
 abbrev pub scored : demod.Request → Exit3 ℕ Float Float Float
 scored q = scoreExit (demod.scoredOf q)
+
+-- `read_bits`, which is lent six slices
+pub record Exit6 : Type 0 where
+  pub answer : ℕ
+  pub lent : bits.Lent
+
+abbrev pub exit6 : ℕ → List Float → List Float → List Float → List Float → List ℕ → List ℕ → Exit6
+exit6 r luma colours chroma scratch b y = record { answer = r; lent = bits.lent luma colours chroma scratch b y }
+
+unfoldable pub readExit : bits.Left → Exit6
+readExit f = record { answer = f .number; lent = f .lent }
 
 -- `add_local_luma`
 unfoldable pub refineExit : refine.Final → Exit2 ℕ Float Float

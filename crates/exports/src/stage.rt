@@ -1,5 +1,6 @@
-// The illumination model, the noise record, scoring and refinement.
+// The illumination model, the noise record, scoring and refinement, and reading a card in one call.
 ghost use mathlib.Core.Path.{_≡_};
+ghost use Rattle.bits.specs.Reading.{setting, card, readOf};
 ghost use Rattle.fit.specs.Fit as fit_call;
 ghost use Rattle.illum.specs.Correct.{lentModel};
 ghost use Rattle.illum.specs.Refusals as illum_call;
@@ -10,7 +11,7 @@ ghost use Rattle.stats.specs.Calls as stats_call;
 ghost use Rattle.exports.specs.Replies as spec;
 ghost use Rattle.exports.specs.Exits as exits;
 ghost use Rattle.exports.specs.Exits.{exit3, scored};
-ghost use Rattle.exports.specs.Layouts.{toScore};
+ghost use Rattle.exports.specs.Layouts.{layout, toScore};
 use super::replies;
 use super::replies::FlagAnswer;
 use super::replies::FloatAnswer;
@@ -168,6 +169,63 @@ pub extern "C" fn purdolve_add_local_luma(
         palette,
         noise,
         scratch,
+    ))
+}
+
+// Reads a card from its raw colours in one call: scores it, refines and unmasks the luma scores in place, and writes the bits of
+// the modules and of the symbols. Answers document 01's number, that of the first of the calls that is refused; the memory is then
+// as that call left it. Refused: 2, 3, 4, 5, 6, 7, 8, 9, 10, 12.
+#[no_mangle]
+pub extern "C" fn purdolve_read_bits(
+    side: usize,
+    hues: usize,
+    size: usize,
+    xs: &[i32],
+    ys: &[i32],
+    grid: usize,
+    raw: &[f32],
+    cxs: &[u16],
+    cys: &[u16],
+    craw: &[f32],
+    palette: &[f32],
+    mask: u8,
+    model: IlluminationModel,
+    noise: ChannelStats,
+    luma: &mut [f32],
+    colours: &mut [f32],
+    chroma: &mut [f32],
+    scratch: &mut [f32],
+    bits: &mut [u8],
+    symbols: &mut [u8],
+) -> u32
+    ensures { λ r. ⌜ exits.exit6 r (now (luma .exit)) (now (colours .exit)) (now (chroma .exit)) (now (scratch .exit)) (now (bits .exit)) (now (symbols .exit)) ≡ exits.readExit (readOf
+        (setting (layout side hues size grid) (now (xs .entry)) (now (ys .entry)) (now (cxs .entry)) (now (cys .entry)) (now (palette .entry)) mask model noise)
+        (card (now (raw .entry)) (now (craw .entry)) (now (luma .entry)) (now (colours .entry)) (now (chroma .entry)) (now (scratch .entry)) (now (bits .entry)) (now (symbols .entry)))) ⌝ }
+{
+    let layout = Layout {
+        side,
+        hues,
+        size,
+        grid,
+    };
+    answers::outcome_number(bits::read_bits(
+        layout,
+        xs,
+        ys,
+        raw,
+        cxs,
+        cys,
+        craw,
+        palette,
+        mask,
+        model,
+        noise,
+        luma,
+        colours,
+        chroma,
+        scratch,
+        bits,
+        symbols,
     ))
 }
 
