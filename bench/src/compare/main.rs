@@ -72,8 +72,8 @@ fn main() {
     let number = |i: usize, other: u64| words.get(i).map_or(other, |w| w.parse().expect("a number"));
     let (count, seed) = (number(0, 1000), number(1, 1));
     let tallies = &mut Tallies::default();
-    // `private` has functions that are not exported, `whole` calls that have lists of their own
-    for kind in KINDS.iter().filter(|k| !matches!(k.name, "private" | "whole")) {
+    // `private` has functions that are not exported
+    for kind in KINDS.iter().filter(|k| k.name != "private") {
         let mut body = Vec::new();
         (kind.structured)(&mut List::new(&mut body));
         replay(tallies, &body);
