@@ -1,10 +1,10 @@
 -- A card whose fit, measurement and scoring are accepted is listed: the floats of a file are f32, so the measured noise record holds f32 values, and then
 -- nothing after scoring is refused. Assumes nothing.
 use mathlib.Core.Path.{_≡_}
-use mathlib.Core.List.{List, [], _∷_}
+use mathlib.Core.List.{List, []}
 use Prim.Native.Nat.{ℕ, zero, suc, _+_, _*_}
 use lib.Dec.{T}
-use lib.ListN.{length, getD}
+use lib.ListN.{getD}
 use lib.Ieee.{Float, nan, binary32, fits}
 use lib.Ieee.Bits.{ofBits-fits}
 use Rattle.sentences.specs.Sentences.{decided}
@@ -20,7 +20,7 @@ use Rattle.measure.specs.Measure.{measureOf}
 use Rattle.measure.proofs.Passes.{F32, answered-passes}
 use Rattle.bits.specs.Reading.{scoringNumber}
 use Rattle.readout.specs.Sheet.{Sheet}
-use Rattle.readout.specs.Reading.{settingOf, cardOf, listingOf, scoreText}
+use Rattle.readout.specs.Reading.{settingOf, cardOf, listingOf}
 use Rattle.readout.proofs.Never.{is-listed}
 use Rattle.reader.specs.File.{listFrom, listOf, floatsOf, sheetOf, referencesOf}
 use Rattle.reader.specs.Fitting.{toMeasure, fitted, afterMeasuring, measureText, afterFitting, fitText}
