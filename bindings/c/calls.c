@@ -328,6 +328,15 @@ static uint32_t score(size_t side, size_t hues, size_t size, size_t grid, const 
                           1);
 }
 
+/* The two modules in one call, by mask 0, with room for bits_len bits. */
+static uint32_t read_bits(size_t side, size_t bits_len, purdolve_illumination_model model,
+                          purdolve_channel_stats noise, outputs *out, float *window,
+                          size_t window_len, uint8_t *bits) {
+    return purdolve_read_bits(side, 1, 1, XS, 2, YS, 2, 2, RAW, 6, CELL, 0, CELL, 0, RAW, 0,
+                              PALETTE, 10, 0, model, noise, out->luma, 2, out->colours, 7,
+                              out->chroma, 0, window, window_len, bits, bits_len, bits + 2, 0);
+}
+
 static void stage(void) {
     purdolve_illumination_model model = purdolve_identity(21).model;
     purdolve_channel_stats noise = purdolve_nominal(PALETTE, 10, 1).noise;
@@ -376,6 +385,20 @@ static void stage(void) {
     CHECK(purdolve_read_list(out.luma, 2, bits, 1) == PURDOLVE_REFUSED_LENGTH && bits[0] == 7);
     CHECK(purdolve_read_list(out.luma, 2, bits, 3) == 0);
     CHECK(bits[0] == 1 && bits[1] == 1 && bits[2] == 7);
+
+    outputs scored = out;
+    CHECK(read_bits(0, 2, model, noise, &out, window, 33 * 33, bits) == PURDOLVE_REFUSED_SIDE);
+    CHECK(memcmp(&out, &scored, sizeof out) == 0 && bits[0] == 1);
+    /* Refused by refinement: scoring has written. */
+    bits[0] = bits[1] = 7;
+    CHECK(read_bits(21, 2, model, noise, &out, window, 33 * 33 - 1, bits) ==
+          PURDOLVE_REFUSED_LENGTH);
+    CHECK(out.luma[0] == 20 && out.luma[1] == -20 && bits[0] == 7);
+    CHECK(read_bits(21, 1, model, noise, &out, window, 33 * 33, bits) == PURDOLVE_REFUSED_LENGTH);
+    CHECK(out.luma[0] == -20 && out.luma[1] == -20 && bits[0] == 7);
+    CHECK(read_bits(21, 2, model, noise, &out, window, 33 * 33, bits) == 0);
+    CHECK(bits[0] == 1 && bits[1] == 1 && bits[2] == 7 && window[0] == 0);
+    CHECK(out.luma[0] == -20 && out.luma[2] == before.luma[2] && out.colours[3] == 1);
 
     uint8_t levels[3] = {7, 7, 7};
     size_t drawn[1] = {7};

@@ -1,5 +1,6 @@
 /*
- * Reads a card end to end: fit, measure, margin check, score, refine, unmask, read.
+ * Reads a card end to end: fit, measure, margin check, and then score, refine, unmask and read, in
+ * one call and call by call.
  *
  * The card has 4 hues, 8 by 8 grid modules with a chroma cell each, and 4 ring modules, which carry
  * chroma since the cell size is 1. Its raw colours stand for what a camera saw: the colours that
@@ -127,8 +128,17 @@ static purdolve_channel_stats measure(purdolve_illumination_model model) {
     return measured.noise;
 }
 
-/* Scores, refines, unmasks and reads. */
+/* Reads the card in one call. */
 static void read_card(purdolve_illumination_model model, purdolve_channel_stats noise) {
+    accept("read",
+           purdolve_read_bits(SIDE, HUES, SIZE, xs, MODULES, ys, MODULES, GRID, raw, 3 * MODULES,
+                              cxs, CELLS, cys, CELLS, craw, 3 * CELLS, palette, PALETTE, MASK,
+                              model, noise, luma, MODULES, colours, 3 * MODULES, chroma, SCORES,
+                              window, WINDOW, luma_bits, MODULES, chroma_bits, SCORES));
+}
+
+/* The same call by call, as a reader that hands the scores to an error corrector makes them. */
+static void score_card(purdolve_illumination_model model, purdolve_channel_stats noise) {
     accept("score",
            purdolve_score(SIDE, HUES, SIZE, xs, MODULES, ys, MODULES, GRID, raw, 3 * MODULES, cxs,
                           CELLS, cys, CELLS, craw, 3 * CELLS, palette, PALETTE, model, noise, luma,
@@ -142,18 +152,27 @@ static void read_card(purdolve_illumination_model model, purdolve_channel_stats 
     accept("read", purdolve_read_list(chroma, SCORES, chroma_bits, SCORES));
 }
 
+/* How many of the bits read differ from those drawn. */
+static int wrong(void) {
+    int count = 0;
+    for (size_t i = 0; i < BITS; i++) {
+        uint8_t bit = i < MODULES ? luma_bits[i] : chroma_bits[i - MODULES];
+        count += bit != bits[i];
+    }
+    return count;
+}
+
 int main(void) {
     make_palette(palette);
     make_layout();
     make_card();
     make_references();
     purdolve_illumination_model model = fit();
-    read_card(model, measure(model));
-    int wrong = 0;
-    for (size_t i = 0; i < BITS; i++) {
-        uint8_t bit = i < MODULES ? luma_bits[i] : chroma_bits[i - MODULES];
-        wrong += bit != bits[i];
-    }
-    printf("%d bits read, %d wrong\n", (int)BITS, wrong);
-    return wrong != 0;
+    purdolve_channel_stats noise = measure(model);
+    read_card(model, noise);
+    int together = wrong();
+    score_card(model, noise);
+    int apart = wrong();
+    printf("%d bits read, %d wrong; call by call %d wrong\n", (int)BITS, together, apart);
+    return together != 0 || apart != 0;
 }

@@ -11,7 +11,8 @@
  *
  * Refusals. A call that breaks a limit answers the number of the first sentence that holds, in the
  * order of enum purdolve_refusal, and has then written nothing; only PURDOLVE_REFUSED_FIT leaves
- * the scratch all zero. Number 0 is acceptance. Each sentence is asked of everything that the call
+ * the scratch all zero, and purdolve_read_bits, which makes five calls, what those before the
+ * refused one wrote. Number 0 is acceptance. Each sentence is asked of everything that the call
  * takes before the next one. "refused:" below lists the numbers that a call can answer; a call
  * without such a line refuses nothing. The values beside a number other than 0 are zeros.
  *
@@ -301,6 +302,31 @@ uint8_t purdolve_read(float score);
 
 /* The bit of each score. bits needs scores. refused: 5 */
 uint32_t purdolve_read_list(const float *scores, size_t scores_len, uint8_t *bits, size_t bits_len);
+
+/*
+ * Reads a card from its raw colours in one call: makes the calls purdolve_score,
+ * purdolve_add_local_luma, purdolve_unmask_luma and purdolve_read_list, of the luma scores and then
+ * of the chroma scores, each on what the one before it left. This is the call of the read guarantee
+ * (docs/MAKERS.md): inside the margin, with each corrected colour within half a sigma of its drawn
+ * colour, the bits read are the bits drawn.
+ * raw, craw, luma, colours, chroma and scratch need what they need there; luma is left refined and
+ * unmasked. bits needs luma_len and symbols chroma_len, a bit for every score that is lent: lend
+ * luma of as many scores as there are modules, and with chroma off chroma of length 0. Then bits
+ * has a bit a module, and symbols those of the symbols, in the order of purdolve_draw.
+ * The number is that of the first of the five calls that is refused, and the memory is as that call
+ * left it. After an accepted scoring only 5 can come, for scratch, bits or symbols too short; the
+ * scores are written then.
+ * refused: 2, 3, 4, 5, 6, 7, 8, 9, 10, 12
+ */
+uint32_t purdolve_read_bits(size_t side, size_t hues, size_t size, const int32_t *xs, size_t xs_len,
+                            const int32_t *ys, size_t ys_len, size_t grid, const float *raw,
+                            size_t raw_len, const uint16_t *cxs, size_t cxs_len,
+                            const uint16_t *cys, size_t cys_len, const float *craw, size_t craw_len,
+                            const float *palette, size_t palette_len, uint8_t mask,
+                            purdolve_illumination_model model, purdolve_channel_stats noise,
+                            float *luma, size_t luma_len, float *colours, size_t colours_len,
+                            float *chroma, size_t chroma_len, float *scratch, size_t scratch_len,
+                            uint8_t *bits, size_t bits_len, uint8_t *symbols, size_t symbols_len);
 
 /* ---- References as records, and a whole card file ---------------------------------------- */
 

@@ -72,8 +72,8 @@ fn main() {
     let number = |i: usize, other: u64| words.get(i).map_or(other, |w| w.parse().expect("a number"));
     let (count, seed) = (number(0, 1000), number(1, 1));
     let tallies = &mut Tallies::default();
-    // `private` has functions that are not exported, `whole` and `records` calls that have lists of their own
-    for kind in KINDS.iter().filter(|k| !matches!(k.name, "private" | "whole" | "records")) {
+    // `private` has functions that are not exported, `records` calls that have a list of their own
+    for kind in KINDS.iter().filter(|k| !matches!(k.name, "private" | "records")) {
         let mut body = Vec::new();
         (kind.structured)(&mut List::new(&mut body));
         replay(tallies, &body);

@@ -113,15 +113,26 @@ pub fn score(
     stats: &ChannelStats,
 ) -> Result<Demodulation, Refusal> {
     let places = layout.places();
-    let modules = places.xs.len();
-    let mut scores = Demodulation {
+    let mut scores = blank(layout, palette, stats);
+    Refusal::check(ffi::score(raw, &places, &palette.flat(), palette.hues, *illum, &mut scores))?;
+    Ok(scores)
+}
+
+/// Room for the scores of a card.
+fn blank(layout: &Layout, palette: &Palette, stats: &ChannelStats) -> Demodulation {
+    let modules = layout.payload.len() + layout.ring.len();
+    Demodulation {
         luma: vec![0.0; modules],
         chroma: vec![0.0; symbol_bits(palette.hues) * layout.symbols()],
         stats: *stats,
         colours: vec![Linear::default(); modules],
-    };
-    Refusal::check(ffi::score(raw, &places, &palette.flat(), palette.hues, *illum, &mut scores))?;
-    Ok(scores)
+    }
+}
+
+/// Refinement's scratch. A side above 1,024 is refused before any length.
+fn window(side: usize) -> Vec<f32> {
+    let edge = side.min(1024) + 12;
+    vec![0.0; edge * edge]
 }
 
 /// Scores a card from its raw colours and refines its luma scores. Chroma is on where the palette has more than one hue.
@@ -164,9 +175,7 @@ fn refine(
     palette: &Palette,
     stats: &ChannelStats,
 ) -> Result<(), Refusal> {
-    // A side above 1,024 is refused before any length.
-    let edge = side.min(1024) + 12;
-    let mut scratch = vec![0.0; edge * edge];
+    let mut scratch = window(side);
     let palette_numbers = palette.flat();
     let number =
         ffi::add_local_luma(luma, side, palette.hues, (xs, ys), grid, colours, &palette_numbers, *stats, &mut scratch);
@@ -177,4 +186,36 @@ fn refine(
 /// it was.
 pub fn unmask_luma(llrs: &mut [f32], layout: &Layout, mask_id: u8) -> Result<(), Refusal> {
     Refusal::check(ffi::unmask_luma(llrs, &layout.places(), mask_id))
+}
+
+/// Reads a card from its raw colours in one call: scores it, refines and unmasks its luma scores, and reads. The bits are one
+/// for each module, the grid modules first, and then those of the symbols: inside the margin, with each corrected colour
+/// within half a sigma of its drawn colour, the very bits that [`draw`](crate::modulate::draw) was given. Refused: 2 to 10
+/// and 12.
+pub fn read_bits(
+    raw: RawColours,
+    layout: &Layout,
+    palette: &Palette,
+    illum: &IlluminationModel,
+    stats: &ChannelStats,
+    mask_id: u8,
+) -> Result<Vec<u8>, Refusal> {
+    let places = layout.places();
+    let mut scores = blank(layout, palette, stats);
+    let mut scratch = window(places.side);
+    let mut bits = vec![0; scores.luma.len() + scores.chroma.len()];
+    let halves = bits.split_at_mut(scores.luma.len());
+    let palette_numbers = palette.flat();
+    Refusal::check(ffi::read_bits(
+        raw,
+        &places,
+        &palette_numbers,
+        palette.hues,
+        mask_id,
+        *illum,
+        &mut scores,
+        &mut scratch,
+        halves,
+    ))?;
+    Ok(bits)
 }

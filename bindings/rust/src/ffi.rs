@@ -313,6 +313,41 @@ unsafe extern "C" {
         chroma: *mut f32,
         chroma_len: usize,
     ) -> u32;
+    fn purdolve_read_bits(
+        side: usize,
+        hues: usize,
+        size: usize,
+        xs: *const i32,
+        xs_len: usize,
+        ys: *const i32,
+        ys_len: usize,
+        grid: usize,
+        raw: *const f32,
+        raw_len: usize,
+        cxs: *const u16,
+        cxs_len: usize,
+        cys: *const u16,
+        cys_len: usize,
+        craw: *const f32,
+        craw_len: usize,
+        palette: *const f32,
+        palette_len: usize,
+        mask: u8,
+        model: IlluminationModel,
+        noise: ChannelStats,
+        luma: *mut f32,
+        luma_len: usize,
+        colours: *mut f32,
+        colours_len: usize,
+        chroma: *mut f32,
+        chroma_len: usize,
+        scratch: *mut f32,
+        scratch_len: usize,
+        bits: *mut u8,
+        bits_len: usize,
+        symbols: *mut u8,
+        symbols_len: usize,
+    ) -> u32;
     fn purdolve_add_local_luma(
         luma: *mut f32,
         luma_len: usize,
@@ -531,6 +566,61 @@ pub fn score(
             colours.len(),
             chroma.as_mut_ptr(),
             chroma.len(),
+        )
+    }
+}
+
+#[allow(clippy::too_many_arguments)]
+pub fn read_bits(
+    raw: RawColours,
+    places: &Places,
+    palette: &[f32],
+    hues: usize,
+    mask: u8,
+    model: IlluminationModel,
+    scores: &mut Demodulation,
+    scratch: &mut [f32],
+    (bits, symbols): (&mut [u8], &mut [u8]),
+) -> u32 {
+    let (modules, cells) = (components(raw.modules), components(raw.cells));
+    let noise = scores.stats;
+    let (luma, chroma) = (&mut scores.luma, &mut scores.chroma);
+    let colours = components_mut(&mut scores.colours);
+    unsafe {
+        purdolve_read_bits(
+            places.side,
+            hues,
+            places.size,
+            places.xs.as_ptr(),
+            places.xs.len(),
+            places.ys.as_ptr(),
+            places.ys.len(),
+            places.grid,
+            modules.as_ptr(),
+            modules.len(),
+            places.cxs.as_ptr(),
+            places.cxs.len(),
+            places.cys.as_ptr(),
+            places.cys.len(),
+            cells.as_ptr(),
+            cells.len(),
+            palette.as_ptr(),
+            palette.len(),
+            mask,
+            model,
+            noise,
+            luma.as_mut_ptr(),
+            luma.len(),
+            colours.as_mut_ptr(),
+            colours.len(),
+            chroma.as_mut_ptr(),
+            chroma.len(),
+            scratch.as_mut_ptr(),
+            scratch.len(),
+            bits.as_mut_ptr(),
+            bits.len(),
+            symbols.as_mut_ptr(),
+            symbols.len(),
         )
     }
 }

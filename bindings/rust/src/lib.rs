@@ -17,6 +17,7 @@
 //! | `demodulate(img, t, layout, palette, illum, stats, with_chroma)` | `demodulate(raw, layout, palette, illum, stats)`: the reader samples, and chroma is on where the palette has more than one hue |
 //! | `add_local_luma(luma, at, side, palette, stats, chroma)` | the same without `chroma` |
 //! | `unmask_luma(llrs, layout, mask)` | the same, a `Result` |
+//! | - | `read_bits(raw, layout, palette, illum, stats, mask)`: all of these calls in one, and the bits read |
 //! | `lcr_core::palette::Palette`, `lcr_core::layout::Layout` | [`palette::Palette`], [`layout::Layout`]: the fields that the stage reads |
 //! | `solve`, `least_squares`, `chroma_bit_llrs`, rotations, symbols | the same, each a `Result` |
 //! | colours, `median`, `mad_sigma`, `gray`, `luma_mask` | the same |
@@ -26,7 +27,7 @@
 //!
 //! ```
 //! use purdolve::color::{Lab, Linear};
-//! use purdolve::demod::{RawColours, demodulate, measure, unmask_luma};
+//! use purdolve::demod::{RawColours, demodulate, measure, read_bits, unmask_luma};
 //! use purdolve::illum::IlluminationModel;
 //! use purdolve::layout::Layout;
 //! use purdolve::modulate::read_list;
@@ -44,7 +45,11 @@
 //! let model = IlluminationModel::fit(&[], layout.side, 1)?;
 //! let stats = measure(&[], &model, &palette)?;
 //! assert!(stats.margin(&palette)?);
-//! let mut scores = demodulate(RawColours { modules: &raw, cells: &[] }, &layout, &palette, &model, &stats)?;
+//! let raw = RawColours { modules: &raw, cells: &[] };
+//! assert_eq!(read_bits(raw, &layout, &palette, &model, &stats, 0)?, [1, 1]);
+//!
+//! // The same call by call, for an error corrector that takes the scores.
+//! let mut scores = demodulate(raw, &layout, &palette, &model, &stats)?;
 //! assert_eq!(scores.luma, [20.0, -20.0]);
 //! unmask_luma(&mut scores.luma, &layout, 0)?;
 //! assert_eq!(read_list(&scores.luma), [1, 1]);

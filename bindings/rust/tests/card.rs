@@ -1,7 +1,7 @@
 //! A card of 4 hues, drawn, seen under uneven light, and read.
 use purdolve::Refusal;
 use purdolve::color::{Linear, Srgb8, srgb8_to_lab, srgb8_to_linear};
-use purdolve::demod::{RawColours, add_local_luma, demodulate, measure, score, unmask_luma};
+use purdolve::demod::{RawColours, add_local_luma, demodulate, measure, read_bits, score, unmask_luma};
 use purdolve::illum::{IlluminationModel, Reference};
 use purdolve::layout::Layout;
 use purdolve::modulate::{draw, read_list};
@@ -79,6 +79,11 @@ fn a_card_is_read_as_it_was_drawn() -> Result<(), Refusal> {
     let mut read = read_list(&scores.luma);
     read.extend(read_list(&scores.chroma));
     assert_eq!(read, bits);
+
+    // All in one call is the same.
+    assert_eq!(read_bits(raw, &layout, &palette, &model, &stats, MASK)?, bits);
+    let short = RawColours { modules: &raw.modules[1..], ..raw };
+    assert_eq!(read_bits(short, &layout, &palette, &model, &stats, MASK), Err(Refusal::Length));
     Ok(())
 }
 

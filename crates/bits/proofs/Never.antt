@@ -1,6 +1,6 @@
 -- After an accepted scoring nothing is refused but by lengths: refinement takes the same places, palette and record, corrected colours that passed sentence 12 and scores within ±20; unmasking and
 -- reading take less still. So where scratch and the lists of bits are long enough, the card is read. Assumes nothing.
-use mathlib.Core.Path.{_≡_, refl, sym, ap, _∙_}
+use mathlib.Core.Path.{_≡_, refl, ap, _∙_}
 use mathlib.Core.Bool.{Bool, true, false, not, _&&_, _||_}
 use mathlib.Core.List.{List}
 use Prim.Native.Nat.{ℕ, zero, suc, _+_, _-_, _*_, _/_, _%_, _≤_, _<_}
@@ -31,13 +31,12 @@ use Rattle.reading.specs.Read.{readList, readSentences, readListOf}
 use Rattle.lists.proofs.Laws.{reached}
 use Rattle.stats.specs.Calls.{shortPalette, badNumbers, badSigmas}
 use Rattle.stats.proofs.Range.{Held}
-use Rattle.demod.specs.Call as scoring
 use Rattle.demod.proofs.Outcome.{IsDone, at-done}
 use Rattle.demod.proofs.Range.{luma-in, colour-tame}
 use Rattle.refine.specs.Refine.{squares, levelsOf, gridOf, refined}
 use Rattle.refine.specs.Calls as refining
 use Rattle.refine.proofs.Each as each
-use Rattle.guarantee.specs.Card.{Setting, Card, toScore, scoredCard, toRefine, refinedCard, unmaskedCard, lumaRead, chromaRead, Accepted}
+use Rattle.guarantee.specs.Card.{Setting, Card, toScore, scoredCard, toRefine, refinedCard, unmaskedCard, Accepted}
 use Rattle.demod.proofs.Accepted.{done-answer}
 
 -- ---- tests

@@ -1,7 +1,8 @@
 // Reading a card in one call: from its raw colours to its bits. Scoring, refinement, unmasking and reading follow one another on
 // lent memory, each handed what the one before it left. The contract of `read_bits` is the read guarantee.
 //
-// The functions stand from the last call to the first; each makes one call and hands what it left to the next.
+// The functions stand from the last call to the first; each makes one call, `read_scores` the last two, and hands what it left to
+// the next.
 ghost use mathlib.Core.Path.{_≡_};
 ghost use mathlib.Core.List.{List};
 ghost use lib.Ieee.{Float};
@@ -79,11 +80,11 @@ fn refine_scores(
     }
 }
 
-// Reads a card from its raw colours: scores it, refines and unmasks the luma scores in place, and writes the bits, one a
-// module, and the symbols' bits, one a chroma score. The first of the calls `score`, `add_local_luma`, `unmask_luma`, `read_list` of
-// the luma scores and `read_list` of the chroma scores that is refused gives its number, and the memory is as it left it. Inside
-// the margin, with each corrected colour within half a sigma of its drawn colour, the bits read are the bits drawn.
-// Refused: 2, 3, 4, 5, 6, 7, 8, 9, 10, 12.
+// Reads a card from its raw colours: scores it, refines and unmasks the luma scores in place, and writes a bit for each luma
+// score that is lent, the modules', and for each chroma score, the symbols'. Scratch is that of refinement, (side + 12)² floats.
+// The first of the calls `score`, `add_local_luma`, `unmask_luma`, `read_list` of the luma scores and `read_list` of the chroma
+// scores that is refused gives its number, and the memory is as that call left it. Inside the margin, with each corrected colour
+// within half a sigma of its drawn colour, the bits read are the bits drawn. Refused: 2, 3, 4, 5, 6, 7, 8, 9, 10, 12.
 pub fn read_bits(
     layout: Layout,
     xs: &[i32],

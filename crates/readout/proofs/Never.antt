@@ -1,6 +1,6 @@
 -- After an accepted scoring the card is listed: the lent slices are as long as refinement and reading ask. Assumes nothing.
 use mathlib.Core.Path.{_≡_}
-use Prim.Native.Nat.{ℕ, _*_}
+use Prim.Native.Nat.{ℕ}
 use native.Mathlib.Omega.{arith}
 use lib.ListN.{length, length-replicate}
 use lib.Ieee.{binary32, ofBits}

@@ -2,7 +2,7 @@
 -- they were before unmasking. What is listed is there, since the call was not refused by 5. Assumes nothing.
 use mathlib.Core.Path.{_≡_, refl, sym, ap, _∙_}
 use mathlib.Core.List.{List}
-use Prim.Native.Nat.{ℕ, _*_, _≤_}
+use Prim.Native.Nat.{ℕ, _*_}
 use native.Mathlib.Omega.{arith}
 use lib.IntN.{ℤ}
 use lib.ListN.{length}
@@ -26,8 +26,8 @@ use Rattle.guarantee.proofs.Known.{read-long}
 use Rattle.bits.specs.Reading.{Left, setting, card, left, readOf}
 use Rattle.bits.proofs.Joined.{all-accepted, all-done, refused-above}
 use Rattle.bits.proofs.Never.{facts}
-use Rattle.readout.specs.Sheet.{Sheet, sheet}
-use Rattle.readout.specs.Reading.{listingOf, Listable, textOf, zeros, noBits, placesOf, layoutOf, settingOf, cardOf, scoreText}
+use Rattle.readout.specs.Sheet.{sheet}
+use Rattle.readout.specs.Reading.{listingOf, Listable, textOf, zeros, noBits, placesOf, layoutOf, scoreText}
 
 -- a listing of scores that were unmasked
 pub relisted : (o : Outcome) (l : List Float) (e : Ended Float) (t u : Text) (terms kept rejected n : ℕ) (xs ys : List ℤ) (bits : List ℕ) (k : ℕ) (chroma : List Float) (symbols : List ℕ) → ended o l ≡ e →

@@ -1,6 +1,6 @@
 -- The text of a card has room in LISTING_ROOM bytes: a refusal is a number below 100, a bit is 0 or 1, a card file has at most 1,020 modules and cells, and an
 -- accepted hue count at most 4 bits a symbol. Assumes nothing.
-use mathlib.Core.Path.{_≡_, refl, ap, _∙_}
+use mathlib.Core.Path.{_≡_, refl}
 use mathlib.Core.Bool.{Bool, true, false, cond}
 use mathlib.Core.List.{List, [], _∷_}
 use Prim.Native.Nat.{ℕ, zero, suc, _+_, _-_, _^_, _≤_, _<_}
@@ -15,13 +15,11 @@ use lib.Seq.{getD-set-same, getD-set-other, set-out}
 use lib.Ieee.{Float, nan, lt, fin, binary32, ofBits}
 use Rattle.loops.proofs.Laws.{forUp-to}
 use Rattle.sentences.specs.Sentences.{Sentence, refusal, decided}
-use Rattle.limits.specs.Chroma.{chromaOn, symbolBits, chromaLength}
+use Rattle.limits.specs.Chroma.{symbolBits, chromaLength}
 use Rattle.limits.proofs.Laws.{symbol-bits-few}
 use Rattle.layout.specs.Groups.{shape, placement, modulePlacement}
-use Rattle.card.specs.declared.Settings.{Settings}
 use Rattle.listing.specs.Listing.{refusedLine}
 use Rattle.listing.proofs.Room.{listing-length, refused-length}
-use Rattle.answers.specs.declared.Outcome.{Outcome}
 use Rattle.answers.specs.declared.Outcome.the-variants as outcome
 use Rattle.answers.specs.Answers.{outcomeNumber, ended, writtenOr}
 use Rattle.lists.specs.Lists.{replaceAt}
@@ -30,7 +28,6 @@ use Rattle.reading.specs.Read.{reads, readAt, readList, readSentences, readList
 use Rattle.illum.specs.declared.IlluminationModel.{IlluminationModel}
 use Rattle.stats.specs.declared.ChannelStats.{ChannelStats}
 use Rattle.demod.specs.Call as scoring
-use Rattle.demod.proofs.Outcome.{at-done}
 use Rattle.refine.specs.Calls as refining
 use Rattle.guarantee.specs.Card.{Setting, Card, toScore, scoredCard, toRefine, refinedCard, unmaskedCard, lumaRead, chromaRead}
 use Rattle.bits.specs.Reading.{Lent, Left, stopped, readOf}

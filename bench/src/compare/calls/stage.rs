@@ -26,6 +26,7 @@ pub fn replay(t: &mut Record) -> bool {
         "measure" => measure(t),
         "score" => score(t),
         "refine" => refine(t),
+        "whole" => read_bits(t),
         _ => return false,
     }
     true
@@ -301,5 +302,72 @@ fn refine(t: &mut Record) {
     }
     same &= luma.is(&t.answer.singles(), xs.len());
     same = same && work.zeroed(t.answer.count());
+    t.add(r, same);
+}
+
+/// A whole card in one call, beside the Rust's `demodulate` in one piece, its luma scores unmasked, and the bits of both lists.
+fn read_bits(t: &mut Record) {
+    t.name = "read_bits";
+    let i = &mut t.inputs;
+    let (side, hues, size, mask) = (i.count(), i.count(), i.count(), i.byte());
+    let (xs, ys, grid) = (Lent::new(i.places()), Lent::new(i.places()), i.count());
+    let raw = Lent::new(i.singles());
+    let (cxs, cys) = (Lent::new(i.shorts()), Lent::new(i.shorts()));
+    let (craw, palette) = (Lent::new(i.singles()), Lent::new(i.singles()));
+    let (model, noise, places) = (i.model(), i.stats(), i.count());
+    let (modules, square) = (xs.len(), (side + 12) * (side + 12));
+    let [mut luma, mut colours, mut chroma, mut work] =
+        [modules, 3 * modules, places, square].map(|n| Lent::new(vec![3.5f32; n]));
+    let [mut bits, mut symbols] = [modules, places].map(|n| Lent::new(vec![7u8; n]));
+    let r = unsafe {
+        purdolve_read_bits(
+            side,
+            hues,
+            size,
+            xs.ptr(),
+            xs.len(),
+            ys.ptr(),
+            ys.len(),
+            grid,
+            raw.ptr(),
+            raw.len(),
+            cxs.ptr(),
+            cxs.len(),
+            cys.ptr(),
+            cys.len(),
+            craw.ptr(),
+            craw.len(),
+            palette.ptr(),
+            palette.len(),
+            mask,
+            model,
+            noise,
+            luma.ptr_mut(),
+            luma.len(),
+            colours.ptr_mut(),
+            colours.len(),
+            chroma.ptr_mut(),
+            chroma.len(),
+            work.ptr_mut(),
+            work.len(),
+            bits.ptr_mut(),
+            bits.len(),
+            symbols.ptr_mut(),
+            symbols.len(),
+        )
+    };
+    let mut same = r as u64 == t.answer.word() && xs.untouched() && ys.untouched() && raw.untouched();
+    same &= cxs.untouched() && cys.untouched() && craw.untouched() && palette.untouched();
+    if r != 0 {
+        // Where all is lent that the calls need, only scoring refuses.
+        same &= luma.untouched() && colours.untouched() && chroma.untouched() && work.untouched();
+        same &= bits.untouched() && symbols.untouched();
+    } else if same {
+        let mut unmasked = t.answer.singles();
+        same = oracle::calls::modulate::unmask_luma(&mut unmasked, side, xs.now(), ys.now(), grid, mask).is_ok();
+        same &= luma.is(&unmasked, modules) && colours.is(&t.answer.singles(), 3 * modules);
+        same &= chroma.is(&t.answer.singles(), places) && work.zeroed(square);
+        same &= bits.is(&t.answer.bytes(), modules) && symbols.is(&t.answer.bytes(), places);
+    }
     t.add(r, same);
 }
