@@ -17,59 +17,74 @@ use Rattle.illum.specs.declared.IlluminationModel.{IlluminationModel}
 use Rattle.stats.specs.declared.ChannelStats.{ChannelStats}
 use Rattle.demod.specs.Call as scoring
 use Rattle.refine.specs.Calls as refinement
-use Rattle.bits.specs.Reading.{Lent, lent, Left, leaving, left, stopped, done, setting, card, readOf}
+use Rattle.guarantee.specs.Card.{Setting, Card}
+use Rattle.bits.specs.Reading.{Lent, lent, Left, leaving, left, stopped, done, setting, card, afterScoring, afterRefinement, afterUnmasking, afterLuma, afterChroma, readOf}
 use Rattle.bits.specs.Onwards.{read, unmask, refine}
 
 -- ---- a refusal's number is not 0
 
--- `decided` gives `Refused` only above 0
-module _ {A : Type 0} (answer : A → Outcome) (refused : ℕ → A) (accepted : A) (r : (n : ℕ) → answer (refused n) ≡ Refused n) (d : answer accepted ≡ Done) where
-  by-number : (k n : ℕ) → answer (decided k refused accepted) ≡ Refused n → n ≡ 0 → ⊥
+-- no refusal by 0
+abbrev Above : Outcome → Type 0
+Above o = (n : ℕ) → o ≡ Refused n → n ≡ 0 → ⊥
+
+done-above : Above Done
+done-above n e z = let w : _≡_ {A = ℕ} 0 1 = cc in absurd (omega arith)
+
+-- `decided` gives a refusal only above 0, or else what is accepted
+module _ {A : Type 0} (answer : A → Outcome) (refused : ℕ → A) (accepted : A) (r : (n : ℕ) → answer (refused n) ≡ Refused n) (h : Above (answer accepted)) where
+  above : (k : ℕ) → Above (answer (decided k refused accepted))
   unfolding decided
-  by-number zero n e z = let w : _≡_ {A = ℕ} 0 1 = cc in absurd (omega arith)
-  by-number (suc k) n e z = omega (arith, ap outcomeNumber (sym (r (suc k)) ∙ e))
+  above zero n e z = h n e z
+  above (suc k) n e z = omega (arith, ap outcomeNumber (sym (r (suc k)) ∙ e))
 
-list-number : {A : Type 0} (ss : List Sentence) (before after : List A) (n : ℕ) → writtenOr ss before after .answer ≡ Refused n → n ≡ 0 → ⊥
-list-number ss before after = by-number (λ f. f .answer) (λ n. ended (Refused n) before) (ended Done after) (λ n. refl) refl (refusal ss)
+list-above : {A : Type 0} (ss : List Sentence) (before after : List A) → Above (writtenOr ss before after .answer)
+list-above ss before after = above (λ f. f .answer) (λ n. ended (Refused n) before) (ended Done after) (λ n. refl) done-above (refusal ss)
 
-read-number : (scores : List Float) (bits : List ℕ) (n : ℕ) → readListOf scores bits .answer ≡ Refused n → n ≡ 0 → ⊥
+read-above : (scores : List Float) (bits : List ℕ) → Above (readListOf scores bits .answer)
 unfolding readListOf
-read-number scores bits = list-number _ bits _
+read-above scores bits = list-above _ bits _
 
-unmask-number : (luma : List Float) (side : ℕ) (xs ys : List ℤ) (grid mask n : ℕ) → unmaskLumaOf luma side xs ys grid mask .answer ≡ Refused n → n ≡ 0 → ⊥
+unmask-above : (luma : List Float) (side : ℕ) (xs ys : List ℤ) (grid mask : ℕ) → Above (unmaskLumaOf luma side xs ys grid mask .answer)
 unfolding unmaskLumaOf
-unmask-number luma side xs ys grid mask = list-number _ luma _
+unmask-above luma side xs ys grid mask = list-above _ luma _
 
-refine-number : (q : refinement.Request) (n : ℕ) → refinement.refineOf q .answer ≡ Refused n → n ≡ 0 → ⊥
+refine-above : (q : refinement.Request) → Above (refinement.refineOf q .answer)
 unfolding refinement.refineOf
-refine-number q = by-number (λ f. f .answer) (refinement.turnedAway q) _ (λ n. refl) refl _
+refine-above q = above (λ f. f .answer) (refinement.turnedAway q) _ (λ n. refl) done-above _
 
-score-number : (q : scoring.Request) (n : ℕ) → scoring.scoredOf q .answer ≡ Refused n → n ≡ 0 → ⊥
+score-above : (q : scoring.Request) → Above (scoring.scoredOf q .answer)
 unfolding scoring.scoredOf
-score-number q = by-number (λ f. f .answer) (scoring.turnedAway q) _ (λ n. refl) refl _
+score-above q = above (λ f. f .answer) (scoring.turnedAway q) _ (λ n. refl) done-above _
+
+-- nor is the number of a card that is not read
+pub refused-above : (s : Setting) (c : Card) (n : ℕ) → readOf s c .answer ≡ Refused n → n ≡ 0 → ⊥
+unfolding readOf
+refused-above s c =
+    let then : (m : Lent) (next : Left) → Above (next .answer) → (k : ℕ) → Above (decided k (stopped m) next .answer) = λ m next h. above (λ f. f .answer) (stopped m) next (λ n. refl) h in
+    then (afterScoring s c) _ (then (afterRefinement s c) _ (then (afterUnmasking s c) _ (then (afterLuma s c) _ (then (afterChroma s c) (done (afterChroma s c)) done-above _) _) _) _) _
 
 -- ---- the two readings
 
-last : (m : Lent) (o : Outcome) → ((n : ℕ) → o ≡ Refused n → n ≡ 0 → ⊥) → leaving o m ≡ decided (outcomeNumber o) (stopped m) (done m)
+last : (m : Lent) (o : Outcome) → Above o → leaving o m ≡ decided (outcomeNumber o) (stopped m) (done m)
 last m (Refused n) h = refuses (stopped m) (done m) n n (h n refl) refl
 last m Done h = accepts (stopped m) (done m) 0 0 refl refl
 
 module _ (luma chroma : List Float) (bits symbols : List ℕ) (o : Outcome) (l : List ℕ) (p : ended o l ≡ readListOf luma bits) (colours scratch : List Float) where
   pub luma-refused : (n : ℕ) → o ≡ Refused n → left (Refused n) luma colours chroma scratch l symbols ≡ read (lent luma colours chroma scratch bits symbols)
   unfolding read
-  luma-refused n r = rw (← p, r) (refuses _ _ n n (read-number luma bits n (ap (λ f. f .answer) (sym p) ∙ r)) refl)
+  luma-refused n r = rw (← p, r) (refuses _ _ n n (read-above luma bits n (ap (λ f. f .answer) (sym p) ∙ r)) refl)
 
   pub both-read : o ≡ Done → (o₂ : Outcome) (l₂ : List ℕ) → ended o₂ l₂ ≡ readListOf chroma symbols → left o₂ luma colours chroma scratch l l₂ ≡ read (lent luma colours chroma scratch bits symbols)
   unfolding read
   both-read d o₂ l₂ q =
-      rw (← p, d) (last (lent luma colours chroma scratch l l₂) o₂ (λ n r. read-number chroma symbols n (ap (λ f. f .answer) (sym q) ∙ r)) ∙ ap (λ f. decided (f .number) (stopped (lent luma colours chroma scratch l (f .list))) (done (lent luma colours chroma scratch l (f .list)))) q ∙ accepts _ _ 0 0 refl refl)
+      rw (← p, d) (last (lent luma colours chroma scratch l l₂) o₂ (λ n r. read-above chroma symbols n (ap (λ f. f .answer) (sym q) ∙ r)) ∙ ap (λ f. decided (f .number) (stopped (lent luma colours chroma scratch l (f .list))) (done (lent luma colours chroma scratch l (f .list)))) q ∙ accepts _ _ 0 0 refl refl)
 
 -- ---- unmasking
 
 module _ (side : ℕ) (xs ys : List ℤ) (grid mask : ℕ) (luma chroma : List Float) (bits symbols : List ℕ) (o : Outcome) (l : List Float) (p : ended o l ≡ unmaskLumaOf luma side xs ys grid mask) (colours scratch : List Float) where
   pub not-unmasked : (n : ℕ) → o ≡ Refused n → left (Refused n) l colours chroma scratch bits symbols ≡ unmask side xs ys grid mask (lent luma colours chroma scratch bits symbols)
   unfolding unmask
-  not-unmasked n r = rw (← p, r) (refuses _ _ n n (unmask-number luma side xs ys grid mask n (ap (λ f. f .answer) (sym p) ∙ r)) refl)
+  not-unmasked n r = rw (← p, r) (refuses _ _ n n (unmask-above luma side xs ys grid mask n (ap (λ f. f .answer) (sym p) ∙ r)) refl)
 
   pub unmasked : o ≡ Done → (r : Outcome) (b y : List ℕ) → ((colours scratch : List Float) → left r l colours chroma scratch b y ≡ read (lent l colours chroma scratch bits symbols)) →
       left r l colours chroma scratch b y ≡ unmask side xs ys grid mask (lent luma colours chroma scratch bits symbols)
@@ -82,7 +97,7 @@ module _ (q : Layout) (xs ys : List ℤ) (palette : List Float) (mask : ℕ) (no
     (p : refinement.final o l t ≡ refinement.refineOf (refinement.request luma (q .side) (q .hues) xs ys (q .grid) colours palette noise scratch)) where
   pub not-refined : (n : ℕ) → o ≡ Refused n → left (Refused n) l colours chroma t bits symbols ≡ refine q xs ys palette mask noise (lent luma colours chroma scratch bits symbols)
   unfolding refine
-  not-refined n r = rw (← p, r) (refuses _ _ n n (refine-number _ n (ap (λ f. f .answer) (sym p) ∙ r)) refl)
+  not-refined n r = rw (← p, r) (refuses _ _ n n (refine-above _ n (ap (λ f. f .answer) (sym p) ∙ r)) refl)
 
   pub refined : o ≡ Done → (r : Outcome) (k : List Float) (b y : List ℕ) →
       ((colours scratch : List Float) → left r k colours chroma scratch b y ≡ unmask (q .side) xs ys (q .grid) mask (lent l colours chroma scratch bits symbols)) →
@@ -97,7 +112,7 @@ module _ (q : Layout) (xs ys : List ℤ) (raw : List Float) (cxs cys : List ℕ)
     (p : scoring.final o l d h ≡ scoring.scoredOf (scoring.request q xs ys raw cxs cys craw palette model noise luma colours chroma)) where
   pub not-scored : (n : ℕ) → o ≡ Refused n → left (Refused n) l d h scratch bits symbols ≡ readOf (setting q xs ys cxs cys palette mask model noise) (card raw craw luma colours chroma scratch bits symbols)
   unfolding readOf
-  not-scored n r = rw (← p, r) (refuses _ _ n n (score-number _ n (ap (λ f. f .answer) (sym p) ∙ r)) refl)
+  not-scored n r = rw (← p, r) (refuses _ _ n n (score-above _ n (ap (λ f. f .answer) (sym p) ∙ r)) refl)
 
   pub scored : o ≡ Done → (r : Left) → r ≡ refine q xs ys palette mask noise (lent l d h scratch bits symbols) →
       r ≡ readOf (setting q xs ys cxs cys palette mask model noise) (card raw craw luma colours chroma scratch bits symbols)

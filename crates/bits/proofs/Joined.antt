@@ -4,8 +4,6 @@ use mathlib.Core.List.{List}
 use Prim.Native.Nat.{ℕ, zero, suc}
 use native.Mathlib.Omega.{arith}
 use Rattle.sentences.specs.Sentences.{decided}
-use Rattle.answers.specs.declared.Outcome.the-variants.{Refused}
-use Rattle.answers.specs.Answers.{outcomeNumber}
 use Rattle.guarantee.specs.Card.{Setting, Card, scoredCard, refinedCard, unmaskedCard, lumaRead, chromaRead, Accepted, bitsRead}
 use Rattle.guarantee.proofs.Guarantee.{read-as-drawn}
 use Rattle.bits.specs.Reading.{Lent, Left, left, stopped, done, afterScoring, afterRefinement, afterUnmasking, afterLuma, afterChroma, readOf, drawnFrom, bitsLeft, ReadAs, Joined}
@@ -15,12 +13,6 @@ goes-on : (n : ℕ) (m : Lent) (next : Left) → decided n (stopped m) next .num
 unfolding decided
 goes-on zero m next e = (refl, refl)
 goes-on (suc n) m next e = absurd (omega arith)
-
--- a refusal's number is above 0, the call's or that of what follows it
-above : (k : ℕ) (m : Lent) (next : Left) → ((n : ℕ) → next .answer ≡ Refused n → n ≡ 0 → ⊥) → (n : ℕ) → decided k (stopped m) next .answer ≡ Refused n → n ≡ 0 → ⊥
-unfolding decided
-above zero m next h n e z = h n e z
-above (suc k) m next h n e z = omega (arith, ap outcomeNumber e)
 
 module _ (s : Setting) (c : Card) (e : readOf s c .number ≡ 0) where
   abbrev from-chroma : Left
@@ -59,21 +51,10 @@ module _ (s : Setting) (c : Card) (e : readOf s c .number ≡ 0) where
   pub all-done : readOf s c ≡ done (afterChroma s c)
   all-done = scores .1 ∙ refines .1 ∙ unmasks .1 ∙ reads-luma .1 ∙ reads-chroma .1
 
--- ---- for callers: where none of the calls is refused, the call is not; and a refusal's number is not 0
-
-module _ (s : Setting) (c : Card) where
-  pub accepts-all : Accepted s c → readOf s c .number ≡ 0
-  unfolding readOf decided
-  accepts-all a = rw (a .scoring, a .refinement, a .unmasking, a .luma, a .chroma)
-
-  pub refused-above : (n : ℕ) → readOf s c .answer ≡ Refused n → n ≡ 0 → ⊥
-  unfolding readOf
-  refused-above =
-      above (scoredCard s c .number) (afterScoring s c) _
-      (above (refinedCard s c .number) (afterRefinement s c) _
-      (above (unmaskedCard s c .number) (afterUnmasking s c) _
-      (above (lumaRead s c .number) (afterLuma s c) _
-      (above (chromaRead s c .number) (afterChroma s c) _ (λ n e z. let w : _≡_ {A = ℕ} 0 1 = cc in absurd (omega arith))))))
+-- and where none of the calls is refused, the call is not
+pub accepts-all : (s : Setting) (c : Card) → Accepted s c → readOf s c .number ≡ 0
+unfolding readOf decided
+accepts-all s c a = rw (a .scoring, a .refinement, a .unmasking, a .luma, a .chroma)
 
 -- ---- the bits left
 

@@ -24,7 +24,8 @@ use Rattle.refine.specs.Refine.{squares}
 use Rattle.guarantee.specs.Card.{Setting, Card, modules, scoredCard, refinedCard, unmaskedCard}
 use Rattle.guarantee.proofs.Known.{read-long}
 use Rattle.bits.specs.Reading.{Left, setting, card, left, readOf}
-use Rattle.bits.proofs.Joined.{all-accepted, all-done, refused-above}
+use Rattle.bits.proofs.Calls.{refused-above}
+use Rattle.bits.proofs.Joined.{all-accepted, all-done}
 use Rattle.bits.proofs.Never.{facts}
 use Rattle.readout.specs.Sheet.{sheet}
 use Rattle.readout.specs.Reading.{listingOf, Listable, textOf, zeros, noBits, placesOf, layoutOf, scoreText}
