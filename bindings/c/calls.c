@@ -119,6 +119,18 @@ static void colours(void) {
     CHECK(i.number == 0 && i.value == 6 && purdolve_palette_index(true, 6, 5).number == 3);
 }
 
+/* At each cell the two calls undo each other, and a shift of the cell is a further rotation. */
+static void rotations(void) {
+    for (size_t hues = 1; hues <= 16; hues *= 2)
+        for (size_t h = 0; h < hues; h++)
+            for (uint16_t c = 0; c < 1024; c += 93) {
+                size_t drawn = purdolve_chroma_mask_apply(h, c, 5, hues).value;
+                CHECK(purdolve_chroma_mask_remove(drawn, c, 5, hues).value == h);
+                CHECK(purdolve_chroma_mask_apply(purdolve_chroma_mask_remove(h, c, 5, hues).value, c, 5, hues).value == h);
+                CHECK(purdolve_chroma_mask_apply(drawn, 0, 7, hues).value == purdolve_chroma_mask_apply(h, c, 12, hues).value);
+            }
+}
+
 static void symbols(void) {
     CHECK(purdolve_gray(2) == 3 && purdolve_gray_inverse(3) == 2);
     CHECK(purdolve_gray_inverse(purdolve_gray(SIZE_MAX)) == SIZE_MAX);
@@ -416,6 +428,7 @@ int main(void) {
     orders();
     colours();
     symbols();
+    rotations();
     figures();
     models();
     no_finite_fit();

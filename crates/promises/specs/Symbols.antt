@@ -13,8 +13,8 @@ use Rattle.limits.specs.Limits.{badHues}
 use Rattle.limits.specs.Chroma.{chromaOn, symbolBits}
 use Rattle.modulate.specs.declared.Cell.the-variants.{Unmasked, At}
 use Rattle.symbols.specs.Gray.{gray, grayInverse, chromaSymbolToHue, hueToChromaSymbol}
-use Rattle.symbols.specs.Mask.{chromaRotation, chromaMaskApply, chromaMaskRemove}
-use Rattle.modulate.specs.Score.{bitLlr, unmaskAt, unmasked}
+use Rattle.symbols.specs.Laws.{RotationsAdd, CallsUndo}
+use Rattle.modulate.specs.Score.{bitLlr, unmaskAt}
 use Rattle.reading.specs.Read.{reads}
 use Rattle.modulate.specs.Draw.{isOne, bitOf, levelAt, hueAt}
 
@@ -40,21 +40,9 @@ pub record OneBitApart (q s t : ℕ) : Type 0 where
 abbrev pub NeighbouringHues : Type 0
 NeighbouringHues = (q h : ℕ) → 0 < q → OneBitApart q (hueToChromaSymbol h (2 ^ q)) (hueToChromaSymbol ((h + 1) % 2 ^ q) (2 ^ q))
 
--- rotations of k hues, of any count above 0
-pub record Rotations : Type 0 where
-  pub rotation-below : (cx cy k : ℕ) → 0 < k → chromaRotation cx cy k < k
-  pub apply-below : (k : ℕ) → 0 < k → (h cx cy : ℕ) → chromaMaskApply h cx cy k < k
-  pub remove-below : (k : ℕ) → 0 < k → (h cx cy : ℕ) → chromaMaskRemove h cx cy k < k
-  -- any hue counts as its remainder
-  pub apply-remainder : (k : ℕ) → 0 < k → (h cx cy : ℕ) → chromaMaskApply (h % k) cx cy k ≡ chromaMaskApply h cx cy k
-  pub remove-remainder : (k : ℕ) → 0 < k → (h cx cy : ℕ) → chromaMaskRemove (h % k) cx cy k ≡ chromaMaskRemove h cx cy k
-  -- removing undoes applying, and applying removing
-  pub remove-apply : (k : ℕ) → 0 < k → (h cx cy : ℕ) → h < k → chromaMaskRemove (chromaMaskApply h cx cy k) cx cy k ≡ h
-  pub apply-remove : (k : ℕ) → 0 < k → (h cx cy : ℕ) → h < k → chromaMaskApply (chromaMaskRemove h cx cy k) cx cy k ≡ h
-  -- two in turn are one by their sum, that of the cell whose coordinates are the sums of theirs, in either order
-  pub apply-sum : (k h cx cy dx dy : ℕ) → chromaMaskApply (chromaMaskApply h cx cy k) dx dy k ≡ (h + (chromaRotation cx cy k + chromaRotation dx dy k)) % k
-  pub apply-twice : (k h cx cy dx dy : ℕ) → chromaMaskApply (chromaMaskApply h cx cy k) dx dy k ≡ chromaMaskApply h (cx + dx) (cy + dy) k
-  pub apply-commutes : (k h cx cy dx dy : ℕ) → chromaMaskApply (chromaMaskApply h cx cy k) dx dy k ≡ chromaMaskApply (chromaMaskApply h dx dy k) cx cy k
+-- rotations of k hues, of any count above 0: of the definitions, and of the calls
+abbrev pub Rotations : Type 0
+Rotations = (k : ℕ) → 0 < k → RotationsAdd k × CallsUndo k
 
 -- of k log-likelihoods the one of hue h is above y, and every other is a number not above y
 pub record Leads (ll : List Float) (k h : ℕ) (y : Float) : Type 0 where
@@ -81,5 +69,3 @@ pub record DrawnIsRead : Type 0 where
   -- the luma bit of module i, where its score says the level that it was drawn in: of the g grid modules unmasked, of a ring module as it is
   pub grid-luma : (bits : List ℕ) (xs ys : List ℤ) (g mask i : ℕ) (v : Float) → Says (levelAt bits xs ys g mask i) v → i < g → reads (unmaskAt mask xs ys i v) ≡ bitOf (isOne (getD bits i 0))
   pub ring-luma : (bits : List ℕ) (xs ys : List ℤ) (g mask i : ℕ) (v : Float) → Says (levelAt bits xs ys g mask i) v → g ≤ i → reads v ≡ bitOf (isOne (getD bits i 0))
-  -- unmasking twice changes nothing
-  pub unmask-twice : (mask : ℕ) (xs ys : List ℤ) (g : ℕ) (luma : List Float) → g ≤ length luma → unmasked mask xs ys g (unmasked mask xs ys g luma) ≡ luma

@@ -9,6 +9,7 @@ ghost use Rattle.promises.specs.Floats.{NearestRoots};
 ghost use Rattle.promises.specs.Colour.{SrgbFormula, NearestSrgb, BothWays, LightnessRises};
 ghost use Rattle.promises.specs.Systems.{SolveKeepsTails};
 ghost use Rattle.promises.specs.Order.{MiddleOfAny, AnyOrder};
+ghost use Rattle.modulate.specs.Laws.{UnmaskingTwice};
 ghost use Rattle.promises.specs.Symbols.{GrayCode, NeighbouringHues, Rotations, DrawnIsRead};
 ghost use Rattle.promises.specs.Model.{Moderate, IdentityReturns, FittedModels};
 ghost use Rattle.promises.specs.Noise.{ReliabilityRange, LumaLlrRange, MarginClauses, MeasuredRecords};
@@ -111,17 +112,24 @@ pub fn neighbouring_hues()
     ensures { λ _. ⌜ NeighbouringHues ⌝ }
 {}
 
-// The rotation that a cell's mask applies to its hue is undone by removing it; two rotations in turn are one by
-// their sum, in either order.
+// Rotations add up, over any hue count: applying two cells' rotations in turn is one rotation by their sum, that of the
+// cell at the sums of their coordinates, in either order; removing undoes applying and applying removing, of hues below
+// the count, and of the calls too: where one gives a hue, the other, handed that hue at the same cell, gives back the
+// first's.
 pub fn hue_rotations()
     ensures { λ _. ⌜ Rotations ⌝ }
 {}
 
 // What is drawn is what is read: where a module's score has the sign of the level that it was drawn in, and where
-// the hue that a cell or a ring module was drawn in is the likeliest, the bits read are the card's. Unmasking twice
-// changes nothing.
+// the hue that a cell or a ring module was drawn in is the likeliest, the bits read are the card's.
 pub fn drawn_is_read()
     ensures { λ _. ⌜ DrawnIsRead ⌝ }
+{}
+
+// Two calls of `unmask_luma` in a row, with one side, grid count and mask and the same positions, leave the scores as
+// they were, signed zeros and the slice's tail too and a NaN for a NaN. This holds of every call, refused ones too.
+pub fn unmasking_twice()
+    ensures { λ _. ⌜ UnmaskingTwice ⌝ }
 {}
 
 // ---- the crate illum

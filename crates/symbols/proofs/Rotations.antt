@@ -7,7 +7,7 @@ use Rattle.symbols.specs.Mask.{chromaRotation, chromaMaskApply, chromaMa
 
 pub rotation-lt : (cx cy k : ℕ) → 0 < k → chromaRotation cx cy k < k
 unfolding chromaRotation
-rotation-lt cx cy k p = mod-lt (cx + cy) p
+rotation-lt cx cy k p = mod-lt _ p
 
 -- adding r and then what is missing to k, or the other way round, leaves the remainder
 around : (h k r : ℕ) → h < k → r ≤ k → ((h + r) % k + k - r) % k ≡ h

@@ -4,7 +4,6 @@ use Prim.Native.Nat.{ℕ}
 use lib.Ieee.{Float}
 use Rattle.modulate.proofs.Decided as decided
 use Rattle.modulate.proofs.ReadBack as back
-use Rattle.modulate.proofs.Written.{unmask-twice}
 use Rattle.promises.specs.Symbols.{Leads, Says}
 use Rattle.promises.proofs.drawn_is_read.Statement.{statement}
 use Rattle.promises.proofs.drawn_is_read.Tie as tie
@@ -22,7 +21,6 @@ returns c =
       ring = λ bits k m cxs cys j b good on h ll y p l. back.read-ring bits k m cxs cys j b good on h ll y (leads ll k _ y p) l;
       grid-luma = λ bits xs ys g mask i v p l. back.read-grid bits xs ys g mask i v (says _ v p) l;
       ring-luma = λ bits xs ys g mask i v p l. back.read-ring-luma bits xs ys g mask i v (says _ v p) l;
-      unmask-twice = unmask-twice;
     }
 
 pub drawn-is-read-spec : {M : Type 1} → statement M

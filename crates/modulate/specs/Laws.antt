@@ -1,0 +1,13 @@
+-- What two calls of `unmask_luma` in a row leave (document 02, P14). Definitions only.
+use mathlib.Core.Path.{_≡_}
+use mathlib.Core.List.{List}
+use Prim.Native.Nat.{ℕ}
+use lib.IntN.{ℤ}
+use lib.Ieee.{Float}
+use Rattle.modulate.specs.Score.{unmaskLumaOf}
+
+-- "unmasking the same scores twice, by one mask over the same modules, restores every bit of them": the whole slice, whatever the call takes, also where both calls are refused. The definitions have one NaN,
+-- so that NaNs count as equal
+abbrev pub UnmaskingTwice : Type 0
+UnmaskingTwice =
+    (luma : List Float) (side : ℕ) (xs ys : List ℤ) (g mask : ℕ) → unmaskLumaOf (unmaskLumaOf luma side xs ys g mask .list) side xs ys g mask .list ≡ luma
