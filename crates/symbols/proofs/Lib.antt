@@ -2,4 +2,5 @@
 pub mod GrayCode
 pub mod Rotations
 pub mod Laws
+pub mod Thirds
 mod Xor

@@ -1,7 +1,7 @@
 // Symbols, hues and masks: Gray code, by which symbols of neighbouring hues differ in one bit, the luma masks and the rotation of
 // the hues (the Rust's symbol.rs and mask.rs).
 ghost use mathlib.Core.Path.{_≡_};
-ghost use Prim.Native.Nat.{_%_, _<_};
+ghost use Prim.Native.Nat.{_/_, _%_, _<_};
 ghost use Rattle.sentences.specs.Sentences.{refusal};
 ghost use Rattle.answers.specs.Answers.{said, answered, huesOnly, huesAndCell};
 ghost use Rattle.symbols.specs.Ready.{HueCount};
@@ -89,6 +89,13 @@ pub fn hue_to_chroma_symbol(hue: usize, hues: usize) -> Number
 
 // ---- masks
 
+// The third of x, rounded down, without a division: 43,691 is a third of 2^17, rounded up (proofs/Thirds.antt).
+fn third(x: u16) -> u32
+    ensures { λ r. ⌜ r ≡ x / 3 ⌝ }
+{
+    (x as u32 * 43691) >> 17
+}
+
 // Whether mask `id`, of which the low three bits count, turns the luma bit of the module at (x, y). Refuses nothing.
 pub fn luma_mask(id: u8, x: u16, y: u16) -> bool
     ensures { λ r. ⌜ r ≡ masks.lumaMask id x y ⌝ }
@@ -109,7 +116,7 @@ pub fn luma_mask(id: u8, x: u16, y: u16) -> bool
         return (r + c) % 3 == 0;
     }
     if rule == 4 {
-        return (r / 2 + c / 3) % 2 == 0;
+        return (r / 2 + third(x)) % 2 == 0;
     }
     if rule == 5 {
         return r * c % 2 + r * c % 3 == 0;

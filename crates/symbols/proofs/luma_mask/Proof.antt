@@ -2,7 +2,8 @@
 use mathlib.Core.Path.{_≡_, refl, sym, ap, _∙_}
 use borrow.Author.Needs.{needs}
 use mathlib.Core.Bool.{Bool, false}
-use Prim.Native.Nat.{ℕ, suc, zero-le, _*_, _%_, _^_, _≤_, _<_}
+use Prim.Native.Nat.{ℕ, suc, zero-le, _+_, _*_, _/_, _%_, _^_, _≤_, _<_}
+use lib.Dec.{eqb}
 use native.Mathlib.Nat.{lt-of-le-of-lt, le-of-lt, mul-le-mul-left, mul-lt-mul-of-pos-right, mod-lt}
 use native.Mathlib.Omega.{arith}
 use lib.ListN.{getD}
@@ -47,9 +48,12 @@ returns-4 : tie.Need-returns-4
 unfolding maskRules
 returns-4 c = picked _ _ _ 3 _ (c .if4 .taken) refl
 
-returns-5 : tie.Need-returns-5
+by-third : (x y t : ℕ) → t ≡ x / 3 → eqb ((y / 2 + t) % 2) 0 ≡ getD (maskRules x y) 4 false
 unfolding maskRules
-returns-5 c = picked _ _ _ 4 _ (c .if5 .taken) refl
+by-third x y t e = rw e
+
+returns-5 : tie.Need-returns-5
+returns-5 c = picked _ _ _ 4 _ (c .before .if5 .taken) (by-third _ _ _ (c .third .ensures))
 
 returns-6 : tie.Need-returns-6
 unfolding maskRules
@@ -81,6 +85,6 @@ mul-result-5 c = product _ _ (omega arith) (omega arith)
 pub luma-mask-spec : {M : Type 1} → statement M
 luma-mask-spec =
     tie.close
-    (tie.spec (λ c. search needs) returns returns-2 returns-3 (λ c. search needs) returns-4 (λ c. search needs) returns-5 mul-result mul-result-2
+    (tie.spec (λ c. search needs) returns returns-2 returns-3 (λ c. search needs) returns-4 (λ c κs. search needs) (λ c. search needs) returns-5 mul-result mul-result-2
     (λ c. search needs) returns-6 mul-result-3 mul-result-4 (λ c. search needs) returns-7 (λ c. search needs) mul-result-5 (λ c. search needs)
     returns-8)
