@@ -162,7 +162,7 @@ static void symbols(void) {
     CHECK(purdolve_ring_hue(3, 4).value == 2);
     CHECK(purdolve_grid_level(1, 0, 0, 0) == 0 && purdolve_grid_level(1, 0, 1, 0) == 1);
     CHECK(purdolve_ring_level(7) == 1 && purdolve_ring_level(0) == 0);
-    CHECK(purdolve_read(-1) == 1 && purdolve_read(1) == 0 && purdolve_read(NAN) == 0);
+    CHECK(purdolve_read(-1) == 1 && purdolve_read(1) == 0 && purdolve_read(NAN) == 2 && purdolve_read(-0.0f) == 2);
 }
 
 /* Document 01's case: side 21, one hue, a black and a white module, mask 0. */

@@ -297,10 +297,13 @@ uint32_t purdolve_unmask_luma(float *luma, size_t luma_len, size_t side, const i
                               size_t xs_len, const int32_t *ys, size_t ys_len, size_t grid,
                               uint8_t mask);
 
-/* The bit that a score stands for: 1 below zero, else, NaN included, 0. */
+/*
+ * The bit that a score stands for: 1 below zero, 0 above it, and 2, an erasure for the error
+ * corrector, for either zero and for NaN. 2 is no bit to draw: purdolve_draw takes it for 1.
+ */
 uint8_t purdolve_read(float score);
 
-/* The bit of each score. bits needs scores. refused: 5 */
+/* The bit of each score, or 2. bits needs scores. refused: 5 */
 uint32_t purdolve_read_list(const float *scores, size_t scores_len, uint8_t *bits, size_t bits_len);
 
 /*
@@ -312,7 +315,8 @@ uint32_t purdolve_read_list(const float *scores, size_t scores_len, uint8_t *bit
  * raw, craw, luma, colours, chroma and scratch need what they need there; luma is left refined and
  * unmasked. bits needs luma_len and symbols chroma_len, a bit for every score that is lent: lend
  * luma of as many scores as there are modules, and with chroma off chroma of length 0. Then bits
- * has a bit a module, and symbols those of the symbols, in the order of purdolve_draw.
+ * has a bit a module, and symbols those of the symbols, in the order of purdolve_draw; each may be 2,
+ * an erasure (purdolve_read).
  * The number is that of the first of the five calls that is refused, and the memory is as that call
  * left it. After an accepted scoring only 5 can come, for scratch, bits or symbols too short; the
  * scores are written then.

@@ -32,6 +32,16 @@ def two_modules(**changed):
     return made
 
 
+def erasures():
+    """A grey module halfway between the levels, a black one, and a white cell halfway between the hues."""
+    dark, light = [0, 50, 0, 0, -50, 0], [100, 50, 0, 100, -50, 0]
+    made = card.Card(side=21, version=1, hues=2, size=1, mask=0, grid=2, palette=[0, 100, 50, 0, -50, 0] + dark + light)
+    grey = struct.unpack("<f", struct.pack("<I", 0x3E3C9B60))[0]  # its L is exactly 50
+    made.modules = [(0, 0, (grey, grey, grey)), (1, 0, (0, 0, 0))]
+    made.cells = [(0, 0, (1, 1, 1))]
+    return made
+
+
 def eight(dark, light, nominal):
     """Eight references on a diagonal, seen dark and light in turn, of which every second one is not black."""
     return [[i, i, *[(dark, light)[i % 2]] * 3, *[nominal * (i % 2)] * 3] for i in range(8)]
@@ -69,6 +79,7 @@ def examples():
         drawn, lines = card.draw(card.options(["-"] + words.split()))
         put(drawn.file(), data % (name, "card"), data % (name, "txt"))
         made["examples/%s.drawn" % name] = lines.encode()
+    put(erasures().file(), data % ("erasures", "card"), data % ("erasures", "txt"))
     made["examples/glare.unrefined.txt"] = oracle("unrefined", made[data % ("glare", "card")])
     for number, file in refused():
         name = "refused-%d" % number

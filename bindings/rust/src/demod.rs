@@ -190,7 +190,8 @@ pub fn unmask_luma(llrs: &mut [f32], layout: &Layout, mask_id: u8) -> Result<(),
 
 /// Reads a card from its raw colours in one call: scores it, refines and unmasks its luma scores, and reads. The bits are one
 /// for each module, the grid modules first, and then those of the symbols: inside the margin, with each corrected colour
-/// within half a sigma of its drawn colour, the very bits that [`draw`](crate::modulate::draw) was given. Refused: 2 to 10
+/// within half a sigma of its drawn colour, the very bits that [`draw`](crate::modulate::draw) was given; elsewhere one may
+/// be 2, an erasure. Refused: 2 to 10
 /// and 12.
 pub fn read_bits(
     raw: RawColours,

@@ -70,12 +70,13 @@ pub fn ring_hue(symbol: usize, hues: usize) -> Result<usize, Refusal> {
     ffi::purdolve_ring_hue(symbol, hues).checked()
 }
 
-/// The bit that a score stands for: 1 below zero, else, NaN included, 0.
+/// The bit that a score stands for: 1 below zero, 0 above it, and 2, an erasure for the error corrector, for either
+/// zero and for NaN. 2 is no bit to draw: [`draw`] takes it for 1.
 pub fn read(score: f32) -> u8 {
     ffi::purdolve_read(score)
 }
 
-/// The bit of each score.
+/// The bit of each score, or 2.
 pub fn read_list(scores: &[f32]) -> Vec<u8> {
     let mut bits = vec![0; scores.len()];
     // Room for one bit a score is never refused.

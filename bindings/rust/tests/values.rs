@@ -92,7 +92,7 @@ fn symbols_and_masks() {
     assert_eq!((mask::chroma_mask_apply(3, 1, 0, 4), mask::chroma_mask_remove(0, 1, 0, 4)), (Ok(0), Ok(3)));
     assert_eq!((symbol_of_bits(&[1, 0], 4), cell_hue(3, 1, 0, 4), ring_hue(3, 4)), (Ok(2), Ok(3), Ok(2)));
     assert_eq!((grid_level(1, 0, 0, 0), ring_level(7)), (0, 1));
-    assert_eq!((read(-1.0), read(f32::NAN), read_list(&[1.0, -1.0, 0.0])), (1, 0, vec![0, 1, 0]));
+    assert_eq!((read(-1.0), read(f32::NAN), read_list(&[1.0, -1.0, 0.0])), (1, 2, vec![0, 1, 2]));
     let mut bits = vec![9.0; 7];
     chroma_bit_llrs(&[0.0, -1.0, -4.0, -9.0], None, 4, &mut bits).unwrap();
     assert_eq!(bits, [4.0, 1.0]);

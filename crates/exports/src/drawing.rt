@@ -126,7 +126,7 @@ pub extern "C" fn purdolve_unmask_luma(
     answers::outcome_number(modulate::unmask_luma(luma, side, xs, ys, grid, mask))
 }
 
-// The bit that a score stands for: 1 below zero, and else, NaN included, 0.
+// The bit that a score stands for: 1 below zero, 0 above it, and 2, an erasure, for either zero and for NaN.
 #[no_mangle]
 pub extern "C" fn purdolve_read(score: f32) -> u8
     ensures { λ r. ⌜ r ≡ reading.reads score ⌝ }
@@ -134,7 +134,7 @@ pub extern "C" fn purdolve_read(score: f32) -> u8
     reading::read(score)
 }
 
-// The bits of a list of scores, one a score. Answers document 01's number. Refused: 5; nothing is written then.
+// The bits of a list of scores, one a score, 2 where a score is an erasure. Answers document 01's number. Refused: 5; nothing is written then.
 #[no_mangle]
 pub extern "C" fn purdolve_read_list(scores: &[f32], bits: &mut [u8]) -> u32
     ensures { λ r. ⌜ exits.exit1 r (now (bits .exit)) ≡ exits.writeExit (reading.readListOf (now (scores .entry)) (now (bits .entry))) ⌝ }

@@ -35,7 +35,7 @@ module _ (a b : List ℕ) (m q : ℕ) (A : m ≤ length a) (B : q ≤ length b) 
 
 module _ (s : Setting) (c : Card) (S : Singles s) (M : InMargin s) (R : Readable s c) where
   -- with chroma off there are no chroma scores
-  off : (b : Bool) → chromaOn (s .layout .hues) ≡ b → b ≡ false → chromaScores s ≡ 0
+  pub off : (b : Bool) → chromaOn (s .layout .hues) ≡ b → b ≡ false → chromaScores s ≡ 0
   unfolding chromaLength symbolBits
   off b e f = rw (e ∙ f, zero-mul) refl
 

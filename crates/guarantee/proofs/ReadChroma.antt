@@ -177,28 +177,32 @@ module _ (s : Setting) (c : Card) (S : Singles s) (M : InMargin s) (R : Readable
   split : (e b k : ℕ) → e * k + b ≡ k * e + b
   split e b k = ap (λ (x : ℕ). x + b) (mul-comm e k)
 
-  pub read-chroma : (e b : ℕ) → e < entries → b < symbolBits hues → e * symbolBits hues + b < length (scoredCard s c .chroma) →
-      getD (chromaRead s c .list) (e * symbolBits hues + b) 0 ≡ bitOf (isOne (getD (c .bits) (modules s + (e * symbolBits hues + b)) 0))
-  read-chroma e b h k l =
+  score-reads : (e b : ℕ) → e < entries → b < symbolBits hues →
+      reads (getD (scoredCard s c .chroma) (e * symbolBits hues + b) nan) ≡ bitOf (isOne (getD (c .bits) (modules s + (e * symbolBits hues + b)) 0))
+  score-reads e b h k =
       let z : modules s + symbolBits hues * e + b ≡ modules s + (e * symbolBits hues + b) = omega (arith, split e b (symbolBits hues)) in
-      read-at (scoredCard s c .chroma) (c .chromaBits) (R .accepted .chroma) (e * symbolBits hues + b) l ∙ ap reads (scored-at e b h k) ∙ entry-bit e b k h (ltb e (length (s .cxs))) refl ∙
-      ap (λ (i : ℕ). bitOf (isOne (getD (c .bits) i 0))) z
+      ap reads (scored-at e b h k) ∙ entry-bit e b k h (ltb e (length (s .cxs))) refl ∙ ap (λ (i : ℕ). bitOf (isOne (getD (c .bits) i 0))) z
 
   -- place j of the chroma score list is bit j % log2(hues) of entry j / log2(hues)
-  pub chroma-bit : (j : ℕ) → j < chromaScores s → getD (chromaRead s c .list) j 0 ≡ bitOf (isOne (getD (c .bits) (modules s + j) 0))
+  pub chroma-reads : (j : ℕ) → j < chromaScores s → reads (getD (scoredCard s c .chroma) j nan) ≡ bitOf (isOne (getD (c .bits) (modules s + j) 0))
   unfolding chromaLength
-  chroma-bit j h =
+  chroma-reads j h =
       let k = symbolBits hues in
       let d : 0 < k = positive k entries h in
       let m = mul-comm entries k in
       let q : j / k < entries = div-lt-iff-lt-mul d .1 (subst (λ (x : ℕ). j < x) (sym m) h) in
       let e = div-add-mod' j k in
-      subst (λ (x : ℕ). getD (chromaRead s c .list) x 0 ≡ bitOf (isOne (getD (c .bits) (modules s + x) 0))) e
-      (read-chroma (j / k) (j % k) q (mod-lt j d) (rw e (omega (arith, m, scored-long))))
+      subst (λ (x : ℕ). reads (getD (scoredCard s c .chroma) x nan) ≡ bitOf (isOne (getD (c .bits) (modules s + x) 0))) e
+      (score-reads (j / k) (j % k) q (mod-lt j d))
     where
       positive : (k n : ℕ) → j < k * n → 0 < k
       positive zero n h = absurd (omega (arith, zero-mul n))
       positive (suc k) n h = omega arith
+
+  pub chroma-bit : (j : ℕ) → j < chromaScores s → getD (chromaRead s c .list) j 0 ≡ bitOf (isOne (getD (c .bits) (modules s + j) 0))
+  unfolding chromaLength
+  chroma-bit j h =
+      read-at (scoredCard s c .chroma) (c .chromaBits) (R .accepted .chroma) j (omega (arith, mul-comm entries (symbolBits hues), scored-long)) ∙ chroma-reads j h
 
   pub chroma-bits : chromaScores s ≤ length (chromaRead s c .list)
   unfolding chromaLength

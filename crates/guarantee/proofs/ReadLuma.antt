@@ -15,6 +15,7 @@ use Rattle.color.specs.Palette.{paletteLab}
 use Rattle.modulate.specs.Draw.{isOne, bitOf, levelAt}
 use Rattle.modulate.specs.Score.{unmaskAt, unmasked}
 use Rattle.reading.specs.Read.{reads}
+use Rattle.reading.proofs.Sign.{read-zero, read-one}
 use Rattle.modulate.proofs.ReadBack.{Says, read-grid, read-ring-luma}
 use Rattle.lists.proofs.Laws.{Reached, reached}
 use Rattle.demod.specs.Score.{lumaScore}
@@ -29,11 +30,16 @@ use Rattle.guarantee.proofs.Score.{Dark, Light, dark-above, light-below
 use Rattle.guarantee.proofs.Sample.{lab-fits, dark-score, light-score}
 use Rattle.guarantee.proofs.Known.{read-at, read-long, level-two, drawn-level, scored-card, scoring-knows, refined-is, unmasked-is, held, palette-fits, in-margin}
 
+says-bit : (level : ℕ) (v : Float) → level < 2 → Says level v → reads v < 2
+says-bit zero v l p = let z = read-zero v (p .is) (p .dark refl) in omega arith
+says-bit (suc zero) v l p = let z = read-one v (p .is) (p .light refl) in omega arith
+says-bit (suc (suc n)) v l p = absurd (omega arith)
+
 module _ (s : Setting) (c : Card) (S : Singles s) (M : InMargin s) (R : Readable s c) where
-  abbrev hues : ℕ
+  abbrev pub hues : ℕ
   hues = s .layout .hues
 
-  abbrev scoreOf : ℕ → Float
+  abbrev pub scoreOf : ℕ → Float
   scoreOf i = lumaScore (s .noise) (s .palette) hues (moduleColours (toScore s c) i)
 
   -- a score that says the level, and that refinement passes over
@@ -70,15 +76,19 @@ module _ (s : Setting) (c : Card) (S : Singles s) (M : InMargin s) (R : Readable
       let p = R .near .each-module i h in
       by-level (levelAt (c .bits) (s .xs) (s .ys) (s .layout .grid) (s .mask) i) (p .hue) (level-two (c .bits) s i) (p .below) i (rw d at (p .near))
 
+  -- it reads as the level
+  pub score-reads : (i : ℕ) → i < modules s → reads (scoreOf i) < 2
+  score-reads i h = says-bit (levelAt (c .bits) (s .xs) (s .ys) (s .layout .grid) (s .mask) i) (scoreOf i) (level-two (c .bits) s i) (clearly i h .says)
+
   -- what scoring left
-  luma-at : (i : ℕ) → i < modules s → getD (scoredCard s c .luma) i nan ≡ scoreOf i
+  pub luma-at : (i : ℕ) → i < modules s → getD (scoredCard s c .luma) i nan ≡ scoreOf i
   luma-at i h = ap (λ f. getD (f .luma) i nan) (scored-card s c R .left) ∙ scored-card s c R .wrote .scored i h
 
   luma-long : modules s ≤ length (scoredCard s c .luma)
   luma-long = rw (scored-card s c R .left) (omega (arith, scored-card s c R .wrote .luma-long, scoring-knows s c R .lengths .scores))
 
   -- refinement leaves it
-  passed-over : refinedCard s c .luma ≡ scoredCard s c .luma
+  pub passed-over : refinedCard s c .luma ≡ scoredCard s c .luma
   unfolding refinedOf refined
   passed-over =
       ap (λ f. f .luma) (sym (refined-is s c R)) ∙
@@ -96,7 +106,7 @@ module _ (s : Setting) (c : Card) (S : Singles s) (M : InMargin s) (R : Readable
   unmasked-long : modules s ≤ length (unmaskedCard s c .list)
   unmasked-long = rw unmasked-list (omega (arith, turned .long, luma-long))
 
-  read-unmasked : (i : ℕ) → i < modules s → (b : Bool) → ltb i (s .layout .grid) ≡ b → reads (getD (unmaskedCard s c .list) i nan) ≡ bitOf (isOne (getD (c .bits) i 0))
+  pub read-unmasked : (i : ℕ) → i < modules s → (b : Bool) → ltb i (s .layout .grid) ≡ b → reads (getD (unmaskedCard s c .list) i nan) ≡ bitOf (isOne (getD (c .bits) i 0))
   read-unmasked i h true e =
       let g = ltb-true i (s .layout .grid) e in
       ap (λ (l : List Float). reads (getD l i nan)) unmasked-list ∙ ap reads (turned .done i g ∙ ap (unmaskAt (s .mask) (s .xs) (s .ys) i) (luma-at i h)) ∙

@@ -2,4 +2,5 @@
 pub mod Within
 pub mod Card
 pub mod Guarantee
+pub mod Erased
 pub mod Table

@@ -1,14 +1,18 @@
 -- Two calls of `unmask_luma` in a row restore the scores. Where the first is accepted so is the second, and turning a sign twice restores it; where it is refused nothing is written, and the second is the
--- first again. Assumes nothing.
+-- first again. What an unmasked score reads as is what turning a sign does to reading. Assumes nothing.
 use mathlib.Core.Path.{_≡_, refl, ap, _∙_}
+use mathlib.Core.Bool.{Bool, true, false, cond}
 use mathlib.Core.List.{List}
 use Prim.Native.Nat.{ℕ, zero, suc}
 use lib.IntN.{ℤ}
-use lib.Ieee.{Float}
+use lib.Ieee.{Float, neg}
 use Rattle.sentences.specs.Sentences.{refusal, decided}
 use Rattle.answers.proofs.Answers.{list-number}
-use Rattle.modulate.specs.Score.{unmasked, unmaskSentences, unmaskLumaOf}
-use Rattle.modulate.specs.Laws.{UnmaskingTwice}
+use Rattle.reading.specs.Read.{reads}
+use Rattle.reading.specs.Erasure.{turned}
+use Rattle.reading.proofs.Erasure.{erasures}
+use Rattle.modulate.specs.Score.{maskedAt, unmaskAt, unmasked, unmaskSentences, unmaskLumaOf}
+use Rattle.modulate.specs.Laws.{UnmaskingTwice, UnmaskedReads}
 use Rattle.modulate.proofs.Written.{unmask-luma-twice}
 
 module _ (luma : List Float) (side : ℕ) (xs ys : List ℤ) (g mask : ℕ) where
@@ -26,3 +30,13 @@ module _ (luma : List Float) (side : ℕ) (xs ys : List ℤ) (g mask : ℕ) wher
 
 pub unmasking-twice : UnmaskingTwice
 unmasking-twice luma side xs ys g mask = by luma side xs ys g mask (refusal (unmaskSentences luma side xs ys g)) refl
+
+-- ---- what an unmasked score reads as
+
+reads-by : (m : Bool) (v : Float) → reads (cond m (neg v) v) ≡ cond m (turned (reads v)) (reads v)
+reads-by true v = erasures .turning v
+reads-by false v = refl
+
+pub unmasked-reads : UnmaskedReads
+unfolding unmaskAt
+unmasked-reads id xs ys i v = reads-by (maskedAt id xs ys i) v

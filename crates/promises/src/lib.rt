@@ -9,7 +9,9 @@ ghost use Rattle.promises.specs.Floats.{NearestRoots};
 ghost use Rattle.promises.specs.Colour.{SrgbFormula, NearestSrgb, BothWays, LightnessRises};
 ghost use Rattle.promises.specs.Systems.{SolveKeepsTails};
 ghost use Rattle.promises.specs.Order.{MiddleOfAny, AnyOrder};
-ghost use Rattle.modulate.specs.Laws.{UnmaskingTwice};
+ghost use Rattle.guarantee.specs.Erased.{NoneErasedInside};
+ghost use Rattle.reading.specs.Erasure.{Erasures};
+ghost use Rattle.modulate.specs.Laws.{UnmaskingTwice, UnmaskedReads};
 ghost use Rattle.promises.specs.Symbols.{GrayCode, NeighbouringHues, Rotations, DrawnIsRead};
 ghost use Rattle.promises.specs.Model.{Moderate, IdentityReturns, FittedModels};
 ghost use Rattle.promises.specs.Noise.{ReliabilityRange, LumaLlrRange, MarginClauses, MeasuredRecords};
@@ -42,6 +44,12 @@ pub fn drawing_after_scoring()
 // The definitions give document 01's worked examples, row by row.
 pub fn worked_examples()
     ensures { λ _. ⌜ Worked ⌝ }
+{}
+
+// Inside the margin, on the premises of the read guarantee, no score reads as 2: no luma score as scoring, refinement or
+// unmasking left it, and no chroma score.
+pub fn none_erased()
+    ensures { λ _. ⌜ NoneErasedInside ⌝ }
 {}
 
 // ---- the crate float
@@ -124,6 +132,12 @@ pub fn hue_rotations()
 // the hue that a cell or a ring module was drawn in is the likeliest, the bits read are the card's.
 pub fn drawn_is_read()
     ensures { λ _. ⌜ DrawnIsRead ⌝ }
+{}
+
+// A score reads as 2 exactly where it is neither below nor above zero. Where its sign is turned, as unmasking turns it, a
+// bit that is read is turned too, and 2 stays.
+pub fn erasures()
+    ensures { λ _. ⌜ Erasures × UnmaskedReads ⌝ }
 {}
 
 // Two calls of `unmask_luma` in a row, with one side, grid count and mask and the same positions, leave the scores as

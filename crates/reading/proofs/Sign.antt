@@ -30,9 +30,15 @@ module _ (f : Format) (x : Float) (q : Num f x) where
       let z = zero-sides f false in
       is-true (lt x (fin false 0 (pos 0))) (to-lt q (zero-num f false) (⊎-elim (λ (e : hi f x ≡ 0). record { lt = omega arith }) (λ (e : lo f x ≡ 0). absurd (omega arith)) (one-side f x)))
 
+  is-above : 0 < hi f x → lt (fin false 0 (pos 0)) x ≡ true
+  is-above a =
+      let z = zero-sides f false in
+      let o = above-none f x a in
+      is-true (lt (fin false 0 (pos 0)) x) (to-lt (zero-num f false) q (record { lt = omega arith }))
+
 pub read-zero : (x : Float) → Num binary32 x → 0 < hi binary32 x → reads x ≡ 0
 unfolding reads
-read-zero x q a = rw (not-below binary32 x q a (lt x (fin false 0 (pos 0))) refl)
+read-zero x q a = rw (not-below binary32 x q a (lt x (fin false 0 (pos 0))) refl, is-above binary32 x q a)
 
 pub read-one : (x : Float) → Num binary32 x → 0 < lo binary32 x → reads x ≡ 1
 unfolding reads

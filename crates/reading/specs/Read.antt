@@ -10,9 +10,9 @@ use Rattle.sentences.specs.Sentences.{Sentence, _when_}
 use Rattle.answers.specs.Answers.{Ended, writtenOr}
 use Rattle.lists.specs.Lists.{replaced}
 
--- "a score below zero is 1 and any other, NaN included, is 0"
+-- "a score below zero is 1", one above it is 0, and "A score that is zero or NaN reads as 2" (document 02, P2), which is no bit
 unfoldable pub reads : Float → ℕ
-reads v = cond (lt v (fin false 0 (pos 0))) 1 0
+reads v = cond (lt v (fin false 0 (pos 0))) 1 (cond (lt (fin false 0 (pos 0)) v) 0 2)
 
 abbrev pub readAt : List Float → ℕ → ℕ → ℕ
 readAt scores i b = reads (getD scores i nan)

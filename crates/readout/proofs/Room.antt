@@ -1,4 +1,4 @@
--- The text of a card has room in LISTING_ROOM bytes: a refusal is a number below 100, a bit is 0 or 1, a card file has at most 1,020 modules and cells, and an
+-- The text of a card has room in LISTING_ROOM bytes: a refusal is a number below 100, what is read is 0, 1 or 2, a card file has at most 1,020 modules and cells, and an
 -- accepted hue count at most 4 bits a symbol. Assumes nothing.
 use mathlib.Core.Path.{_≡_, refl}
 use mathlib.Core.Bool.{Bool, true, false, cond}
@@ -106,23 +106,24 @@ unfolding decided
 after-in zero next h g = g refl
 after-in (suc k) next h g = line-in (suc k) (omega arith)
 
--- ---- bits are 0 or 1, also where none was read
+-- ---- what is read is 0, 1 or 2, and where nothing was read stands 0
 
 abbrev Bits : List ℕ → Type 0
-Bits l = (i : ℕ) → getD l i 0 ≤ 1
+Bits l = (i : ℕ) → getD l i 0 ≤ 2
 
-reads-bit : (v : Float) → reads v ≤ 1
+reads-bit : (v : Float) → reads v ≤ 2
 unfolding reads
-reads-bit v = by (lt v (fin false 0 (pos 0)))
+reads-bit v = by (lt v (fin false 0 (pos 0))) (lt (fin false 0 (pos 0)) v)
   where
-    by : (b : Bool) → cond b 1 0 ≤ 1
-    by true = omega arith
-    by false = omega arith
+    by : (b c : Bool) → cond b 1 (cond c 0 2) ≤ 2
+    by true c = omega arith
+    by false true = omega arith
+    by false false = omega arith
 
-set-bit : (l : List ℕ) (j x : ℕ) → x ≤ 1 → Bits l → Bits (set l j x)
+set-bit : (l : List ℕ) (j x : ℕ) → x ≤ 2 → Bits l → Bits (set l j x)
 set-bit l j x h p i = by (eqb i j) refl (ltb j (length l)) refl
   where
-    by : (b : Bool) → eqb i j ≡ b → (c : Bool) → ltb j (length l) ≡ c → getD (set l j x) i 0 ≤ 1
+    by : (b : Bool) → eqb i j ≡ b → (c : Bool) → ltb j (length l) ≡ c → getD (set l j x) i 0 ≤ 2
     by true e true f = rw (eqb-true i j e, getD-set-same l j x 0 (ltb-true j (length l) f)) h
     by true e false f = rw (set-out l j x (ltb-false j (length l) f)) (p i)
     by false e c f = rw (getD-set-other l j i x 0 (eqb-false i j e)) (p i)

@@ -77,9 +77,15 @@ pub fn unmask_luma(luma: &mut [f32], side: usize, xs: &[i32], ys: &[i32], grid: 
     Ok(())
 }
 
-/// Document 01's reading: a score below zero is 1, any other, NaN included, is 0.
+/// Reading: a score below zero is 1, one above it is 0, and either zero or NaN is 2, no bit.
 pub fn read(score: f32) -> u8 {
-    (score < 0.0) as u8
+    if score < 0.0 {
+        1
+    } else if score > 0.0 {
+        0
+    } else {
+        2
+    }
 }
 
 pub fn read_list(scores: &[f32], out: &mut [u8]) -> Result<(), u32> {

@@ -10,9 +10,13 @@ returns c = simp (c .if1 .taken)
 
 returns-2 : tie.Need-returns-2
 unfolding reads ofBits
-returns-2 c = simp (c .if1 .left)
+returns-2 c = simp (c .before .if1 .left, c .if2 .taken)
+
+returns-3 : tie.Need-returns-3
+unfolding reads ofBits
+returns-3 c = simp (c .before .if1 .left, c .if2 .left)
 
 pub read-spec : {M : Type 1} → statement M
 read-spec =
     tie.close
-    (tie.spec returns returns-2)
+    (tie.spec returns returns-2 returns-3)
