@@ -424,4 +424,11 @@ unsafe extern "C" {
         out_len: usize,
     ) -> u32;
     pub fn purdolve_margin(noise: Stats, palette: *const f32, palette_len: usize, hues: usize) -> FlagAnswer;
+    pub fn purdolve_margin_at(
+        nine: bool,
+        noise: Stats,
+        palette: *const f32,
+        palette_len: usize,
+        hues: usize,
+    ) -> FlagAnswer;
 }

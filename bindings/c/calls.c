@@ -198,6 +198,16 @@ static void figures(void) {
     purdolve_channel_stats coarse = {47, 53, 6, 6, 0, 0, 0};
     yes = purdolve_margin(coarse, PALETTE, 10, 1);
     CHECK(yes.number == 0 && !yes.yes);
+    yes = purdolve_margin_at(false, n.noise, PALETTE, 10, 1);
+    CHECK(yes.number == 0 && yes.yes);
+    purdolve_channel_stats between = {44, 56, 8, 6, 0, 0, 0}; /* 12 * (100 - 8) / 128 is 8.625 */
+    CHECK(!purdolve_margin_at(true, between, PALETTE, 10, 1).yes);
+    between.l1 = 58; /* 14 * (102 - 8) / 128 is 10.28125 */
+    CHECK(purdolve_margin_at(true, between, PALETTE, 10, 1).yes);
+    yes = purdolve_margin_at(false, between, PALETTE, 10, 1);
+    CHECK(yes.number == 0 && !yes.yes);
+    between.sigma_l = 0.5f;
+    CHECK(purdolve_margin_at(true, between, PALETTE, 10, 1).number == PURDOLVE_REFUSED_SIGMA);
 }
 
 static void models(void) {

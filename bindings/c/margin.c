@@ -1,6 +1,6 @@
 /*
  * Checks a palette before any card is printed: whether its inks lie far enough apart for the read
- * guarantee, and up to which noise they do.
+ * guarantee, and up to which noise they do, at both settings of the margin check.
  */
 #include "inks.h"
 
@@ -8,17 +8,17 @@
 
 static float palette[PALETTE];
 
-/* What the margin check says; a refusal counts as no. */
-static bool in_margin(purdolve_channel_stats noise) {
-    purdolve_flag_answer margin = purdolve_margin(noise, palette, PALETTE, HUES);
+/* What the margin check says at a setting; a refusal counts as no. */
+static bool in_margin(bool nine, purdolve_channel_stats noise) {
+    purdolve_flag_answer margin = purdolve_margin_at(nine, noise, palette, PALETTE, HUES);
     return margin.number == PURDOLVE_ACCEPTED && margin.yes;
 }
 
 /* The largest value of one of the noise's sigmas, in steps of a quarter from 0.75, up to which it says
    yes. The sigma is left as it was. */
-static float most(purdolve_channel_stats *noise, float *sigma) {
+static float most(bool nine, purdolve_channel_stats *noise, float *sigma) {
     float was = *sigma, most = 0;
-    for (*sigma = 0.75f; in_margin(*noise); *sigma += 0.25f) {
+    for (*sigma = 0.75f; in_margin(nine, *noise); *sigma += 0.25f) {
         most = *sigma;
     }
     *sigma = was;
@@ -32,8 +32,11 @@ int main(void) {
         printf("%06X  L %5.1f  a %5.1f  b %5.1f\n", (unsigned)INKS[i], lab[0], lab[1], lab[2]);
     }
     purdolve_channel_stats noise = purdolve_nominal(palette, PALETTE, HUES).noise;
-    printf("nominal noise, sigmas 6: %s\n", in_margin(noise) ? "yes" : "no");
-    printf("yes up to sigma_l %.2f\n", most(&noise, &noise.sigma_l));
-    printf("yes up to sigma_ab %.2f\n", most(&noise, &noise.sigma_ab));
-    return !in_margin(noise);
+    for (int nine = 0; nine < 2; nine++) {
+        printf("at %d, nominal noise, sigmas 6: %s\n", nine ? 9 : 13,
+               in_margin(nine, noise) ? "yes" : "no");
+        printf("yes up to sigma_l %.2f\n", most(nine, &noise, &noise.sigma_l));
+        printf("yes up to sigma_ab %.2f\n", most(nine, &noise, &noise.sigma_ab));
+    }
+    return !in_margin(false, noise);
 }

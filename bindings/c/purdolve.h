@@ -262,6 +262,14 @@ purdolve_flag_answer purdolve_margin(purdolve_channel_stats noise, const float *
                                      size_t palette_len, size_t hues);
 
 /*
+ * The margin check at one of its settings: at 9 where nine is true, else at 13, as purdolve_margin. At
+ * 9 the read guarantee asks besides that no score is a NaN after purdolve_add_local_luma.
+ * refused: 3, 5, 8, 9
+ */
+purdolve_flag_answer purdolve_margin_at(bool nine, purdolve_channel_stats noise,
+                                        const float *palette, size_t palette_len, size_t hues);
+
+/*
  * Scores a card from its raw colours. raw needs 3 * modules, craw 3 * cells. Writes to luma a score
  * for each module (needs modules; positive for dark, from -20 to 20), to colours the corrected
  * colour of each (needs 3 * modules), and to chroma log2(hues) scores for each symbol (needs the

@@ -59,9 +59,9 @@ def gray_inverse(g):
 class Palette:
     """Two levels and k hues, each colour with the Lab of its level and its hue."""
 
-    def __init__(self, hues):
+    def __init__(self, hues, levels=None):
         self.hues = hues
-        self.levels = LEVELS[hues]
+        self.levels = levels or LEVELS[hues]
         self.points = [(round(CHROMA[hues] * a, 2), round(CHROMA[hues] * b, 2)) for a, b in HUES[hues]]
         self.colours = [(l, a, b) for l in self.levels for a, b in self.points]
 
@@ -143,7 +143,7 @@ def symbol_bits(symbol, hues):
 def draw(o):
     """A card by the options, and the lines that say what was drawn."""
     rng = random.Random(o.seed)
-    palette = Palette(o.hues)
+    palette = Palette(o.hues, o.levels)
     channel = Channel(o, rng)
     card = Card(o.side, o.version, o.hues, o.size, o.mask, 0, palette.floats())
     card.references = references(o, palette, channel, rng)
@@ -195,6 +195,7 @@ def options(words):
     p.add_argument("--side", type=int, default=16, help="modules a side, 1 to 64 (16)")
     p.add_argument("--version", type=int, default=1, help="from 10 on the fit has 9 terms, else 4 (1)")
     p.add_argument("--hues", type=int, default=1, choices=sorted(HUES), help="1, 2, 4, 8 or 16 (1)")
+    p.add_argument("--levels", type=numbers(2), help="L of the dark and of the light colours (by the hues)")
     p.add_argument("--size", type=int, default=1, help="modules a chroma cell's side (1)")
     p.add_argument("--mask", type=int, default=0, help="luma mask, 0 to 7 (0)")
     p.add_argument("--corners", type=int, default=0, help="side of the four corner squares, one reference a module (0)")

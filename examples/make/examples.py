@@ -20,6 +20,8 @@ ORACLE = os.environ.get("ORACLE", os.path.join(ROOT, "target/oracle/proper-relea
 
 FOUR_HUES = "--side 16 --hues 4 --corners 4 --ring --version 10 --mask 3 --gain 0.95,0.85,0.7 --slope 0.4,-0.3"
 FOUR_HUES += " --flare 0.02 --noise 0.004 --outliers 2 --seed 5"
+# without references the noise is nominal, sigmas 6: half a sigma off a score is 29 * (29 - 6) / 72, which is 9.26
+NEAR = "--side 12 --hues 2 --levels 40,69 --ring --mask 2 --noise 0.0012 --glare 6,5,0.006,4 --seed 3"
 GLARE = "--side 16 --hues 2 --size 2 --corners 3 --ring --mask 5 --gain 0.9,0.8,0.7 --noise 0.006 --glare 9,7,0.5,5"
 
 
@@ -75,7 +77,7 @@ def examples():
 
     data = "crates/card_vectors/data/%s.%s"
     put(two_modules().file(), "crates/readcard/stdin", "crates/readcard/stdout")
-    for name, words in (("four-hues", FOUR_HUES), ("glare", GLARE)):
+    for name, words in (("four-hues", FOUR_HUES), ("glare", GLARE), ("near-levels", NEAR)):
         drawn, lines = card.draw(card.options(["-"] + words.split()))
         put(drawn.file(), data % (name, "card"), data % (name, "txt"))
         made["examples/%s.drawn" % name] = lines.encode()

@@ -28,6 +28,15 @@ pub struct ChannelStats {
     pub samples: u32,
 }
 
+/// The settings of the margin check: how far from 0 the luma score of every palette colour must lie half a sigma off.
+#[derive(Copy, Clone, PartialEq, Eq, Debug)]
+pub enum Threshold {
+    /// 13, the margin of the read guarantee.
+    Thirteen,
+    /// 9, its second setting, where no refined score may be a NaN.
+    Nine,
+}
+
 impl ChannelStats {
     /// The record to fall back on: the palette's levels, sigmas 6, samples 0. Refused: 3, 5, 8.
     pub fn nominal(palette: &Palette) -> Result<ChannelStats, Refusal> {
@@ -70,6 +79,13 @@ impl ChannelStats {
     /// guarantee. Refused: 3, 5, 8, 9.
     pub fn margin(&self, palette: &Palette) -> Result<bool, Refusal> {
         let answer = ffi::margin(*self, &palette.flat(), palette.hues);
+        Refusal::check(answer.number).map(|()| answer.yes)
+    }
+
+    /// The margin check at one of its settings; `margin` is that at 13. At 9 the read guarantee asks besides that no
+    /// score is a NaN after [`add_local_luma`]. Refused: 3, 5, 8, 9.
+    pub fn margin_at(&self, least: Threshold, palette: &Palette) -> Result<bool, Refusal> {
+        let answer = ffi::margin_at(least == Threshold::Nine, *self, &palette.flat(), palette.hues);
         Refusal::check(answer.number).map(|()| answer.yes)
     }
 }

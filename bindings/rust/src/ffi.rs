@@ -285,6 +285,13 @@ unsafe extern "C" {
         out_len: usize,
     ) -> u32;
     fn purdolve_margin(noise: ChannelStats, palette: *const f32, palette_len: usize, hues: usize) -> FlagAnswer;
+    fn purdolve_margin_at(
+        nine: bool,
+        noise: ChannelStats,
+        palette: *const f32,
+        palette_len: usize,
+        hues: usize,
+    ) -> FlagAnswer;
     fn purdolve_score(
         side: usize,
         hues: usize,
@@ -524,6 +531,10 @@ pub fn hue_log_likelihoods(noise: ChannelStats, sample: Lab, palette: &[f32], hu
 
 pub fn margin(noise: ChannelStats, palette: &[f32], hues: usize) -> FlagAnswer {
     unsafe { purdolve_margin(noise, palette.as_ptr(), palette.len(), hues) }
+}
+
+pub fn margin_at(nine: bool, noise: ChannelStats, palette: &[f32], hues: usize) -> FlagAnswer {
+    unsafe { purdolve_margin_at(nine, noise, palette.as_ptr(), palette.len(), hues) }
 }
 
 pub fn score(

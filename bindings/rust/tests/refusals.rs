@@ -1,7 +1,9 @@
 //! Each refusal, by a call that gives it, and what was lent to a refused call.
 use purdolve::Refusal;
 use purdolve::color::{Lab, Linear};
-use purdolve::demod::{ChannelStats, Demodulation, RawColours, add_local_luma, demodulate, measure, unmask_luma};
+use purdolve::demod::{
+    ChannelStats, Demodulation, RawColours, Threshold, add_local_luma, demodulate, measure, unmask_luma,
+};
 use purdolve::illum::{IlluminationModel, Reference};
 use purdolve::layout::Layout;
 use purdolve::math::{NormalEquations, least_squares, solve};
@@ -144,6 +146,7 @@ fn sigmas() {
     let fine = ChannelStats { sigma_ab_level: [0.0, 0.5], ..noise() };
     assert_eq!(fine.sigma_ab_at(50.0), Err(Refusal::Sigma));
     assert_eq!(fine.margin(&black_and_white()), Err(Refusal::Sigma));
+    assert_eq!(fine.margin_at(Threshold::Nine, &black_and_white()), Err(Refusal::Sigma));
     assert_eq!(scored(&two_modules(), &black_and_white(), &fine).unwrap_err(), Refusal::Sigma);
 }
 

@@ -1,6 +1,6 @@
 //! Known answers: the worked examples of the scope, and others that can be worked out by hand.
 use purdolve::color::{self, Lab, Linear, Srgb8};
-use purdolve::demod::ChannelStats;
+use purdolve::demod::{ChannelStats, Threshold};
 use purdolve::illum::{BIQUADRATIC_FROM_VERSION, IlluminationModel};
 use purdolve::math::{NormalEquations, least_squares, mad_sigma, median, solve};
 use purdolve::modulate::{
@@ -114,6 +114,12 @@ fn noise_figures() {
     assert_eq!(hues, [-1.0]);
     assert_eq!(noise.margin(&palette), Ok(true));
     assert_eq!(stats(47.0, 53.0, 6.0, [0.0; 2]).margin(&palette), Ok(false));
+    assert_eq!(noise.margin_at(Threshold::Thirteen, &palette), Ok(true));
+    // 14 × (102 - 8) / 128 is 10.28, and 14 × (102 - 192) / 128 is -9.84
+    let between = stats(44.0, 58.0, 8.0, [0.0; 2]);
+    assert_eq!(between.margin_at(Threshold::Nine, &palette), Ok(true));
+    assert_eq!(between.margin_at(Threshold::Thirteen, &palette), Ok(false));
+    assert_eq!(stats(44.0, 56.0, 8.0, [0.0; 2]).margin_at(Threshold::Nine, &palette), Ok(false));
 }
 
 #[test]

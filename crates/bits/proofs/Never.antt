@@ -11,7 +11,6 @@ use lib.Dec.{T}
 use lib.IntN.{ℤ}
 use lib.ListN.{length, getD}
 use lib.Ieee.{Float, nan, binary32, neg, le, round}
-use Rattle.loops.specs.Loops.{someOf, anyUp}
 use Rattle.sentences.specs.Sentences.{refusal, orElse, decided}
 use Rattle.sentences.proofs.Laws.{joined, neither}
 use Rattle.floatlaws.specs.Order.{le-trans, of-le, to-le}
@@ -31,6 +30,7 @@ use Rattle.reading.specs.Read.{readList, readSentences, readListOf}
 use Rattle.lists.proofs.Laws.{reached}
 use Rattle.stats.specs.Calls.{shortPalette, badNumbers, badSigmas}
 use Rattle.stats.proofs.Range.{Held}
+use Rattle.stats.proofs.Wider.{any-none}
 use Rattle.demod.proofs.Outcome.{IsDone, at-done}
 use Rattle.demod.proofs.Range.{luma-in, colour-tame}
 use Rattle.refine.specs.Refine.{squares, levelsOf, gridOf, refined}
@@ -40,15 +40,6 @@ use Rattle.guarantee.specs.Card.{Setting, Card, toScore, scoredCard, toRefine, 
 use Rattle.demod.proofs.Accepted.{done-answer}
 
 -- ---- tests
-
-some-none : (k i : ℕ) (p : ℕ → Bool) → ((j : ℕ) → i ≤ j → j < i + k → p j ≡ false) → someOf k i p ≡ false
-unfolding someOf
-some-none zero i p h = refl
-some-none (suc k) i p h = rw (h i (omega arith) (omega arith)) (some-none k (suc i) p (λ j a b. h j (omega arith) (omega arith)))
-
-any-none : (p : ℕ → Bool) (n : ℕ) → ((j : ℕ) → j < n → p j ≡ false) → anyUp 0 n p ≡ false
-unfolding anyUp
-any-none p n h = some-none (n - 0) 0 p (λ j a b. h j (omega arith))
 
 no-or : (a b : Bool) → a ≡ false → b ≡ false → a || b ≡ false
 no-or a b p q = rw (p, q)

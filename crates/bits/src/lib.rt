@@ -6,7 +6,7 @@
 ghost use mathlib.Core.Path.{_≡_};
 ghost use mathlib.Core.List.{List};
 ghost use lib.Ieee.{Float};
-ghost use Rattle.guarantee.specs.Guarantee.{ReadGuarantee};
+ghost use Rattle.guarantee.specs.Guarantee.{ReadGuarantee, ReadGuaranteeAtNine};
 ghost use Rattle.bits.specs.Reading.{lent, left, setting, card, readOf, Joined};
 ghost use Rattle.bits.specs.Onwards as onwards;
 use answers::Outcome;
@@ -84,7 +84,8 @@ fn refine_scores(
 // score that is lent, the modules', and for each chroma score, the symbols'. Scratch is that of refinement, (side + 12)² floats.
 // The first of the calls `score`, `add_local_luma`, `unmask_luma`, `read_list` of the luma scores and `read_list` of the chroma
 // scores that is refused gives its number, and the memory is as that call left it. Inside the margin, with each corrected colour
-// within half a sigma of its drawn colour, the bits read are the bits drawn. Refused: 2, 3, 4, 5, 6, 7, 8, 9, 10, 12.
+// within half a sigma of its drawn colour, the bits read are the bits drawn; inside the margin at 9 in place of 13 so too, where
+// no refined score is a NaN. Refused: 2, 3, 4, 5, 6, 7, 8, 9, 10, 12.
 pub fn read_bits(
     layout: Layout,
     xs: &[i32],
@@ -108,7 +109,7 @@ pub fn read_bits(
         let s = setting layout (now (xs .entry)) (now (ys .entry)) (now (cxs .entry)) (now (cys .entry)) (now (palette .entry)) mask model noise in
         let c = card (now (raw .entry)) (now (craw .entry)) (now (luma .entry)) (now (colours .entry)) (now (chroma .entry)) (now (scratch .entry)) (now (bits .entry)) (now (symbols .entry)) in
         let f = left r (now (luma .exit)) (now (colours .exit)) (now (chroma .exit)) (now (scratch .exit)) (now (bits .exit)) (now (symbols .exit)) in
-        (f ≡ readOf s c) × Joined s c f × ReadGuarantee) ⌝ }
+        (f ≡ readOf s c) × Joined s c f × ReadGuarantee × ReadGuaranteeAtNine) ⌝ }
 {
     match demod::score(
         layout,

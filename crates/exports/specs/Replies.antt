@@ -9,6 +9,8 @@ use Rattle.color.specs.declared.Linear.{Linear}
 use Rattle.modulate.specs.declared.Cell.{Cell}
 use Rattle.modulate.specs.declared.Cell.the-variants as cell
 use Rattle.stats.specs.declared.ChannelStats.{ChannelStats}
+use Rattle.stats.specs.declared.Threshold.{Threshold}
+use Rattle.stats.specs.declared.Threshold.the-variants as threshold
 use Rattle.exports.specs.declared.replies.SolveAnswer.{SolveAnswer}
 use Rattle.exports.specs.declared.replies.NumberAnswer.{NumberAnswer}
 use Rattle.exports.specs.declared.replies.FlagAnswer.{FlagAnswer}
@@ -69,7 +71,7 @@ noiseAnswer s = structOf measured noRecord s
 abbrev pub floatAnswer : Said Float → FloatAnswer
 floatAnswer s = structOf valued zero s
 
--- `margin`, `palette::is_empty`
+-- `margin`, `margin_at`, `palette::is_empty`
 abbrev pub flagAnswer : Said Bool → FlagAnswer
 flagAnswer s = structOf judged false s
 
@@ -83,3 +85,8 @@ numberAnswer s = structOf counted 0 s
 abbrev pub cellOf : Bool → ℕ → ℕ → Cell
 cellOf true cx cy = cell.At cx cy
 cellOf false cx cy = cell.Unmasked
+
+-- `margin_at`: the setting 9, or 13
+abbrev pub thresholdOf : Bool → Threshold
+thresholdOf true = threshold.Nine
+thresholdOf false = threshold.Thirteen

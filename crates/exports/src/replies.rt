@@ -18,6 +18,7 @@ use order::Sigma;
 use stats::ChannelStats;
 use stats::Figure;
 use stats::Noise;
+use stats::Threshold;
 use stats::Verdict;
 
 // Whether a linear system was solved.
@@ -158,7 +159,7 @@ pub fn figure_answer(o: Figure) -> FloatAnswer
     }
 }
 
-// Of `margin`.
+// Of `margin` and `margin_at`.
 pub fn verdict_answer(o: Verdict) -> FlagAnswer
     ensures { λ r. ⌜ r ≡ spec.flagAnswer (verdictSaid o) ⌝ }
 {
@@ -215,4 +216,14 @@ pub fn cell_of(masked: bool, cx: u16, cy: u16) -> Cell
         return Cell::At(cx, cy);
     }
     Cell::Unmasked
+}
+
+// The setting of the margin check: 9, or 13.
+pub fn threshold_of(nine: bool) -> Threshold
+    ensures { λ r. ⌜ r ≡ spec.thresholdOf nine ⌝ }
+{
+    if nine {
+        return Threshold::Nine;
+    }
+    Threshold::Thirteen
 }

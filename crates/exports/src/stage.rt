@@ -289,10 +289,23 @@ pub extern "C" fn purdolve_hue_log_likelihoods(
     answers::outcome_number(noise.hue_log_likelihoods(sample, palette, hues, out))
 }
 
-// The margin check. Refused: 3, 5, 8, 9.
+// The margin check, at 13. Refused: 3, 5, 8, 9.
 #[no_mangle]
 pub extern "C" fn purdolve_margin(noise: ChannelStats, palette: &[f32], hues: usize) -> FlagAnswer
     ensures { λ r. ⌜ r ≡ spec.flagAnswer (stats_call.marginAnswer noise (now (palette .entry)) hues) ⌝ }
 {
     replies::verdict_answer(stats::margin(noise, palette, hues))
+}
+
+// The margin check at one of its settings, 9 or 13. Refused: 3, 5, 8, 9.
+#[no_mangle]
+pub extern "C" fn purdolve_margin_at(
+    nine: bool,
+    noise: ChannelStats,
+    palette: &[f32],
+    hues: usize,
+) -> FlagAnswer
+    ensures { λ r. ⌜ r ≡ spec.flagAnswer (stats_call.marginAtAnswer (spec.thresholdOf nine) noise (now (palette .entry)) hues) ⌝ }
+{
+    replies::verdict_answer(stats::margin_at(replies::threshold_of(nine), noise, palette, hues))
 }

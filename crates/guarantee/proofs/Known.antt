@@ -10,7 +10,6 @@ use lib.Dec.{ltb}
 use lib.ListN.{length, getD}
 use lib.Ieee.{Float, nan}
 use Rattle.sentences.specs.Sentences.{Sentence, refusal, decided, at, sound, fresh}
-use Rattle.color.specs.Color.{whole}
 use Rattle.answers.specs.declared.Outcome.{Outcome}
 use Rattle.answers.specs.declared.Outcome.the-variants as outcome
 use Rattle.symbols.specs.Gray.{chromaSymbolToHue}
@@ -26,14 +25,19 @@ use Rattle.answers.proofs.Answers.{given-is, list-done, none-of}
 use Rattle.modulate.proofs.Accepted.{IsDrawn, drawn-done}
 use Rattle.limits.specs.Chroma.{chromaOn}
 use Rattle.stats.specs.Margin.{inMargin}
+use Rattle.stats.specs.declared.Threshold.{Threshold}
+use Rattle.stats.specs.declared.Threshold.the-variants.{Nine}
 use Rattle.stats.specs.Calls as stats
+use Rattle.stats.specs.Calls.{leastOf}
+use Rattle.stats.proofs.Clear.{Clear, clear}
+use Rattle.stats.proofs.Wider.{yes-at-nine}
 use Rattle.stats.proofs.Range.{Held}
 use Rattle.demod.proofs.Accepted as scored
 use Rattle.demod.proofs.Outcome.{IsDone, at-done}
 use Rattle.refine.specs.Calls as refinement
 use Rattle.refine.proofs.Accepted as refining
 use Rattle.guarantee.specs.Card.{Setting, Card, modules, toDraw, drawnCard, toScore, toRefine, refinedCard, unmaskedCard}
-use Rattle.guarantee.specs.Guarantee.{Singles, InMargin, Readable}
+use Rattle.guarantee.specs.Guarantee.{Singles, InMargin, Readable, InMarginAt}
 use Rattle.guarantee.proofs.Sample.{Fits}
 
 -- ---- a call whose number is 0 is done: a refused one has the number that it is refused by
@@ -139,5 +143,12 @@ held s p = record { l0 = p .l0; l1 = p .l1; sigma-l = p .sigma-l; sigma-ab = p .
 pub palette-fits : (s : Setting) → Singles s → Fits (s .palette)
 palette-fits s p = record { at = p .palette }
 
-pub in-margin : (s : Setting) → InMargin s → inMargin (whole 13) (s .noise) (s .palette) (s .layout .hues) ≡ true
-in-margin s e = sym (given-is (stats.sentencesOf (s .noise) (s .palette) (s .layout .hues)) (inMargin (whole 13) (s .noise) (s .palette) (s .layout .hues)) true (sym e))
+-- each clause of the margin check's sentence, at a setting's threshold
+pub in-margin : (least : Threshold) (s : Setting) → InMarginAt least s → Clear (leastOf least) (s .noise) (s .palette) (s .layout .hues)
+in-margin least s e =
+    let yes = given-is (stats.sentencesOf (s .noise) (s .palette) (s .layout .hues)) (inMargin (leastOf least) (s .noise) (s .palette) (s .layout .hues)) true (sym e) in
+    clear (leastOf least) (s .noise) (s .palette) (s .layout .hues) (sym yes)
+
+-- a card inside the margin is so at 9
+pub at-nine : (s : Setting) → InMargin s → InMarginAt Nine s
+at-nine s e = yes-at-nine (s .noise) (s .palette) (s .layout .hues) e

@@ -1,7 +1,7 @@
 -- Inside the margin the hue of the colour that a sample is within half a sigma of leads, so each bit score has the sign of that hue's symbol; the weight, 0.9931 at least, and the clamp keep that sign: the
 -- smallest float times the least weight is not 0. Assumes nothing.
 use mathlib.Core.Path.{_≡_, refl, sym, _∙_}
-use mathlib.Core.Logic.{_⊎_, inl, inr, ⊎-elim}
+use mathlib.Core.Logic.{_⊎_, inl, inr}
 use mathlib.Core.Bool.{true, false}
 use mathlib.Core.List.{List}
 use Prim.Native.Nat.{ℕ, zero, suc, _≤_, _<_}
@@ -9,7 +9,7 @@ use native.Mathlib.Omega.{arith}
 use lib.IntN.{negsuc}
 use lib.ListN.{length, getD}
 use lib.Ieee.{Float, nan, fin, binary32, neg, mul, lt, le, ofBits, fits}
-use Rattle.floatlaws.specs.Value.{unit-pos, mag, hi, lo, one-side, Num}
+use Rattle.floatlaws.specs.Value.{unit-pos, mag, hi, lo, Num}
 use Rattle.floatlaws.specs.Order.{Le, Lt, sides, le-trans, above-none, hi-neg, lo-neg}
 use Rattle.floatlaws.specs.Ops.{hi-positive, mul-swap}
 use Rattle.floatlaws.specs.Near.{above}
@@ -28,6 +28,7 @@ use Rattle.reading.specs.Read.{reads}
 use Rattle.reading.proofs.Sign.{read-zero, read-one}
 use Rattle.modulate.proofs.Decided.{Leads, for-zero, for-one, bit-lt}
 use Rattle.lists.proofs.Laws.{reached}
+use Rattle.refine.proofs.Sign.{below-none}
 use Rattle.stats.specs.declared.ChannelStats.{ChannelStats}
 use Rattle.stats.specs.Arithmetic.{_⊖_, _⊗_}
 use Rattle.stats.specs.Noise.{sigmaAbAt, denominator, hueLogLikelihood, putLikelihood, hueLogLikelihoods}
@@ -140,9 +141,6 @@ tiny-weighed-minus = omega arith
 least-plain : lo binary32 leastWeight ≡ 0
 unfolding lo ofBits
 least-plain = refl
-
-below-none : (x : Float) → 0 < lo binary32 x → hi binary32 x ≡ 0
-below-none x h = ⊎-elim (λ (e : hi binary32 x ≡ 0). e) (λ (e : lo binary32 x ≡ 0). absurd (omega arith)) (one-side binary32 x)
 
 module _ {v w : Float} (N : Num binary32 v) (W : Weight w) where
   weight-above : 0 < hi binary32 w

@@ -31,6 +31,10 @@ pub of-T : (b : Bool) → T b → b ≡ true
 of-T true t = refl
 of-T false t = absurd t
 
+pub of-not-T : (b : Bool) → T (not b) → b ≡ false
+of-not-T true t = absurd t
+of-not-T false t = refl
+
 pub both : (a b : Bool) → a && b ≡ true → (a ≡ true) × (b ≡ true)
 both true b e = (refl, e)
 both false b e = let z : _≡_ {A = ℕ} 0 1 = cc in absurd (omega arith)

@@ -22,6 +22,7 @@ use Rattle.modulate.specs.Draw.{isOne, bitOf, levelAt, hueAt}
 use Rattle.modulate.specs.Score.{bitLlr}
 use Rattle.reading.specs.Read.{reads}
 use Rattle.modulate.proofs.ReadBack.{read-cell, read-ring}
+use Rattle.stats.specs.declared.Threshold.the-variants.{Nine}
 use Rattle.stats.specs.Noise.{reliability}
 use Rattle.stats.proofs.Clear.{Apart}
 use Rattle.demod.specs.Score.{weighed, likelihoods, bitScores, chromaScore}
@@ -29,14 +30,14 @@ use Rattle.demod.specs.Call.{moduleColours, cellColours, writtenChroma}
 use Rattle.demod.proofs.Chroma.{bits-are}
 use Rattle.guarantee.specs.Within.{halfSigma}
 use Rattle.guarantee.specs.Card.{Setting, Card, modules, chromaScores, drawnCard, toScore, scoredCard, chromaRead, moduleLab, cellLab, paletteColour, carriesChroma}
-use Rattle.guarantee.specs.Guarantee.{Singles, InMargin, Readable}
+use Rattle.guarantee.specs.Guarantee.{Singles, Readable, InMarginAt}
 use Rattle.guarantee.proofs.Weight.{Weight}
 use Rattle.guarantee.proofs.Leads.{read-held}
 use Rattle.guarantee.proofs.Scored as lists
-use Rattle.guarantee.proofs.Sample.{lab-fits, HueLeads, hue-leads, weight, margin}
+use Rattle.guarantee.proofs.Sample.{lab-fits, HueLeads, hue-leads, weight}
 use Rattle.guarantee.proofs.Known.{read-at, read-long, level-two, hue-below, drawn-level, drawn-hue, scored-card, scoring-knows, held, palette-fits, in-margin}
 
-module _ (s : Setting) (c : Card) (S : Singles s) (M : InMargin s) (R : Readable s c) (on : chromaOn (s .layout .hues) ≡ true) where
+module _ (s : Setting) (c : Card) (S : Singles s) (M : InMarginAt Nine s) (R : Readable s c) (on : chromaOn (s .layout .hues) ≡ true) where
   abbrev hues : ℕ
   hues = s .layout .hues
 
@@ -61,22 +62,18 @@ module _ (s : Setting) (c : Card) (S : Singles s) (M : InMargin s) (R : Readable
   at-colour colour i own h l a e =
       let k = scoring-knows s c R in
       record {
-        leads = hue-leads (s .noise) (s .palette) hues (held s S) (palette-fits s S) (k .inputs .palette-tame) (k .sigmas) (in-margin s M) (linearToLab colour) (lab-fits colour) i h e own l a (replicate 16 (whole 0)) room;
-        weight = weight (s .noise) (s .palette) hues (held s S) (palette-fits s S) (k .inputs .palette-tame) (k .sigmas) (in-margin s M) (linearToLab colour) (lab-fits colour) i h e;
+        leads = hue-leads (s .noise) (s .palette) hues (held s S) (palette-fits s S) (k .inputs .palette-tame) (k .sigmas) (in-margin Nine s M) (linearToLab colour) (lab-fits colour) i h e own l a (replicate 16 (whole 0)) room;
+        weight = weight (s .noise) (s .palette) hues (held s S) (palette-fits s S) (k .inputs .palette-tame) (k .sigmas) (in-margin Nine s M) (linearToLab colour) (lab-fits colour) i h e;
       }
 
   by-level : (colour : Linear) (level own : ℕ) → level < 2 → own < hues → halfSigma (s .noise) (linearToLab colour) (paletteColour s level own) ≡ true → Led (linearToLab colour) own
   unfolding paletteColour
   by-level colour zero own h l e =
-      let k = scoring-knows s c R in
       let z : 0 * hues + own ≡ own = rw (zero-mul hues) (omega arith) in
-      let m = margin (s .noise) (s .palette) hues (held s S) (palette-fits s S) (k .inputs .palette-tame) (k .sigmas) (in-margin s M) in
-      at-colour colour own own (omega arith) l (m .dark-apart on own l) (rw z at e)
+      at-colour colour own own (omega arith) l (in-margin Nine s M .dark-apart on own l) (rw z at e)
   by-level colour (suc zero) own h l e =
-      let k = scoring-knows s c R in
       let z : 1 * hues + own ≡ hues + own = rw (one-mul hues) in
-      let m = margin (s .noise) (s .palette) hues (held s S) (palette-fits s S) (k .inputs .palette-tame) (k .sigmas) (in-margin s M) in
-      at-colour colour (hues + own) own (omega arith) l (m .light-apart on own l) (rw z at e)
+      at-colour colour (hues + own) own (omega arith) l (in-margin Nine s M .light-apart on own l) (rw z at e)
   by-level colour (suc (suc n)) own h l e = absurd (omega arith)
 
   abbrev drawnHue : ℕ → ℕ

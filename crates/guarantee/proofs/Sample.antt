@@ -1,4 +1,4 @@
--- What the laws say of one sample inside the margin, with all that a setting gives: within half a sigma of a palette colour its luma score is at least 12 in magnitude and has the colour's level as its sign,
+-- What the laws say of one sample inside the margin, with all that a setting gives: within half a sigma of a palette colour its luma score is above 8 in magnitude, at 13 at least 12, and has the colour's level as its sign,
 -- its weight is 0.9931 or more, and the colour's hue leads. Assumes nothing.
 use mathlib.Core.Path.{_≡_, subst}
 use mathlib.Core.Logic.{_⊎_, inl, inr}
@@ -24,10 +24,9 @@ use Rattle.color.proofs.Passed.{hue-tame, lab-tame}
 use Rattle.modulate.proofs.Decided.{Leads}
 use Rattle.stats.specs.declared.ChannelStats.{ChannelStats}
 use Rattle.stats.specs.Noise.{sigmaAbAt, lumaLlr, reliability, hueLogLikelihoods}
-use Rattle.stats.specs.Margin.{inMargin}
 use Rattle.stats.specs.Calls.{badSigmas}
 use Rattle.stats.proofs.Range.{Held}
-use Rattle.stats.proofs.Clear.{Clear, Apart, clear}
+use Rattle.stats.proofs.Clear.{Clear, Apart}
 use Rattle.demod.specs.Score.{weighed}
 use Rattle.guarantee.specs.Within.{halfApart, halfSigma}
 use Rattle.guarantee.proofs.Range.{Level, Tame, tame, level-in, both}
@@ -35,7 +34,7 @@ use Rattle.guarantee.proofs.Luma.{llr-in}
 use Rattle.guarantee.proofs.Sigma.{Scale, Any, wider, sigma-in}
 use Rattle.guarantee.proofs.Half.{Close, close}
 use Rattle.guarantee.proofs.Weight.{Bounded, Near, Weight, reliable}
-use Rattle.guarantee.proofs.Score.{Dark, Light, dark-llr, light-llr, sample-lightness, dark-as-is, light-as-is, dark-weighed, light-weighed, thirteen-is}
+use Rattle.guarantee.proofs.Score.{Enough, Dark, Light, dark-llr, light-llr, sample-lightness, dark-as-is, light-as-is, dark-weighed, light-weighed}
 use Rattle.guarantee.proofs.Leads.{BoundedAb, runnerUp, leads}
 
 -- ---- ranges
@@ -100,12 +99,9 @@ pub record HueLeads (ll : List Float) (hues h : ℕ) : Type 0 where
   pub y : Float
   pub leads : Leads ll hues h y
 
-module _ (n : ChannelStats) (palette : List Float) (hues : ℕ) (held : Held n) (P : Fits palette) (calm : wildPalette palette hues ≡ false) (sigmas : badSigmas n ≡ false) (yes : inMargin (whole 13) n palette hues ≡ true) where
-  pub margin : Clear (whole 13) n palette hues
-  margin = clear (whole 13) n palette hues yes
-
+module _ {threshold : Float} (n : ChannelStats) (palette : List Float) (hues : ℕ) (held : Held n) (P : Fits palette) (calm : wildPalette palette hues ≡ false) (sigmas : badSigmas n ≡ false) (margin : Clear threshold n palette hues) where
   good : Tame n
-  good = tame (whole 13) n palette hues held sigmas margin
+  good = tame threshold n palette hues held sigmas margin
 
   colour-in : (i : ℕ) → i < 2 * hues → Bounded (paletteLab palette hues i)
   unfolding paletteLab
@@ -156,22 +152,24 @@ module _ (n : ChannelStats) (palette : List Float) (hues : ℕ) (held : Held n) 
           leads = leads n good palette hues point-in sample sample-in i own l (colour-in i h) a near out r;
         }
 
-    -- the luma score, weighed (w) or as it is: of a dark colour
-    dark-at : i < hues → Le binary32 (whole 13) (lumaLlr n (sample .l))
-    dark-at l = dark-llr n good palette hues (whole 13) (thirteen-is .num) i (colour-level i h) (margin .dark i l) (near .l)
+    -- the luma score, weighed (w) or as it is
+    module _ {least : Float} (E : Enough threshold least) where
+      -- of a dark colour
+      dark-at : i < hues → Le binary32 threshold (lumaLlr n (sample .l))
+      dark-at l = dark-llr n good palette hues threshold (num (E .is)) i (colour-level i h) (margin .dark i l) (near .l)
 
-    pub dark-score : i < hues → (w : Bool) → Dark (cond w (weighed (lumaLlr n (sample .l)) (reliability n sample palette hues)) (lumaLlr n (sample .l)))
-    unfolding weighed
-    dark-score l true = dark-weighed score-fin weight (dark-at l)
-    dark-score l false = dark-as-is score-fin (dark-at l)
+      pub dark-score : i < hues → (w : Bool) → Dark least (cond w (weighed (lumaLlr n (sample .l)) (reliability n sample palette hues)) (lumaLlr n (sample .l)))
+      unfolding weighed
+      dark-score l true = dark-weighed E score-fin weight (dark-at l)
+      dark-score l false = dark-as-is E score-fin (dark-at l)
 
-    -- of a light one
-    light-at : (o : ℕ) → o < hues → i ≡ hues + o → Le binary32 (lumaLlr n (sample .l)) (neg (whole 13))
-    light-at o l z =
-        light-llr n good palette hues (whole 13) (thirteen-is .num) o (subst (λ (j : ℕ). Level (paletteLab palette hues j .l)) z (colour-level i h)) (margin .light o l)
-        (subst (λ (j : ℕ). Close (n .«sigma_l») (sample .l) (paletteLab palette hues j .l)) z (near .l))
+      -- of a light one
+      light-at : (o : ℕ) → o < hues → i ≡ hues + o → Le binary32 (lumaLlr n (sample .l)) (neg threshold)
+      light-at o l z =
+          light-llr n good palette hues threshold (num (E .is)) o (subst (λ (j : ℕ). Level (paletteLab palette hues j .l)) z (colour-level i h)) (margin .light o l)
+          (subst (λ (j : ℕ). Close (n .«sigma_l») (sample .l) (paletteLab palette hues j .l)) z (near .l))
 
-    pub light-score : (o : ℕ) → o < hues → i ≡ hues + o → (w : Bool) → Light (cond w (weighed (lumaLlr n (sample .l)) (reliability n sample palette hues)) (lumaLlr n (sample .l)))
-    unfolding weighed
-    light-score o l z true = light-weighed score-fin weight (light-at o l z)
-    light-score o l z false = light-as-is score-fin (light-at o l z)
+      pub light-score : (o : ℕ) → o < hues → i ≡ hues + o → (w : Bool) → Light least (cond w (weighed (lumaLlr n (sample .l)) (reliability n sample palette hues)) (lumaLlr n (sample .l)))
+      unfolding weighed
+      light-score o l z true = light-weighed E score-fin weight (light-at o l z)
+      light-score o l z false = light-as-is E score-fin (light-at o l z)

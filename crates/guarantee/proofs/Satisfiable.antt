@@ -1,7 +1,8 @@
--- The guarantee's premises can be met: document 01's own case, a card with chroma on, cards at the edge of the margin and of half a sigma, and one of one hue with a cell. antt computes each premise. Assumes nothing.
-use mathlib.Core.Path.{_≡_, refl}
+-- The guarantee's premises can be met: document 01's own case, a card with chroma on, cards at the edge of the margin and of half a sigma, one of one hue with a cell, and at 9 one that is outside the margin at 13. antt computes each premise. Assumes nothing.
+use mathlib.Core.Path.{_≡_, refl, ap}
 use mathlib.Core.Bool.{Bool, true, false, xor, _&&_}
 use mathlib.Core.List.{List, [], _∷_}
+use mathlib.Core.Option.{Option·some-injective}
 use Prim.Native.Nat.{ℕ, zero, suc, _*_, _<_}
 use native.Mathlib.Omega.{arith}
 use lib.Dec.{T}
@@ -13,19 +14,20 @@ use Rattle.limits.specs.Chroma.{chromaOn}
 use Rattle.color.specs.Color.{whole, fraction}
 use Rattle.illum.specs.Correct.{unitModel}
 use Rattle.stats.specs.declared.ChannelStats.{ChannelStats}
+use Rattle.stats.specs.declared.Threshold.the-variants.{Thirteen, Nine}
 use Rattle.stats.specs.Noise.{nominal}
 use lib.Ieee.{add, sub, mul, div, neg, lt, le, eq, isNan, ofInt, toUnsigned}
 use Rattle.sentences.specs.Sentences.{refusal, decided}
 use Rattle.loops.specs.Loops.{someOf, anyUp, turns, forUp}
 use Rattle.limits.specs.Limits.{badSide, badHues, badCellSize, badModules, badCounts, badCell}
 use Rattle.limits.specs.Chroma.{halvings, log2, weighted, symbolBits, chromaEntries, chromaLength}
-use Rattle.places.specs.Places.{outside, misplaced}
+use Rattle.places.specs.Places.{outside, misplaced, offset}
 use Rattle.layout.specs.Groups.{shape, modulePlacement, badPositions, placement}
 use Rattle.floatlaws.specs.Value.{mag, hi, lo}
 use Rattle.float.specs.Select.{abs, max, min, clamp}
 use Rattle.float.specs.Root.{digits, iroot, rootOfUnits, sqrtOf, cbrtOf}
 use Rattle.float.specs.Single.{toSingle}
-use Rattle.color.specs.Color.{linearToXyz, line, labF, lightness, xyzToLab}
+use Rattle.color.specs.Color.{luminance, linearToXyz, line, labF, lightness, xyzToLab}
 use Rattle.color.specs.Palette.{levelL, hueAb, paletteLab, linearAt, wild, wildLinear}
 use Rattle.illum.specs.Surface.{leastGain, termsUsed, normalised, basisAt, addTerm, isHeld, holdGain, deshade}
 use Rattle.illum.specs.Correct.{affineRow, unshaded, mixed}
@@ -44,11 +46,12 @@ use Rattle.demod.specs.Call as scoring
 use Rattle.demod.specs.Call.{badModuleLengths, badCellLengths, shortChroma, badLengths, badInputs, badCorrected, scoredOf}
 use Rattle.refine.specs.Calls as refinement
 use Rattle.refine.specs.Calls.{shortSlices, wildNumbers, refinedOf, refineOf}
-use Rattle.refine.specs.Refine.{placeAt, refineAt, refined}
+use Rattle.refine.specs.Window.{beyond, luminanceNear, pushed, sampleAt}
+use Rattle.refine.specs.Refine.{sure, refineOne, placeAt, refineAt, refined}
 use Rattle.guarantee.specs.Within.{units, halfApart, halfSigma}
 use Rattle.guarantee.specs.Card.{paletteColour, carriesChroma}
-use Rattle.guarantee.specs.Card.{Setting, Card, bitsDrawn}
-use Rattle.guarantee.specs.Guarantee.{Singles, InMargin, NearModule, NearCell, Readable}
+use Rattle.guarantee.specs.Card.{Setting, Card, refinedCard, bitsDrawn}
+use Rattle.guarantee.specs.Guarantee.{Singles, InMargin, NearModule, NearCell, Readable, InMarginAt, NoNan}
 
 -- ---- f32 values
 
@@ -244,8 +247,8 @@ edgePalette =
     []
 
 -- two grid modules, a ring module and a cell, of either cell size: the ring module carries chroma at 1 and not at 2
-abbrev pub edge : ℕ → Setting
-edge size =
+abbrev edgeAt : ChannelStats → ℕ → Setting
+edgeAt noise size =
     record {
       layout = record { side = 21; hues = 2; size = size; grid = 2 };
       xs = pos 0 ∷ pos 2 ∷ negsuc 0 ∷ [];
@@ -255,8 +258,11 @@ edge size =
       palette = edgePalette;
       mask = 0;
       model = unitModel 21 4;
-      noise = edgeNoise;
+      noise = noise;
     }
+
+abbrev pub edge : ℕ → Setting
+edge = edgeAt edgeNoise
 
 edge-fits : T (allFit edgePalette)
 unfolding allFit fits fraction round neg
@@ -421,6 +427,53 @@ narrow-ring-readable =
 pub narrow-ring-drawn : bitsDrawn (edge 1) narrowRing ≡ 1 ∷ 0 ∷ 1 ∷ 0 ∷ 0 ∷ []
 unfolding computed bitsDrawn
 narrow-ring-drawn = refl
+
+-- ---- at 9 and not at 13: with these levels the dark colours at L + sigma_l/2 have a `luma_llr` of exactly 9 and the light ones at L - sigma_l/2 of exactly -9, so the scores of `narrowCard` are 9 times the
+-- weight. Refinement looks at them, and leaves them for want of 12 samples
+
+abbrev nineNoise : ChannelStats
+nineNoise =
+    record { l0 = n 41; l1 = n 59; «sigma_l» = n 10; «sigma_ab» = n 1000; «sigma_ab_dark» = n 6; «sigma_ab_light» = n 18; samples = 0 }
+
+abbrev pub nine : Setting
+nine = edgeAt nineNoise 1
+
+pub nine-singles : Singles nine
+unfolding fits fraction round
+nine-singles = record { palette = each-fits edgePalette edge-fits; l0 = tt; l1 = tt; sigma-l = tt; sigma-ab = tt; sigma-ab-dark = tt; sigma-ab-light = tt }
+
+pub nine-margin : InMarginAt Nine nine
+unfolding computed
+nine-margin = refl
+
+pub nine-outside : InMarginAt Thirteen nine → ⊥
+unfolding computed
+nine-outside e = none (Option·some-injective false true (ap (λ a. a .value) e))
+
+pub nine-readable : Readable nine narrowCard
+unfolding computed
+nine-readable =
+    record {
+      drawn = refl;
+      accepted = record { scoring = refl; refinement = refl; unmasking = refl; luma = refl; chroma = refl };
+      near =
+          record {
+            each-module =
+                first-three (NearModule nine narrowCard)
+                (record { hue = 1; below = omega arith; own = λ e. refl; near = refl })
+                (record { hue = 1; below = omega arith; own = λ e. refl; near = refl })
+                (record { hue = 1; below = omega arith; own = λ e. refl; near = refl });
+            each-cell = λ on. first-one (NearCell nine narrowCard) (record { level = 0; below = omega arith; near = refl });
+          };
+    }
+
+pub nine-no-nan : NoNan nine narrowCard
+unfolding computed sure refineOne beyond luminanceNear pushed sampleAt offset luminance
+nine-no-nan = first-three (λ i. isNan (getD (refinedCard nine narrowCard .luma) i nan) ≡ false) refl refl refl
+
+pub nine-drawn : bitsDrawn nine narrowCard ≡ 1 ∷ 0 ∷ 1 ∷ 0 ∷ 1 ∷ []
+unfolding computed bitsDrawn
+nine-drawn = refl
 
 -- ---- one hue: chroma is off, so the hue point may be anywhere, the ring module has no hue of its own at cell size 1, and the cell, which is red, is near no palette colour
 

@@ -1,13 +1,14 @@
 -- The luma score inside the margin, over any threshold: half a sigma from a dark colour, L is at most what the margin check tested, so `luma_llr` is at least the threshold; from a light one L is at
--- least that, so it is at most minus the threshold; and the weight takes 0.7 % of it at most. Assumes nothing.
-use mathlib.Core.Path.{_≡_, _∙_}
+-- least that, so it is at most minus the threshold; and the weight takes 0.7 % of it at most. At 13 that leaves 12, at 9 it leaves 8.5. Assumes nothing.
+use mathlib.Core.Path.{_≡_, refl, _∙_}
 use mathlib.Core.Bool.{true}
 use mathlib.Core.List.{List}
-use Prim.Native.Nat.{ℕ, _+_, _<_}
+use Prim.Native.Nat.{ℕ, _+_}
 use native.Mathlib.Omega.{arith}
+use lib.Dec.{T}
 use lib.Ieee.{Float, binary32, neg, add, sub, mul, div, le, round, ofBits, fits}
 use Rattle.floatlaws.specs.Value.{unit-pos, hi, lo, both-sides, Num}
-use Rattle.floatlaws.specs.Order.{Le, of-le, to-le, sides, le-trans, neg-num, neg-anti, hi-neg, lo-neg}
+use Rattle.floatlaws.specs.Order.{Le, Lt, of-le, to-le, sides, le-trans, neg-num, neg-anti, hi-neg, lo-neg}
 use Rattle.floatlaws.specs.Near.{above, under}
 use Rattle.floatlaws.specs.Ops.{add-rounds, sub-rounds}
 use Rattle.floatlaws.specs.Mono.{mul-mono, mul-mono', mul-anti'}
@@ -19,9 +20,14 @@ use Rattle.float.proofs.Select.{abs-sides, abs-num}
 use Rattle.color.specs.Color.{whole, fraction}
 use Rattle.color.specs.Palette.{paletteLab}
 use Rattle.stats.specs.declared.ChannelStats.{ChannelStats}
+use Rattle.stats.specs.declared.Threshold.{Threshold}
+use Rattle.stats.specs.declared.Threshold.the-variants.{Thirteen, Nine}
 use Rattle.stats.specs.Arithmetic.{_⊕_, _⊖_, _⊗_, _⊘_}
 use Rattle.stats.specs.Noise.{lumaLlr}
 use Rattle.stats.specs.Margin.{darkClear, lightClear}
+use Rattle.stats.specs.Calls.{leastOf}
+use Rattle.stats.proofs.Wider.{least-num}
+use Rattle.refine.proofs.Sign.{eight-is}
 use Rattle.guarantee.proofs.Range.{Level, Sigma, Tame, to-T, of-T}
 use Rattle.guarantee.proofs.Luma.{Lightness, two-is, llr-in, llr-falls}
 use Rattle.guarantee.proofs.Sigma.{wider}
@@ -121,71 +127,96 @@ module _ {threshold v w : Float} (F : Fin binary32 threshold) (plus : lo binary3
       (mul-mono (num P) (num G) (num (W .is)) (mul-num P (W .is)) (mul-num G (W .is)) weight-plain h)
       (mul-anti' (num weight-fin) (num (W .is)) (num G) (mul-num G weight-fin) (mul-num G (W .is)) (hi-neg binary32 threshold ∙ plus) (W .low))
 
--- ---- at document 01's threshold of 13: at least 12 in magnitude
+-- ---- at a setting
 
-pub thirteen-is : Const binary32 (whole 13) 13 0 1
-unfolding fraction round isConst
-thirteen-is = const binary32 (whole 13) 13 0 1 tt
+-- what the weight leaves of a threshold is at least `least`
+pub record Enough (threshold least : Float) : Type 0 where
+  pub is : Fin binary32 threshold
+  pub plain : lo binary32 threshold ≡ 0
+  pub as-is : Le binary32 least threshold
+  pub dark : Le binary32 least (threshold ⊗ leastWeight)
+  pub light : Le binary32 (neg threshold ⊗ leastWeight) (neg least)
+
+-- 12 at 13, so that refinement passes over the score; 8.5 at 9, so that it keeps the sign
+unfoldable pub leastScore : Threshold → Float
+leastScore Thirteen = whole 12
+leastScore Nine = fraction 17 2
 
 pub twelve-is : Const binary32 (whole 12) 12 0 1
 unfolding fraction round isConst
 twelve-is = const binary32 (whole 12) 12 0 1 tt
 
-thirteen-plain : lo binary32 (whole 13) ≡ 0
-thirteen-plain = omega (arith, thirteen-is .lo)
+half-is : Const binary32 (fraction 17 2) 17 0 2
+unfolding fraction round isConst
+half-is = const binary32 (fraction 17 2) 17 0 2 tt
 
-twelve-least : Le binary32 (whole 12) (whole 13 ⊗ leastWeight)
-unfolding le mul ofBits fraction round
-twelve-least = of-le (twelve-is .num) (mul-num (thirteen-is .is) weight-fin) tt
+-- a threshold's own figures, and the three tests, are computed
+enough-by : {threshold least : Float} {m d : ℕ} → Fin binary32 threshold → lo binary32 threshold ≡ 0 → Const binary32 least m 0 d → T (le least threshold) → T (le least (threshold ⊗ leastWeight)) →
+    T (le (neg threshold ⊗ leastWeight) (neg least)) → Enough threshold least
+enough-by t p l a b c =
+    record {
+      is = t;
+      plain = p;
+      as-is = of-le (l .num) (num t) a;
+      dark = of-le (l .num) (mul-num t weight-fin) b;
+      light = of-le (mul-num (neg-fin t) weight-fin) (num (neg-fin (l .is))) c;
+    }
 
-twelve-most : Le binary32 (neg (whole 13) ⊗ leastWeight) (neg (whole 12))
-unfolding le neg mul ofBits fraction round
-twelve-most = of-le (mul-num (neg-fin (thirteen-is .is)) weight-fin) (num (neg-fin (twelve-is .is))) tt
+least-fin : (least : Threshold) → Fin binary32 (leastOf least)
+unfolding fraction round
+least-fin Thirteen = record { fit = least-num Thirteen .fit; finite = tt }
+least-fin Nine = record { fit = least-num Nine .fit; finite = tt }
 
-less-than : Le binary32 (whole 12) (whole 13)
-unfolding le fraction round
-less-than = of-le (twelve-is .num) (thirteen-is .num) tt
+pub enough : (least : Threshold) → Enough (leastOf least) (leastScore least)
+unfolding leastScore le neg mul ofBits fraction round lo
+enough Thirteen = enough-by (least-fin Thirteen) refl twelve-is tt tt tt
+enough Nine = enough-by (least-fin Nine) refl half-is tt tt tt
 
--- a score of at least 12 for dark, at most -12 for light
-pub record Dark (v : Float) : Type 0 where
+-- a score of at least `least` for dark, at most minus it for light
+pub record Dark (least v : Float) : Type 0 where
   pub is : Num binary32 v
-  pub at-least : Le binary32 (whole 12) v
+  pub at-least : Le binary32 least v
 
-pub record Light (v : Float) : Type 0 where
+pub record Light (least v : Float) : Type 0 where
   pub is : Num binary32 v
-  pub at-most : Le binary32 v (neg (whole 12))
+  pub at-most : Le binary32 v (neg least)
 
-module _ {v : Float} (P : Fin binary32 v) where
+module _ {threshold least v : Float} (E : Enough threshold least) (P : Fin binary32 v) where
   -- as it is, with chroma off
-  pub dark-as-is : Le binary32 (whole 13) v → Dark v
-  dark-as-is h = record { is = num P; at-least = le-trans less-than h }
+  pub dark-as-is : Le binary32 threshold v → Dark least v
+  dark-as-is h = record { is = num P; at-least = le-trans (E .as-is) h }
 
-  pub light-as-is : Le binary32 v (neg (whole 13)) → Light v
-  light-as-is h = record { is = num P; at-most = le-trans h (neg-anti less-than) }
+  pub light-as-is : Le binary32 v (neg threshold) → Light least v
+  light-as-is h = record { is = num P; at-most = le-trans h (neg-anti (E .as-is)) }
 
   -- weighed
   module _ {w : Float} (W : Weight w) where
-    pub dark-weighed : Le binary32 (whole 13) v → Dark (v ⊗ w)
-    dark-weighed h = record { is = mul-num P (W .is); at-least = le-trans twelve-least (weighed-dark (thirteen-is .is) thirteen-plain P W h) }
+    pub dark-weighed : Le binary32 threshold v → Dark least (v ⊗ w)
+    dark-weighed h = record { is = mul-num P (W .is); at-least = le-trans (E .dark) (weighed-dark (E .is) (E .plain) P W h) }
 
-    pub light-weighed : Le binary32 v (neg (whole 13)) → Light (v ⊗ w)
-    light-weighed h = record { is = mul-num P (W .is); at-most = le-trans (weighed-light (thirteen-is .is) thirteen-plain P W h) twelve-most }
+    pub light-weighed : Le binary32 v (neg threshold) → Light least (v ⊗ w)
+    light-weighed h = record { is = mul-num P (W .is); at-most = le-trans (weighed-light (E .is) (E .plain) P W h) (E .light) }
 
--- such a score has the level's sign
-pub dark-above : {v : Float} → Dark v → 0 < hi binary32 v
-dark-above p = omega (arith, sides (p .at-least) .0, twelve-is .hi, unit-pos binary32)
+-- at 9: such a score is above 8 in magnitude and has the level's sign
+pub dark-above : {v : Float} → Dark (leastScore Nine) v → Lt binary32 (whole 8) v
+unfolding leastScore
+dark-above {v} p = record { lt = omega (arith, p .at-least, half-is .hi, half-is .lo, eight-is .hi, eight-is .lo, unit-pos binary32) }
 
-pub light-below : {v : Float} → Light v → 0 < lo binary32 v
-light-below {v} p = omega (arith, sides (p .at-most) .1, twelve-is .hi, unit-pos binary32, lo-neg binary32 (whole 12))
+pub light-below : {v : Float} → Light (leastScore Nine) v → Lt binary32 v (neg (whole 8))
+unfolding leastScore
+light-below {v} p =
+    record { lt = omega (arith, p .at-most, half-is .hi, half-is .lo, eight-is .hi, eight-is .lo, unit-pos binary32, hi-neg binary32 (fraction 17 2), lo-neg binary32 (fraction 17 2), hi-neg binary32 (whole 8), lo-neg binary32 (whole 8)) }
 
--- and refinement passes over it: |v| is at least 12
-pub dark-sure : {v : Float} → Dark v → le (whole 12) (abs v) ≡ true
+-- at 13 refinement passes over it: |v| is at least 12
+pub dark-sure : {v : Float} → Dark (leastScore Thirteen) v → le (whole 12) (abs v) ≡ true
+unfolding leastScore
 dark-sure {v} p =
     let a = abs-sides binary32 v in
     let s = sides (p .at-least) in
     of-T (le (whole 12) (abs v)) (to-le (twelve-is .num) (abs-num (p .is)) (record { le = omega (arith, a .0, a .1, s .0, s .1, twelve-is .lo, both-sides binary32 v) }))
 
-pub light-sure : {v : Float} → Light v → le (whole 12) (abs v) ≡ true
+pub light-sure : {v : Float} → Light (leastScore Thirteen) v → le (whole 12) (abs v) ≡ true
+unfolding leastScore
 light-sure {v} p =
     let a = abs-sides binary32 v in
     let s = sides (p .at-most) in

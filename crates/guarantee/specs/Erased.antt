@@ -2,9 +2,10 @@
 use Prim.Native.Nat.{ℕ, _<_}
 use lib.ListN.{getD}
 use lib.Ieee.{nan}
+use Rattle.stats.specs.declared.Threshold.the-variants.{Nine}
 use Rattle.reading.specs.Read.{reads}
 use Rattle.guarantee.specs.Card.{Setting, Card, modules, chromaScores, scoredCard, refinedCard, unmaskedCard}
-use Rattle.guarantee.specs.Guarantee.{Singles, InMargin, Readable}
+use Rattle.guarantee.specs.Guarantee.{Singles, InMargin, Readable, InMarginAt, NoNan}
 
 -- each listed module's score, as scoring, refinement and unmasking left it, and each chroma score reads as a bit
 pub record NoneErased (s : Setting) (c : Card) : Type 0 where
@@ -16,3 +17,7 @@ pub record NoneErased (s : Setting) (c : Card) : Type 0 where
 -- on the premises of the read guarantee
 abbrev pub NoneErasedInside : Type 0
 NoneErasedInside = (s : Setting) (c : Card) → Singles s → InMargin s → Readable s c → NoneErased s c
+
+-- and on those of the guarantee at 9
+abbrev pub NoneErasedAtNine : Type 0
+NoneErasedAtNine = (s : Setting) (c : Card) → Singles s → InMarginAt Nine s → Readable s c → NoNan s c → NoneErased s c

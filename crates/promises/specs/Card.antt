@@ -13,11 +13,12 @@ use Rattle.color.specs.declared.Lab.{Lab}
 use Rattle.color.specs.Color.{whole}
 use Rattle.color.specs.Palette.{hueAb}
 use Rattle.stats.specs.declared.ChannelStats.{ChannelStats}
+use Rattle.stats.specs.declared.Threshold.the-variants.{Nine}
 use Rattle.stats.specs.Arithmetic.{_⊕_, _⊖_, _⊘_}
 use Rattle.stats.specs.Noise.{sigmaAbAt, lumaLlr}
 use Rattle.guarantee.specs.Within.{units, halfApart}
 use Rattle.guarantee.specs.Card.{Setting, Card, modules, drawnCard, bitsDrawn, bitsRead, moduleLab, cellLab, paletteColour, carriesChroma}
-use Rattle.guarantee.specs.Guarantee.{Singles, InMargin, Readable}
+use Rattle.guarantee.specs.Guarantee.{Singles, InMargin, Readable, InMarginAt, NoNan}
 use Rattle.guarantee.specs.Table.{Row, table}
 
 -- a card of the setting s that meets the guarantee's premises, and the bits that it is drawn from and that are read from it
@@ -72,6 +73,20 @@ pub record AtEdges (size : ℕ) (bits others : List ℕ) : Type 0 where
   pub one-corners : AtCorners setting (one .card)
   pub other-corners : AtCorners setting (other .card)
 
+-- a card that meets the premises of the guarantee at 9, outside the margin at 13, at the edge: the dark colours of hue h at L + sigma_l/2 have a `luma_llr` of 9, the light ones at L - sigma_l/2 of -9
+pub record MetAtNine (bits : List ℕ) : Type 0 where
+  pub setting : Setting
+  pub card : Card
+  pub singles : Singles setting
+  pub margin : InMarginAt Nine setting
+  pub outside : InMargin setting → ⊥
+  pub dark : (h : ℕ) → h < setting .layout .hues → lumaLlr (setting .noise) (paletteColour setting 0 h .l ⊕ setting .noise .«sigma_l» ⊘ whole 2) ≡ whole 9
+  pub light : (h : ℕ) → h < setting .layout .hues → lumaLlr (setting .noise) (paletteColour setting 1 h .l ⊖ setting .noise .«sigma_l» ⊘ whole 2) ≡ neg (whole 9)
+  pub readable : Readable setting card
+  pub no-nan : NoNan setting card
+  pub drawn : bitsDrawn setting card ≡ bits
+  pub read : bitsRead setting card ≡ bits
+
 -- cards that meet the premises
 pub record Met : Type 0 where
   -- with chroma off, of two modules, and with chroma on, of a grid module, a ring module that carries chroma, and a cell
@@ -93,6 +108,9 @@ pub record Met : Type 0 where
   -- and of each of the two settings a card that is drawn from the first one's bits but for one chroma bit: the cell's, and the ring module's
   pub wide-cell : Meets (wide .setting) (1 ∷ 0 ∷ 1 ∷ 1 ∷ [])
   pub narrow-hue : Meets (narrow .setting) (1 ∷ 0 ∷ 1 ∷ 0 ∷ 0 ∷ [])
+  -- at 9, of two grid modules, a ring module that carries chroma and a cell
+  pub nine : MetAtNine (1 ∷ 0 ∷ 1 ∷ 0 ∷ 1 ∷ [])
+  pub nine-ring : carriesChroma (nine .setting) 2 ≡ true
 
 -- every row of the table: what the definitions give is what is said
 abbrev pub Worked : Type 0

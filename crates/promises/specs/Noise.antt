@@ -14,7 +14,8 @@ use Rattle.color.specs.Color.{whole}
 use Rattle.color.specs.Palette.{paletteLab}
 use Rattle.stats.specs.declared.ChannelStats.{ChannelStats}
 use Rattle.stats.specs.Noise.{sigmaAbAt, lumaLlr, reliability}
-use Rattle.stats.specs.Calls.{badNoiseNumbers, badSigmas}
+use Rattle.stats.specs.declared.Threshold.the-variants.{Thirteen, Nine}
+use Rattle.stats.specs.Calls.{badNoiseNumbers, badSigmas, marginAtAnswer}
 use Rattle.stats.specs.Margin.{levelFits, sigmasFit, darkClear, lightClear, near, far, inMargin}
 use Rattle.measure.specs.Measure.{Request, measureOf}
 
@@ -56,6 +57,10 @@ pub record Clear (threshold : Float) (n : ChannelStats) (palette : List Float) (
 
 abbrev pub MarginClauses : Type 0
 MarginClauses = (threshold : Float) (n : ChannelStats) (palette : List Float) (hues : ℕ) → inMargin threshold n palette hues ≡ true → Clear threshold n palette hues
+
+-- the check's two settings: yes at 13 is yes at 9
+abbrev pub YesAtNine : Type 0
+YesAtNine = (n : ChannelStats) (palette : List Float) (hues : ℕ) → marginAtAnswer Thirteen n palette hues ≡ gives true → marginAtAnswer Nine n palette hues ≡ gives true
 
 -- a list of f32 values, as a slice of the code's is
 abbrev pub AllSingles : List Float → Type 0

@@ -3,27 +3,36 @@
 // changed definition makes false, fails this crate. The definitions are in the specs/ of the crates named below, the
 // theorems in their proofs/.
 
+ghost use Rattle.guarantee.specs.Guarantee.{EachReadAtNine};
 ghost use Rattle.promises.specs.Card.{Met, Worked};
 ghost use Rattle.promises.specs.Premises.{ReadableAreSingles, DrawingAfterScoring};
 ghost use Rattle.promises.specs.Floats.{NearestRoots};
 ghost use Rattle.promises.specs.Colour.{SrgbFormula, NearestSrgb, BothWays, LightnessRises};
 ghost use Rattle.promises.specs.Systems.{SolveKeepsTails};
 ghost use Rattle.promises.specs.Order.{MiddleOfAny, AnyOrder};
-ghost use Rattle.guarantee.specs.Erased.{NoneErasedInside};
+ghost use Rattle.guarantee.specs.Erased.{NoneErasedInside, NoneErasedAtNine};
 ghost use Rattle.reading.specs.Erasure.{Erasures};
 ghost use Rattle.modulate.specs.Laws.{UnmaskingTwice, UnmaskedReads};
 ghost use Rattle.promises.specs.Symbols.{GrayCode, NeighbouringHues, Rotations, DrawnIsRead};
 ghost use Rattle.promises.specs.Model.{Moderate, IdentityReturns, FittedModels};
-ghost use Rattle.promises.specs.Noise.{ReliabilityRange, LumaLlrRange, MarginClauses, MeasuredRecords};
+ghost use Rattle.promises.specs.Noise.{ReliabilityRange, LumaLlrRange, MarginClauses, YesAtNine, MeasuredRecords};
 ghost use Rattle.promises.specs.Scores.{ScoresInRange, ScoringAnswers};
 ghost use Rattle.promises.specs.Window.{WindowInCoordinates};
+ghost use Rattle.refine.specs.Sign.{StepKeepsSign, CallKeepsSign};
 ghost use Rattle.promises.specs.Reading.{AcceptedIsListed, RoomForAll};
 
 // ---- the crate guarantee: whole cards (the read guarantee itself is the contract of `bits::read_bits`)
 
+// At 9, bit by bit: a module whose refined score is no NaN is read as it was drawn, whatever the scores of the others
+// are, and so is every chroma bit.
+pub fn each_bit_at_nine()
+    ensures { λ _. ⌜ EachReadAtNine ⌝ }
+{}
+
 // The guarantee's premises can be met, with chroma off and with chroma on, and at their edges: here are cards of each
 // kind and the bits that are read from them. Two pairs of cards, of cell sizes 1 and 2, have every colour exactly half
 // a sigma off and a palette that just passes the margin check; the cards of a pair share all but their bits and colours.
+// A further card meets the premises at 9, and its palette just passes the check there, and fails it at 13.
 pub fn premises_can_be_met()
     ensures { λ _. ⌜ Met ⌝ }
 {}
@@ -47,9 +56,9 @@ pub fn worked_examples()
 {}
 
 // Inside the margin, on the premises of the read guarantee, no score reads as 2: no luma score as scoring, refinement or
-// unmasking left it, and no chroma score.
+// unmasking left it, and no chroma score. At 9 too, where no refined score is a NaN.
 pub fn none_erased()
-    ensures { λ _. ⌜ NoneErasedInside ⌝ }
+    ensures { λ _. ⌜ NoneErasedInside × NoneErasedAtNine ⌝ }
 {}
 
 // ---- the crate float
@@ -179,6 +188,11 @@ pub fn margin_clauses()
     ensures { λ _. ⌜ MarginClauses ⌝ }
 {}
 
+// Where the margin check says yes at 13, it says yes at 9.
+pub fn yes_at_nine()
+    ensures { λ _. ⌜ YesAtNine ⌝ }
+{}
+
 // ---- the crates fit and measure
 
 // The model of an accepted fit passes sentence 10, so no call refuses it by that. Either it counts no reference as
@@ -216,6 +230,13 @@ pub fn scoring_answers()
 // order of k, each with its columns, its rows and its luminance; `count` is their number.
 pub fn window_in_coordinates()
     ensures { λ _. ⌜ WindowInCoordinates ⌝ }
+{}
+
+// A score above 8 in magnitude keeps its sign through refinement where the refined score is no NaN: for every f32
+// score, in one module's step whatever its colour, window, palette, noise record and levels, and of every entry of a
+// call's list, refused calls too.
+pub fn signs_kept()
+    ensures { λ _. ⌜ StepKeepsSign × CallKeepsSign ⌝ }
 {}
 
 // ---- the crates bits, readout and reader

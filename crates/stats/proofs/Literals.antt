@@ -9,6 +9,10 @@ pub n6 : ofBits binary32 0x40c0_0000 ≡ fraction 6 1
 unfolding ofBits round fraction
 n6 = refl
 
+pub n9 : ofBits binary32 0x4110_0000 ≡ fraction 9 1
+unfolding ofBits round fraction
+n9 = refl
+
 pub n13 : ofBits binary32 0x4150_0000 ≡ fraction 13 1
 unfolding ofBits round fraction
 n13 = refl

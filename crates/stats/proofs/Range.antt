@@ -6,6 +6,7 @@ use Prim.Native.Nat.{ℕ, _^_, _<_}
 use native.Mathlib.Omega.{arith}
 use lib.Dec.{T}
 use lib.Ieee.{Float, nan, inf, fin, binary32, neg, add, sub, mul, lt, le, eq, round, fits, isNan}
+use lib.Ieee.Fits.{cond-fits}
 use Rattle.sentences.proofs.Laws.{neither}
 use Rattle.floatlaws.specs.Value.{hi, Num}
 use Rattle.floatlaws.specs.Order.{Le, of-le, of-not-lt}
@@ -42,10 +43,10 @@ most-is = const binary32 (whole (2 ^ 40)) (2 ^ 40) 0 1 tt
 
 -- ---- what passes sentences 8 and 9
 
-to-T : (b : Bool) → b ≡ true → T b
+pub to-T : (b : Bool) → b ≡ true → T b
 to-T b e = subst T (sym e) tt
 
-le-real : (x y : Float) → le x y ≡ true → T (not (isNan x))
+pub le-real : (x y : Float) → le x y ≡ true → T (not (isNan x))
 unfolding le lt eq isNan
 le-real nan y e = let z : _≡_ {A = ℕ} 0 1 = cc in absurd (omega arith)
 le-real (inf s) y e = tt
@@ -109,6 +110,12 @@ good n f h k =
       dark-level = u .0;
       light-level = u .1;
     }
+
+-- ---- a number held to ±m is an f32, if it was
+
+pub held-fits : {m : Float} → Fin binary32 m → (x : Float) → T (fits binary32 x) → T (fits binary32 (clamp (neg m) m x))
+unfolding clamp
+held-fits {m} p x f = cond-fits binary32 (lt x (neg m)) (neg m) _ (neg-fin p .fit) (cond-fits binary32 (lt m x) m x (p .fit) f)
 
 -- ---- `luma_llr`
 

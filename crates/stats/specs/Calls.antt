@@ -17,6 +17,8 @@ use Rattle.stats.specs.declared.Figure.{Figure}
 use Rattle.stats.specs.declared.Figure.the-variants as figure
 use Rattle.stats.specs.declared.Noise.{Noise}
 use Rattle.stats.specs.declared.Noise.the-variants as noise
+use Rattle.stats.specs.declared.Threshold.{Threshold}
+use Rattle.stats.specs.declared.Threshold.the-variants as threshold
 use Rattle.stats.specs.declared.Verdict.{Verdict}
 use Rattle.stats.specs.declared.Verdict.the-variants as verdict
 use Rattle.stats.specs.Noise.{sigmaAbAt, lumaLlr, reliability, hueLogLikelihoods, nominal}
@@ -71,7 +73,7 @@ unfoldable pub paletteSentences : List Float → ℕ → List Sentence
 paletteSentences palette hues =
     (3 when badHues hues) ∷ (5 when shortPalette palette hues) ∷ (8 when wildPalette palette hues) ∷ []
 
--- `reliability`, `margin`
+-- `reliability`, `margin`, `margin_at`
 unfoldable pub sentencesOf : ChannelStats → List Float → ℕ → List Sentence
 sentencesOf n palette hues =
     (3 when badHues hues) ∷
@@ -126,3 +128,12 @@ nominalAnswer palette hues = answered (paletteSentences palette hues) (nominal p
 -- document 01's threshold is 13
 abbrev pub marginAnswer : ChannelStats → List Float → ℕ → Said Bool
 marginAnswer n palette hues = answered (sentencesOf n palette hues) (inMargin (whole 13) n palette hues)
+
+-- a setting's threshold: document 01's, and the second one
+abbrev pub leastOf : Threshold → Float
+leastOf threshold.Thirteen = whole 13
+leastOf threshold.Nine = whole 9
+
+-- the same at a setting's threshold
+abbrev pub marginAtAnswer : Threshold → ChannelStats → List Float → ℕ → Said Bool
+marginAtAnswer least n palette hues = answered (sentencesOf n palette hues) (inMargin (leastOf least) n palette hues)

@@ -91,7 +91,7 @@ huesClear n palette hues = every 0 hues (hueClear n palette hues)
 unfoldable pub chromaClear : ChannelStats → List Float → ℕ → Bool
 chromaClear n palette hues = not (chromaOn hues) || huesClear n palette hues
 
--- the whole sentence, with its threshold (13 in document 01)
+-- the whole sentence, with its threshold
 unfoldable pub inMargin : Float → ChannelStats → List Float → ℕ → Bool
 inMargin threshold n palette hues =
     lt (n .l0) (n .l1)

@@ -8,6 +8,7 @@ ghost use Rattle.stats.specs.Margin as spec;
 ghost use Rattle.stats.specs.Calls as call;
 ghost use Rattle.stats.specs.Ready.{ColourAt, HueAt};
 use super::ChannelStats;
+use super::Threshold;
 use super::Verdict;
 use color::Lab;
 use color::palette::hue_ab;
@@ -231,17 +232,35 @@ pub fn in_margin(threshold: f32, noise: ChannelStats, palette: &[f32], hues: usi
     chroma_clear(noise, palette, hues)
 }
 
-// The margin check: whether every dark and light colour still scores 13 half a sigma off, and, with
-// chroma on, every colour stands near its hue's point and far from the others. Refused: 3, 5, 8, 9.
-pub fn margin(noise: ChannelStats, palette: &[f32], hues: usize) -> Verdict
-    ensures { λ r. ⌜ call.verdictSaid r ≡ call.marginAnswer noise (now (palette .entry)) hues ⌝ }
+// The threshold of a setting.
+fn least_of(least: Threshold) -> f32
+    ensures { λ r. ⌜ r ≡ call.leastOf least ⌝ }
+{
+    match least {
+        Threshold::Thirteen => 13.0,
+        Threshold::Nine => 9.0,
+    }
+}
+
+// The margin check at a setting: whether every dark and light colour still scores 13, or 9, half a sigma
+// off, and, with chroma on, every colour stands near its hue's point and far from the others. Refused: 3, 5,
+// 8, 9.
+pub fn margin_at(least: Threshold, noise: ChannelStats, palette: &[f32], hues: usize) -> Verdict
+    ensures { λ r. ⌜ call.verdictSaid r ≡ call.marginAtAnswer least noise (now (palette .entry)) hues ⌝ }
 {
     let n = super::refused(noise, palette, hues);
     if n != 0 {
         return Verdict::Refused(n);
     }
-    if in_margin(13.0, noise, palette, hues) {
+    if in_margin(least_of(least), noise, palette, hues) {
         return Verdict::Yes;
     }
     Verdict::No
+}
+
+// The margin check of document 01, at 13. Refused: 3, 5, 8, 9.
+pub fn margin(noise: ChannelStats, palette: &[f32], hues: usize) -> Verdict
+    ensures { λ r. ⌜ call.verdictSaid r ≡ call.marginAnswer noise (now (palette .entry)) hues ⌝ }
+{
+    margin_at(Threshold::Thirteen, noise, palette, hues)
 }

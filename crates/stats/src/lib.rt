@@ -21,6 +21,7 @@ use color::palette::wild_palette;
 mod inside;
 
 pub use inside::margin;
+pub use inside::margin_at;
 
 // What was measured of the channel: the observed L of the dark and the light level, the luma noise, the
 // chroma noise pooled over both levels and that of each level (0 where it was not measured), and the
@@ -46,6 +47,14 @@ pub enum Figure {
 pub enum Noise {
     Refused(u32),
     Record(ChannelStats),
+}
+
+// The settings of the margin check: how far from 0 the luma score of every palette colour must lie half a
+// sigma off. Thirteen is document 01's; Nine is the second one, of which the read guarantee asks besides
+// that no refined score is a NaN.
+pub enum Threshold {
+    Thirteen,
+    Nine,
 }
 
 // What the margin check answers.

@@ -4,6 +4,7 @@ use answers::outcome_number;
 use stats::ChannelStats;
 use stats::Figure;
 use stats::Noise;
+use stats::Threshold;
 use stats::Verdict;
 use vectors::Compared;
 use vectors::Tally;
@@ -118,6 +119,14 @@ fn likelihoods(
     likelihoods_in(noise, palette, hues, row, at_sample, &mut out[..n], got)
 }
 
+// The setting of the margin check that a word names: 9 where it is 1.
+fn setting(nine: usize) -> Threshold {
+    if nine == 1 {
+        return Threshold::Nine;
+    }
+    Threshold::Thirteen
+}
+
 // What a function with a palette and hues gives; `at` is the place past these.
 fn of_palette(
     function: usize,
@@ -149,6 +158,10 @@ fn of_palette(
     if function == 5 {
         return put_verdict(got, stats::margin(noise, palette, hues));
     }
+    if function == 6 {
+        let least = setting(stage_words::count(row, at, 0));
+        return put_verdict(got, stats::margin_at(least, noise, palette, hues));
+    }
     0
 }
 
@@ -156,6 +169,7 @@ fn of_palette(
 // reliability STATS PALETTE hues count (l a b).. = no r..
 // hue_log_likelihoods STATS PALETTE hues l a b |out| = no |out|'
 // margin STATS PALETTE hues = no yes
+// margin_at STATS PALETTE hues nine = no yes
 fn with_palette(function: usize, row: &[u64], at_palette: usize, got: &mut [u64]) -> usize {
     let mut palette = [0.0f32; 256];
     let n = vectors::load_f32(row, at_palette, &mut palette);
@@ -210,8 +224,9 @@ fn replay(text: &[u8], names: &[u8]) -> Tally {
 
 fn main() {
     // the functions, by their numbers
-    let names = b"nominal\nsigma_ab_at\nluma_llr\nreliability\nhue_log_likelihoods\nmargin\n";
-    let mut text = [0u8; 131072];
+    let names =
+        b"nominal\nsigma_ab_at\nluma_llr\nreliability\nhue_log_likelihoods\nmargin\nmargin_at\n";
+    let mut text = [0u8; 163840];
     let n = vectors::load(b"stats.txt", &mut text);
     let t = replay(&text[..n], names);
     vectors::report(&text[..n], names, t);

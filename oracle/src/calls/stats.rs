@@ -72,14 +72,19 @@ pub fn hue_log_likelihoods(s: &ChannelStats, sample: Lab, flat: &[f32], k: usize
 
 /// Document 01's margin check: yes exactly when every sentence holds, in f32.
 pub fn margin(s: &ChannelStats, flat: &[f32], k: usize) -> Result<bool, u32> {
+    margin_at(13.0, s, flat, k)
+}
+
+/// The same with another number for its 13.
+pub fn margin_at(least: f32, s: &ChannelStats, flat: &[f32], k: usize) -> Result<bool, u32> {
     record_and_palette(s, flat, k, false)?;
     let palette = palette(flat, k);
     let levels =
         s.l0 < s.l1 && s.l0.abs() <= 256.0 && s.l1.abs() <= 256.0 && palette.lab.iter().all(|c| c.l.abs() <= 256.0);
     let sigmas = figures(s)[2..].iter().all(|&v| v <= 1000.0);
     let half = s.sigma_l / 2.0;
-    let dark = palette.lab[..k].iter().all(|c| s.luma_llr(c.l + half) >= 13.0);
-    let light = palette.lab[k..].iter().all(|c| s.luma_llr(c.l - half) <= -13.0);
+    let dark = palette.lab[..k].iter().all(|c| s.luma_llr(c.l + half) >= least);
+    let light = palette.lab[k..].iter().all(|c| s.luma_llr(c.l - half) <= -least);
     let hues = k == 1
         || palette.lab.iter().enumerate().all(|(i, c)| {
             let sigma = s.sigma_ab_at(c.l);

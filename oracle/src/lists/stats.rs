@@ -19,6 +19,7 @@ pub const KIND: Kind = Kind {
         reliability STATS PALETTE hues count (l a b).. = no r..     `count` calls; refused 3, 5, 8, 9
         hue_log_likelihoods STATS PALETTE hues l a b |out| = no |out|'     refused 3, 5, 8, 9
         margin STATS PALETTE hues = no yes     refused 3, 5, 8, 9
+        margin_at STATS PALETTE hues nine = no yes     the same with 9 for 13 where nine is 1
     ",
     structured,
     one,
@@ -68,6 +69,14 @@ fn put_likelihoods(out: &mut List, s: &ChannelStats, palette: &[f32], k: usize, 
 fn put_margin(out: &mut List, s: &ChannelStats, palette: &[f32], k: usize) {
     let record = put_stats(Record::new("margin"), s).slice(palette).w(k);
     record.answer(margin(s, palette, k).map(|yes| [yes])).end(out);
+}
+
+/// The check at its second setting, and at the first by the same call.
+fn put_settings(out: &mut List, s: &ChannelStats, palette: &[f32], k: usize) {
+    for (nine, least) in [(1u8, 9.0), (0, 13.0)] {
+        let record = put_stats(Record::new("margin_at"), s).slice(palette).w(k).w(nine);
+        record.answer(margin_at(least, s, palette, k).map(|yes| [yes])).end(out);
+    }
 }
 
 fn structured(out: &mut List) {
@@ -247,6 +256,40 @@ fn margins(out: &mut List) {
     }
     put_margin(out, &clean, &palette, 3);
     put_margin(out, &clean, &palette[..17], 2);
+    settings(out);
+}
+
+/// The margin check at 9 and at 13: exactly 9, 13 and 8, just below 9, the largest sigmas at the widest levels, a hue
+/// point exactly four sigmas away; refusals.
+fn settings(out: &mut List) {
+    let level = |l0: f32, l1: f32, sigma: f32, dark: f32| {
+        let mut palette = make::palette(1, l0, l1, 0.0, 0.0);
+        (palette[4], palette[7]) = (dark, -dark);
+        (stats(l0, l1, sigma, 3.0, [0.0; 2]), palette)
+    };
+    let under = f32::from_bits(2f32.to_bits() - 1);
+    for (l0, dark) in [(-18.0, -2.0), (-18.0, -under), (-26.0, -2.0), (-16.0, -2.0)] {
+        let (s, palette) = level(l0, -l0, 2.0, dark);
+        put_settings(out, &s, &palette, 1);
+    }
+    for sigma in [91.0, 91.1, 107.0, 108.0] {
+        let (s, palette) = level(-256.0, 256.0, sigma, -256.0);
+        put_settings(out, &s, &palette, 1);
+    }
+    let near = stats(20.0, 50.0, 6.0, 3.0, [0.0; 2]);
+    for distance in [12.0, 12.1] {
+        let mut palette = make::palette(2, 20.0, 50.0, 6.0, 0.0);
+        for at in [2, 7, 13] {
+            palette[at] = distance - 6.0;
+        }
+        put_settings(out, &near, &palette, 2);
+    }
+    let palette = make::palette(2, 20.0, 50.0, 60.0, 0.0);
+    put_settings(out, &near, &palette, 2);
+    put_settings(out, &near, &palette, 3);
+    put_settings(out, &near, &palette[..17], 2);
+    put_settings(out, &stats(f32::NAN, 50.0, 0.5, 3.0, [0.0; 2]), &palette, 2);
+    put_settings(out, &stats(20.0, 50.0, 0.5, 3.0, [0.0; 2]), &palette, 2);
 }
 
 /// A record of ordinary size, or with a wild number in it.
@@ -289,6 +332,9 @@ fn one(out: &mut List, rng: &mut Rng) {
         0 => put_at(out, &s, &[samples[0][0], samples[1][0], rng.float32()]),
         1 => put_reliability(out, &s, &palette, k, &samples),
         2 => put_likelihoods(out, &s, &palette, k, samples[0], &vec![9.0; k]),
-        _ => put_margin(out, &s, &palette, k),
+        _ => {
+            put_margin(out, &s, &palette, k);
+            put_settings(out, &s, &palette, k);
+        }
     }
 }

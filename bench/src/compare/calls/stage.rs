@@ -23,6 +23,7 @@ pub fn replay(t: &mut Record) -> bool {
         "reliability" => reliability(t),
         "hue_log_likelihoods" => hue_log_likelihoods(t),
         "margin" => margin(t),
+        "margin_at" => margin_at(t),
         "measure" => measure(t),
         "score" => score(t),
         "refine" => refine(t),
@@ -179,6 +180,13 @@ fn hue_log_likelihoods(t: &mut Record) {
 fn margin(t: &mut Record) {
     let (noise, palette) = (t.inputs.stats(), Lent::new(t.inputs.singles()));
     let r = unsafe { purdolve_margin(noise, palette.ptr(), palette.len(), t.inputs.count()) };
+    t.flag(r);
+}
+
+fn margin_at(t: &mut Record) {
+    let (noise, palette) = (t.inputs.stats(), Lent::new(t.inputs.singles()));
+    let (hues, nine) = (t.inputs.count(), t.inputs.flag());
+    let r = unsafe { purdolve_margin_at(nine, noise, palette.ptr(), palette.len(), hues) };
     t.flag(r);
 }
 

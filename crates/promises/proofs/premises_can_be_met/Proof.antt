@@ -8,10 +8,10 @@ use lib.Ieee.{Float}
 use Rattle.color.specs.Color.{whole}
 use Rattle.guarantee.specs.Card.{Setting, Card, bitsDrawn, carriesChroma}
 use Rattle.guarantee.specs.Guarantee.{Singles, InMargin, Readable}
-use Rattle.guarantee.proofs.Guarantee.{read-as-drawn}
+use Rattle.guarantee.proofs.Guarantee.{read-as-drawn, read-as-drawn-at-nine}
 use Rattle.guarantee.proofs.Satisfiable as cards
 use Rattle.guarantee.proofs.Satisfiable.{computed, first-one, first-two, first-three, edge, edge-singles, edge-margin}
-use Rattle.promises.specs.Card.{Meets, MetBy, halfOff, OffHuePoint, AtMargin, AtCorners, AtEdges}
+use Rattle.promises.specs.Card.{Meets, MetBy, halfOff, OffHuePoint, AtMargin, AtCorners, AtEdges, MetAtNine}
 use Rattle.promises.proofs.premises_can_be_met.Statement.{statement}
 use Rattle.promises.proofs.premises_can_be_met.Tie as tie
 
@@ -131,8 +131,27 @@ wide-cell = meets (edge 2) cards.wideCell (edge-singles 2) (edge-margin 2) cards
 narrow-hue : Meets (edge 1) (1 ∷ 0 ∷ 1 ∷ 0 ∷ 0 ∷ [])
 narrow-hue = meets (edge 1) cards.narrowRing (edge-singles 1) (edge-margin 1) cards.narrow-ring-readable cards.narrow-ring-drawn
 
+-- ---- at 9
+
+nine-met : MetAtNine (1 ∷ 0 ∷ 1 ∷ 0 ∷ 1 ∷ [])
+unfolding computed
+nine-met =
+    record {
+      setting = cards.nine;
+      card = cards.narrowCard;
+      singles = cards.nine-singles;
+      margin = cards.nine-margin;
+      outside = cards.nine-outside;
+      dark = first-two _ refl refl;
+      light = first-two _ refl refl;
+      readable = cards.nine-readable;
+      no-nan = cards.nine-no-nan;
+      drawn = cards.nine-drawn;
+      read = read-as-drawn-at-nine cards.nine cards.narrowCard cards.nine-singles cards.nine-margin cards.nine-readable cards.nine-no-nan .same ∙ cards.nine-drawn;
+    }
+
 returns : tie.Need-returns
-unfolding computed plain-met coloured-met lone-met wide narrow
+unfolding computed plain-met coloured-met lone-met wide narrow nine-met
 returns c =
     record {
       plain = plain-met;
@@ -149,6 +168,8 @@ returns c =
       narrow-ring = refl;
       wide-cell = wide-cell;
       narrow-hue = narrow-hue;
+      nine = nine-met;
+      nine-ring = refl;
     }
 
 pub premises-can-be-met-spec : {M : Type 1} → statement M
