@@ -29,7 +29,8 @@ use Rattle.fit.specs.Fit as fitting
 use Rattle.fit.specs.Fit.{termsFor, fitSentences, fitOf}
 use Rattle.measure.specs.Measure as measuring
 use Rattle.measure.specs.Measure.{tooShort, sentencesFor, measureOf}
-use Rattle.demod.specs.Score.{centre, moduleColour, weighed, lumaScore, writeModule, ringChroma, chromaWritten}
+use Rattle.observed.specs.Colours.{centre, moduleColour}
+use Rattle.scores.specs.Score.{weighed, lumaScore, writeModule, ringChroma, chromaWritten}
 use Rattle.demod.specs.Call as scoring
 use Rattle.demod.specs.Call.{badModuleLengths, badCellLengths, shortChroma, badLengths, badInputs, badCorrected, scoredOf}
 use Rattle.refine.specs.Calls as refinement

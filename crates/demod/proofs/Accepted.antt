@@ -22,11 +22,12 @@ use Rattle.illum.specs.Refusals.{badModel}
 use Rattle.stats.specs.declared.ChannelStats.{ChannelStats}
 use Rattle.stats.specs.Calls.{shortPalette, badNoiseNumbers, badNumbers, badSigmas}
 use Rattle.stats.proofs.Passed.{palette-long}
-use Rattle.demod.specs.Ready.{Sampled}
+use Rattle.observed.specs.Ready.{Sampled}
 use Rattle.answers.specs.declared.Outcome.the-variants.{Done}
 use Rattle.answers.specs.Answers.{outcomeNumber}
-use Rattle.demod.specs.Call.{badModuleLengths, badCellLengths, shortChroma, badLengths, badInputs, wildColourAt, wildColours, badCorrected, Request, moduleColours, cellColours, sentencesOf, turnedAway, done, scoredOf}
-use Rattle.demod.proofs.Places.{exact-xs, exact-ys}
+use Rattle.demod.specs.Call.{badModuleLengths, badCellLengths, shortChroma, badLengths, badInputs, badCorrected, Request, moduleColours, cellColours, sentencesOf, turnedAway, done, scoredOf}
+use Rattle.observed.specs.Colours.{wildColourAt, wildColours}
+use Rattle.observed.proofs.Places.{exact-xs, exact-ys}
 
 equal : (a b : ℕ) → not (eqb a b) ≡ false → a ≡ b
 equal a b h = eqb-true a b (not-false (eqb a b) h)

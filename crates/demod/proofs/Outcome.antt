@@ -15,10 +15,10 @@ use Rattle.limits.specs.Chroma.{chromaOn, symbolBits, ringModules, chromaEntrie
 use Rattle.modulate.specs.declared.Cell.the-variants.{Unmasked, At}
 use Rattle.answers.specs.declared.Outcome.the-variants.{Done}
 use Rattle.answers.specs.Answers.{outcomeNumber}
-use Rattle.demod.specs.Score.{writeCells, writeRings, ringChroma, chromaWritten}
+use Rattle.scores.specs.Score.{writeCells, writeRings, ringChroma, chromaWritten}
 use Rattle.demod.specs.Call.{Request, moduleColours, cellColours, sentencesOf, turnedAway, done, writtenModules, writtenChroma, scoredOf}
 use Rattle.demod.proofs.Accepted.{Accepted, accepted, number, answer-number, given, first, turned-away, taken}
-use Rattle.demod.proofs.Written.{Modules, modules-are, Entries, entryScore, place, cells-are, cellOf, rings-are, ring-has, ring-long, ring-below, ring-past}
+use Rattle.scores.proofs.Written.{Modules, modules-are, Entries, entryScore, place, cells-are, cellOf, rings-are, ring-has, ring-long, ring-below, ring-past}
 
 -- the chroma list of an accepted call, with chroma on
 pub record Listed (q : Request) : Type 0 where

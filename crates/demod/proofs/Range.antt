@@ -23,7 +23,8 @@ use Rattle.stats.specs.declared.ChannelStats.{ChannelStats}
 use Rattle.stats.specs.Noise.{lumaLlr, reliability}
 use Rattle.stats.proofs.Range.{Held, Good, good, luma-llr-in}
 use Rattle.stats.proofs.Reliable.{reliability-in}
-use Rattle.demod.specs.Score.{moduleColour, weighed, lumaScore}
+use Rattle.observed.specs.Colours.{moduleColour}
+use Rattle.scores.specs.Score.{weighed, lumaScore}
 use Rattle.demod.specs.Call.{Request, Final, moduleColours, scoredOf}
 use Rattle.demod.proofs.Outcome.{at-done}
 

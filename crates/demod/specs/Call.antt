@@ -6,13 +6,12 @@ use lib.Dec.{ltb, eqb}
 use lib.IntN.{ℤ}
 use lib.ListN.{length}
 use lib.Ieee.{Float}
-use Rattle.loops.specs.Loops.{anyUp}
 use Rattle.sentences.specs.Sentences.{Sentence, _when_, refusal, decided}
 use Rattle.layout.specs.declared.Layout.{Layout}
 use Rattle.layout.specs.Groups.{shape, placement}
 use Rattle.limits.specs.Chroma.{chromaOn, ringModules, chromaLength}
 use Rattle.color.specs.declared.Linear.{Linear}
-use Rattle.color.specs.Palette.{wildLinear, wildIn}
+use Rattle.color.specs.Palette.{wildIn}
 use Rattle.answers.specs.declared.Outcome.{Outcome}
 use Rattle.answers.specs.declared.Outcome.the-variants.{Refused, Done}
 use Rattle.answers.specs.Answers.{outcomeNumber}
@@ -20,7 +19,8 @@ use Rattle.illum.specs.declared.IlluminationModel.{IlluminationModel}
 use Rattle.illum.specs.Refusals.{badModel}
 use Rattle.stats.specs.declared.ChannelStats.{ChannelStats}
 use Rattle.stats.specs.Calls.{shortPalette, badNumbers, badSigmas}
-use Rattle.demod.specs.Score.{moduleColour, cellColour, Sheet, sheet, writeModules, chromaWritten}
+use Rattle.observed.specs.Colours.{moduleColour, cellColour, wildColours}
+use Rattle.scores.specs.Score.{Sheet, sheet, writeModules, chromaWritten}
 
 -- ---- the sentences that `score` puts together
 
@@ -46,13 +46,6 @@ badLengths l xs ys raw cxs cys craw palette luma colours chroma =
 -- 8, of the colours of m modules and c cells, of the palette and of the noise record
 unfoldable pub badInputs : List Float → ℕ → List Float → ℕ → ChannelStats → List Float → ℕ → Bool
 badInputs raw m craw c n palette hues = wildIn raw (3 * m) || (wildIn craw (3 * c) || badNumbers n palette hues)
-
--- 12, of one corrected colour, and of the first n
-abbrev pub wildColourAt : (ℕ → Linear) → ℕ → Bool
-wildColourAt colour i = wildLinear (colour i)
-
-abbrev pub wildColours : (ℕ → Linear) → ℕ → Bool
-wildColours colour n = anyUp 0 n (wildColourAt colour)
 
 -- 12, of modules and, with chroma on, of cells: "With chroma off, cells are neither corrected nor scored."
 unfoldable pub badCorrected : ℕ → (ℕ → Linear) → ℕ → (ℕ → Linear) → ℕ → Bool

@@ -1,5 +1,3 @@
--- `Samples` is how scoring takes colours a block at a time, `Score` what it computes, `Call` the public call with its refusals.
+-- `Call` is the public call with its refusals, `Ready` what is handed on once they are past.
 pub mod Ready
-pub mod Samples
-pub mod Score
 pub mod Call

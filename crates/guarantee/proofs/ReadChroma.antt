@@ -25,9 +25,9 @@ use Rattle.modulate.proofs.ReadBack.{read-cell, read-ring}
 use Rattle.stats.specs.declared.Threshold.the-variants.{Nine}
 use Rattle.stats.specs.Noise.{reliability}
 use Rattle.stats.proofs.Clear.{Apart}
-use Rattle.demod.specs.Score.{weighed, likelihoods, bitScores, chromaScore}
+use Rattle.scores.specs.Score.{weighed, likelihoods, bitScores, chromaScore}
 use Rattle.demod.specs.Call.{moduleColours, cellColours, writtenChroma}
-use Rattle.demod.proofs.Chroma.{bits-are}
+use Rattle.scores.proofs.Chroma.{bits-are}
 use Rattle.guarantee.specs.Within.{halfSigma}
 use Rattle.guarantee.specs.Card.{Setting, Card, modules, chromaScores, drawnCard, toScore, scoredCard, chromaRead, moduleLab, cellLab, paletteColour, carriesChroma}
 use Rattle.guarantee.specs.Guarantee.{Singles, Readable, InMarginAt}

@@ -26,7 +26,7 @@ use Rattle.lists.proofs.Laws.{Reached, reached}
 use Rattle.stats.specs.declared.Threshold.{Threshold}
 use Rattle.stats.specs.declared.Threshold.the-variants.{Thirteen, Nine}
 use Rattle.stats.proofs.Reliable.{zero-is}
-use Rattle.demod.specs.Score.{lumaScore}
+use Rattle.scores.specs.Score.{lumaScore}
 use Rattle.demod.specs.Call.{moduleColours}
 use Rattle.refine.specs.Refine.{sure, levelsOf, gridOf, refined}
 use Rattle.refine.specs.Calls.{refinedOf}

@@ -27,7 +27,7 @@ use Rattle.stats.specs.Noise.{sigmaAbAt, lumaLlr, reliability, hueLogLikelihood
 use Rattle.stats.specs.Calls.{badSigmas}
 use Rattle.stats.proofs.Range.{Held}
 use Rattle.stats.proofs.Clear.{Clear, Apart}
-use Rattle.demod.specs.Score.{weighed}
+use Rattle.scores.specs.Score.{weighed}
 use Rattle.guarantee.specs.Within.{halfApart, halfSigma}
 use Rattle.guarantee.proofs.Range.{Level, Tame, tame, level-in, both}
 use Rattle.guarantee.proofs.Luma.{llr-in}

@@ -10,38 +10,35 @@ use lib.IntN.{pos, negsuc}
 use lib.ListN.{getD, replicate}
 use lib.Ieee.{Float, nan, binary32, fits, round}
 use lib.Ieee.Fits.{and-l, and-r}
-use Rattle.limits.specs.Chroma.{chromaOn}
-use Rattle.color.specs.Color.{whole, fraction}
-use Rattle.illum.specs.Correct.{unitModel}
+use Rattle.limits.specs.Chroma.{chromaOn, halvings, log2, weighted, symbolBits, chromaEntries, chromaLength}
+use Rattle.color.specs.Color.{whole, fraction, luminance, linearToXyz, line, labF, lightness, xyzToLab}
+use Rattle.illum.specs.Correct.{unitModel, affineRow, unshaded, mixed}
 use Rattle.stats.specs.declared.ChannelStats.{ChannelStats}
 use Rattle.stats.specs.declared.Threshold.the-variants.{Thirteen, Nine}
-use Rattle.stats.specs.Noise.{nominal}
+use Rattle.stats.specs.Noise.{nominal, between, sigmaAbAt, lumaLlr, distance, closer, weight, reliability, denominator, hueLogLikelihood, putLikelihood}
 use lib.Ieee.{add, sub, mul, div, neg, lt, le, eq, isNan, ofInt, toUnsigned}
 use Rattle.sentences.specs.Sentences.{refusal, decided}
 use Rattle.loops.specs.Loops.{someOf, anyUp, turns, forUp}
 use Rattle.limits.specs.Limits.{badSide, badHues, badCellSize, badModules, badCounts, badCell}
-use Rattle.limits.specs.Chroma.{halvings, log2, weighted, symbolBits, chromaEntries, chromaLength}
 use Rattle.places.specs.Places.{outside, misplaced, offset}
 use Rattle.layout.specs.Groups.{shape, modulePlacement, badPositions, placement}
 use Rattle.floatlaws.specs.Value.{mag, hi, lo}
 use Rattle.float.specs.Select.{abs, max, min, clamp}
 use Rattle.float.specs.Root.{digits, iroot, rootOfUnits, sqrtOf, cbrtOf}
 use Rattle.float.specs.Single.{toSingle}
-use Rattle.color.specs.Color.{luminance, linearToXyz, line, labF, lightness, xyzToLab}
 use Rattle.color.specs.Palette.{levelL, hueAb, paletteLab, linearAt, wild, wildLinear}
 use Rattle.illum.specs.Surface.{leastGain, termsUsed, normalised, basisAt, addTerm, isHeld, holdGain, deshade}
-use Rattle.illum.specs.Correct.{affineRow, unshaded, mixed}
 use Rattle.illum.specs.Refusals.{badTerms, badModelSide, notFiniteAffine, notFiniteGains, notFiniteFlares, notFiniteModel, badShape, badModel}
 use Rattle.symbols.specs.Gray.{gray, xorShifts, grayInverse, chromaSymbolToHue, hueToChromaSymbol}
 use Rattle.symbols.specs.Mask.{maskRules, lumaMask, chromaRotation, chromaMaskApply, chromaMaskRemove}
 use Rattle.modulate.specs.Score.{unmaskedHue, symbolBit, bitOfHue, bettered, bitLlr, maskedAt, unmaskAt, badLumaLengths, unmaskSentences, unmaskLumaOf}
 use Rattle.reading.specs.Read.{readSentences, readListOf}
 use Rattle.modulate.specs.Draw.{isOne, bitOf, gridLevel, ringLevel, pushBit, cellHue, ringHue, levelAt, hueAt, drawnHues, shortBits, shortHues, badDrawLengths, drawSentences, drawOf}
-use Rattle.stats.specs.Noise.{between, sigmaAbAt, lumaLlr, distance, closer, weight, reliability, denominator, hueLogLikelihood, putLikelihood}
 use Rattle.stats.specs.Margin.{levelFits, colourFits, levelsFit, sigmasFit, darkClear, lightClear, near, far, otherFar, apart, hueClear, chromaClear, inMargin}
 use Rattle.stats.specs.Calls as stats
 use Rattle.stats.specs.Calls.{shortPalette, wildFigure, badNoiseNumbers, badLevelSigma, badSigmas, badNumbers}
-use Rattle.demod.specs.Score.{centre, cellCentre, moduleColour, cellColour, weighed, lumaScore, writeModule, chromaScore, putScore, writeEntry, writeCell, writeRing, ringChroma, chromaWritten}
+use Rattle.observed.specs.Colours.{centre, cellCentre, moduleColour, cellColour}
+use Rattle.scores.specs.Score.{weighed, lumaScore, writeModule, chromaScore, putScore, writeEntry, writeCell, writeRing, ringChroma, chromaWritten}
 use Rattle.demod.specs.Call as scoring
 use Rattle.demod.specs.Call.{badModuleLengths, badCellLengths, shortChroma, badLengths, badInputs, badCorrected, scoredOf}
 use Rattle.refine.specs.Calls as refinement
@@ -49,8 +46,7 @@ use Rattle.refine.specs.Calls.{shortSlices, wildNumbers, refinedOf, refineOf}
 use Rattle.refine.specs.Window.{beyond, luminanceNear, pushed, sampleAt}
 use Rattle.refine.specs.Refine.{sure, refineOne, placeAt, refineAt, refined}
 use Rattle.guarantee.specs.Within.{units, halfApart, halfSigma}
-use Rattle.guarantee.specs.Card.{paletteColour, carriesChroma}
-use Rattle.guarantee.specs.Card.{Setting, Card, refinedCard, bitsDrawn}
+use Rattle.guarantee.specs.Card.{paletteColour, carriesChroma, Setting, Card, refinedCard, bitsDrawn}
 use Rattle.guarantee.specs.Guarantee.{Singles, InMargin, NearModule, NearCell, Readable, InMarginAt, NoNan}
 
 -- ---- f32 values

@@ -21,7 +21,7 @@ use Rattle.modulate.specs.declared.Cell.{Cell}
 use Rattle.modulate.specs.declared.Cell.the-variants.{Unmasked, At}
 use Rattle.stats.specs.declared.ChannelStats.{ChannelStats}
 use Rattle.stats.specs.Noise.{reliability}
-use Rattle.demod.specs.Score.{bitScores, chromaScore, putScore, putScores, writeEntry, writeCell, writeCells, writeRing, writeRings, ringChroma, chromaWritten}
+use Rattle.scores.specs.Score.{bitScores, chromaScore, putScore, putScores, writeEntry, writeCell, writeCells, writeRing, writeRings, ringChroma, chromaWritten}
 
 -- ---- the chroma scores
 

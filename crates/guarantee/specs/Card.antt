@@ -19,7 +19,7 @@ use Rattle.modulate.specs.Score.{unmaskLumaOf}
 use Rattle.reading.specs.Read.{readListOf}
 use Rattle.illum.specs.declared.IlluminationModel.{IlluminationModel}
 use Rattle.stats.specs.declared.ChannelStats.{ChannelStats}
-use Rattle.demod.specs.Score.{moduleColour, cellColour}
+use Rattle.observed.specs.Colours.{moduleColour, cellColour}
 use Rattle.demod.specs.Call as scoring
 use Rattle.demod.specs.Call.{scoredOf}
 use Rattle.refine.specs.Calls as refinement

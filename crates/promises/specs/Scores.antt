@@ -13,7 +13,7 @@ use Rattle.color.specs.Palette.{linearAt, wildLinear}
 use Rattle.modulate.specs.declared.Cell.{Cell}
 use Rattle.modulate.specs.declared.Cell.the-variants.{Unmasked, At}
 use Rattle.stats.specs.Noise.{reliability}
-use Rattle.demod.specs.Score.{bitScores, chromaScore, lumaScore}
+use Rattle.scores.specs.Score.{bitScores, chromaScore, lumaScore}
 use Rattle.demod.specs.Call.{Request, moduleColours, cellColours, sentencesOf, turnedAway, scoredOf}
 use Rattle.promises.specs.Noise.{HeldAsSingles}
 

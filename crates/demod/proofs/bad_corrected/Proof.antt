@@ -5,7 +5,8 @@ use borrow.Author.Needs.{needs}
 use Prim.Native.Nat.{ℕ}
 use Rattle.limits.specs.Chroma.{chromaOn}
 use Rattle.color.specs.declared.Linear.{Linear}
-use Rattle.demod.specs.Call.{wildColours, badCorrected}
+use Rattle.observed.specs.Colours.{wildColours}
+use Rattle.demod.specs.Call.{badCorrected}
 use Rattle.demod.proofs.bad_corrected.Statement.{statement}
 use Rattle.demod.proofs.bad_corrected.Tie as tie
 

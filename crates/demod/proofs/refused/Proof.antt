@@ -13,9 +13,9 @@ use Rattle.layout.specs.declared.Layout.{Layout}
 use Rattle.layout.specs.Groups.{shape, placement, Shaped, Placed}
 use Rattle.layout.proofs.Laws.{shaped, placed, layouts}
 use Rattle.color.specs.Palette.{paletteLen}
-use Rattle.demod.specs.Score.{Exact}
+use Rattle.observed.specs.Colours.{Exact}
 use Rattle.demod.specs.Call.{badLengths, sentencesOf}
-use Rattle.demod.proofs.Places.{exact-xs, exact-ys}
+use Rattle.observed.proofs.Places.{exact-xs, exact-ys}
 use Rattle.demod.proofs.Accepted.{Lengths, lengths-in}
 use Rattle.demod.proofs.refused.Statement.{statement}
 use Rattle.demod.proofs.refused.Tie as tie

@@ -12,10 +12,10 @@ use Rattle.color.specs.Palette.{linearAt}
 use Rattle.illum.specs.declared.IlluminationModel.{IlluminationModel}
 use Rattle.stats.specs.declared.ChannelStats.{ChannelStats}
 use Rattle.demod.specs.Ready.{Scorable}
-use Rattle.demod.specs.Score.{Sheet, sheet, chromaWritten}
+use Rattle.scores.specs.Score.{Sheet, sheet, chromaWritten}
 use Rattle.demod.specs.Call.{Request, request, moduleColours, cellColours, final, done, writtenModules}
-use Rattle.demod.proofs.Written.{modules-are}
-use Rattle.demod.proofs.Apart.{chroma-same}
+use Rattle.scores.proofs.Written.{modules-are}
+use Rattle.scores.proofs.Apart.{chroma-same}
 use Rattle.demod.proofs.write_scores.Statement.{statement}
 use Rattle.demod.proofs.write_scores.Tie as tie
 

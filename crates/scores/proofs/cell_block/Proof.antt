@@ -1,0 +1,17 @@
+-- `cell_block` meets its contract: the scores by a block's samples are those of its corrected colours. Assumes nothing.
+use borrow.Author.Needs.{needs}
+use Rattle.scores.proofs.Blocks.{of-room, cell-scores}
+use Rattle.scores.proofs.cell_block.Statement.{statement}
+use Rattle.scores.proofs.cell_block.Tie as tie
+
+put-entries-requires : tie.Need-put-entries-requires
+put-entries-requires c κs = (record { hues-good = search needs; palette-long = search needs }, search needs, search needs, search needs, search needs, search needs)
+
+returns : tie.Need-returns
+returns c = search (cell-scores, of-room, needs)
+
+pub cell-block-spec : {M : Type 1} → statement M
+cell-block-spec =
+    tie.close
+    (tie.spec (λ c. search needs) (λ c κs. search needs) (λ c. search needs) (λ c. search needs) (λ c. search needs) (λ c κs. search needs) (λ c. search needs) (λ c. search needs)
+    put-entries-requires (λ c. search needs) returns)
