@@ -30,7 +30,7 @@ use Rattle.reading.specs.Read.{readList, readSentences, readListOf}
 use Rattle.lists.proofs.Laws.{reached}
 use Rattle.stats.specs.Calls.{shortPalette, badNumbers, badSigmas}
 use Rattle.stats.proofs.Range.{Held}
-use Rattle.stats.proofs.Wider.{any-none}
+use Rattle.margin.proofs.Wider.{any-none}
 use Rattle.demod.proofs.Outcome.{IsDone, at-done}
 use Rattle.demod.proofs.Range.{luma-in, colour-tame}
 use Rattle.refine.specs.Refine.{squares, levelsOf, gridOf, refined}

@@ -9,8 +9,8 @@ use Rattle.color.specs.declared.Linear.{Linear}
 use Rattle.modulate.specs.declared.Cell.{Cell}
 use Rattle.modulate.specs.declared.Cell.the-variants as cell
 use Rattle.stats.specs.declared.ChannelStats.{ChannelStats}
-use Rattle.stats.specs.declared.Threshold.{Threshold}
-use Rattle.stats.specs.declared.Threshold.the-variants as threshold
+use Rattle.margin.specs.declared.Threshold.{Threshold}
+use Rattle.margin.specs.declared.Threshold.the-variants as threshold
 use Rattle.exports.specs.declared.replies.SolveAnswer.{SolveAnswer}
 use Rattle.exports.specs.declared.replies.NumberAnswer.{NumberAnswer}
 use Rattle.exports.specs.declared.replies.FlagAnswer.{FlagAnswer}

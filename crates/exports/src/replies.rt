@@ -6,20 +6,21 @@ ghost use Rattle.color.specs.Palette.{flagSaid};
 ghost use Rattle.illum.specs.Refusals.{correctionSaid};
 ghost use Rattle.math.specs.Gauss.{solvingSaid};
 ghost use Rattle.order.specs.Deviation.{sigmaSaid};
-ghost use Rattle.stats.specs.Calls.{figureSaid, noiseSaid, verdictSaid};
+ghost use Rattle.stats.specs.Calls.{figureSaid, noiseSaid};
+ghost use Rattle.margin.specs.Calls.{verdictSaid};
 ghost use Rattle.exports.specs.Replies as spec;
 use answers::Number;
 use color::Linear;
 use color::palette::Flag;
 use illum::Correction;
+use margin::Threshold;
+use margin::Verdict;
 use math::Solving;
 use modulate::Cell;
 use order::Sigma;
 use stats::ChannelStats;
 use stats::Figure;
 use stats::Noise;
-use stats::Threshold;
-use stats::Verdict;
 
 // Whether a linear system was solved.
 #[repr(C)]

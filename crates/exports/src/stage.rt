@@ -8,6 +8,7 @@ ghost use Rattle.illum.specs.Refusals.{correctOf};
 ghost use Rattle.measure.specs.Measure as measure_call;
 ghost use Rattle.refine.specs.Calls as refine_call;
 ghost use Rattle.stats.specs.Calls as stats_call;
+ghost use Rattle.margin.specs.Calls as margin_call;
 ghost use Rattle.exports.specs.Replies as spec;
 ghost use Rattle.exports.specs.Exits as exits;
 ghost use Rattle.exports.specs.Exits.{exit3, scored};
@@ -292,9 +293,9 @@ pub extern "C" fn purdolve_hue_log_likelihoods(
 // The margin check, at 13. Refused: 3, 5, 8, 9.
 #[no_mangle]
 pub extern "C" fn purdolve_margin(noise: ChannelStats, palette: &[f32], hues: usize) -> FlagAnswer
-    ensures { λ r. ⌜ r ≡ spec.flagAnswer (stats_call.marginAnswer noise (now (palette .entry)) hues) ⌝ }
+    ensures { λ r. ⌜ r ≡ spec.flagAnswer (margin_call.marginAnswer noise (now (palette .entry)) hues) ⌝ }
 {
-    replies::verdict_answer(stats::margin(noise, palette, hues))
+    replies::verdict_answer(margin::margin(noise, palette, hues))
 }
 
 // The margin check at one of its settings, 9 or 13. Refused: 3, 5, 8, 9.
@@ -305,7 +306,7 @@ pub extern "C" fn purdolve_margin_at(
     palette: &[f32],
     hues: usize,
 ) -> FlagAnswer
-    ensures { λ r. ⌜ r ≡ spec.flagAnswer (stats_call.marginAtAnswer (spec.thresholdOf nine) noise (now (palette .entry)) hues) ⌝ }
+    ensures { λ r. ⌜ r ≡ spec.flagAnswer (margin_call.marginAtAnswer (spec.thresholdOf nine) noise (now (palette .entry)) hues) ⌝ }
 {
-    replies::verdict_answer(stats::margin_at(replies::threshold_of(nine), noise, palette, hues))
+    replies::verdict_answer(margin::margin_at(replies::threshold_of(nine), noise, palette, hues))
 }

@@ -9,7 +9,7 @@ use lib.Ieee.{nan}
 use Rattle.limits.specs.Chroma.{chromaOn}
 use Rattle.modulate.proofs.Symbols.{bit-lt}
 use Rattle.reading.specs.Read.{reads}
-use Rattle.stats.specs.declared.Threshold.the-variants.{Nine}
+use Rattle.margin.specs.declared.Threshold.the-variants.{Nine}
 use Rattle.guarantee.specs.Card.{Setting, Card, chromaScores, scoredCard}
 use Rattle.guarantee.specs.Guarantee.{Singles, Readable, InMarginAt, NoNan}
 use Rattle.guarantee.specs.Erased.{NoneErased, NoneErasedInside, NoneErasedAtNine}

@@ -12,7 +12,7 @@ use lib.ListN.{length, getD, take, length-append, length-map, List·getD-append,
 use lib.Seq.{length-take-le, getD-take, getD-append-add, ext-getD}
 use lib.Ieee.{nan, isNan}
 use Rattle.limits.specs.Chroma.{chromaOn, symbolBits, chromaLength}
-use Rattle.stats.specs.declared.Threshold.the-variants.{Nine}
+use Rattle.margin.specs.declared.Threshold.the-variants.{Nine}
 use Rattle.modulate.specs.Draw.{isOne, bitOf}
 use Rattle.modulate.proofs.Lengths.{bits-long}
 use Rattle.guarantee.specs.Card.{Setting, Card, modules, chromaScores, refinedCard, lumaRead, chromaRead, bitsDrawn, bitsRead}

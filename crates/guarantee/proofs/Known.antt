@@ -24,13 +24,13 @@ use Rattle.answers.specs.Answers.{ended, writtenOr}
 use Rattle.answers.proofs.Answers.{given-is, list-done, none-of}
 use Rattle.modulate.proofs.Accepted.{IsDrawn, drawn-done}
 use Rattle.limits.specs.Chroma.{chromaOn}
-use Rattle.stats.specs.Margin.{inMargin}
-use Rattle.stats.specs.declared.Threshold.{Threshold}
-use Rattle.stats.specs.declared.Threshold.the-variants.{Nine}
+use Rattle.margin.specs.Margin.{inMargin}
+use Rattle.margin.specs.declared.Threshold.{Threshold}
+use Rattle.margin.specs.declared.Threshold.the-variants.{Nine}
 use Rattle.stats.specs.Calls as stats
-use Rattle.stats.specs.Calls.{leastOf}
-use Rattle.stats.proofs.Clear.{Clear, clear}
-use Rattle.stats.proofs.Wider.{yes-at-nine}
+use Rattle.margin.specs.Calls.{leastOf}
+use Rattle.margin.proofs.Clear.{Clear, clear}
+use Rattle.margin.proofs.Wider.{yes-at-nine}
 use Rattle.stats.proofs.Range.{Held}
 use Rattle.demod.proofs.Accepted as scored
 use Rattle.demod.proofs.Outcome.{IsDone, at-done}

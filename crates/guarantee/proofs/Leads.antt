@@ -32,10 +32,10 @@ use Rattle.refine.proofs.Sign.{below-none}
 use Rattle.stats.specs.declared.ChannelStats.{ChannelStats}
 use Rattle.stats.specs.Arithmetic.{_⊖_, _⊗_}
 use Rattle.stats.specs.Noise.{sigmaAbAt, denominator, hueLogLikelihood, putLikelihood, hueLogLikelihoods}
-use Rattle.stats.specs.Margin.{near, far}
+use Rattle.margin.specs.Margin.{near, far}
 use Rattle.stats.proofs.Range.{twenty-is}
 use Rattle.stats.proofs.Reliable.{zero-is}
-use Rattle.stats.proofs.Clear.{Apart}
+use Rattle.margin.proofs.Clear.{Apart}
 use Rattle.guarantee.proofs.Range.{Tame, both, either}
 use Rattle.guarantee.proofs.Luma.{twenty-order}
 use Rattle.guarantee.proofs.Sigma.{Scale, Any, sigma-in}

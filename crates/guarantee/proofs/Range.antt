@@ -17,10 +17,10 @@ use Rattle.float.specs.Select.{abs}
 use Rattle.float.proofs.Select.{abs-fits, abs-nan, of-abs-le}
 use Rattle.color.specs.Color.{whole, fraction}
 use Rattle.stats.specs.declared.ChannelStats.{ChannelStats}
-use Rattle.stats.specs.Margin.{levelFits, sigmasFit}
+use Rattle.margin.specs.Margin.{levelFits, sigmasFit}
 use Rattle.stats.specs.Calls.{badLevelSigma, badSigmas}
 use Rattle.stats.proofs.Range.{Held}
-use Rattle.stats.proofs.Clear.{Clear}
+use Rattle.margin.proofs.Clear.{Clear}
 
 -- ---- tests
 

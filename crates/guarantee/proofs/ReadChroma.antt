@@ -22,9 +22,9 @@ use Rattle.modulate.specs.Draw.{isOne, bitOf, levelAt, hueAt}
 use Rattle.modulate.specs.Score.{bitLlr}
 use Rattle.reading.specs.Read.{reads}
 use Rattle.modulate.proofs.ReadBack.{read-cell, read-ring}
-use Rattle.stats.specs.declared.Threshold.the-variants.{Nine}
+use Rattle.margin.specs.declared.Threshold.the-variants.{Nine}
 use Rattle.stats.specs.Noise.{reliability}
-use Rattle.stats.proofs.Clear.{Apart}
+use Rattle.margin.proofs.Clear.{Apart}
 use Rattle.scores.specs.Score.{weighed, likelihoods, bitScores, chromaScore}
 use Rattle.demod.specs.Call.{moduleColours, cellColours, writtenChroma}
 use Rattle.scores.proofs.Chroma.{bits-are}

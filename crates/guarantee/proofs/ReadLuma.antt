@@ -23,8 +23,8 @@ use Rattle.reading.specs.Read.{reads}
 use Rattle.reading.proofs.Sign.{read-zero, read-one}
 use Rattle.modulate.proofs.ReadBack.{Says, read-grid, read-ring-luma}
 use Rattle.lists.proofs.Laws.{Reached, reached}
-use Rattle.stats.specs.declared.Threshold.{Threshold}
-use Rattle.stats.specs.declared.Threshold.the-variants.{Thirteen, Nine}
+use Rattle.margin.specs.declared.Threshold.{Threshold}
+use Rattle.margin.specs.declared.Threshold.the-variants.{Thirteen, Nine}
 use Rattle.stats.proofs.Reliable.{zero-is}
 use Rattle.scores.specs.Score.{lumaScore}
 use Rattle.demod.specs.Call.{moduleColours}

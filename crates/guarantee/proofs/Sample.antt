@@ -26,7 +26,7 @@ use Rattle.stats.specs.declared.ChannelStats.{ChannelStats}
 use Rattle.stats.specs.Noise.{sigmaAbAt, lumaLlr, reliability, hueLogLikelihoods}
 use Rattle.stats.specs.Calls.{badSigmas}
 use Rattle.stats.proofs.Range.{Held}
-use Rattle.stats.proofs.Clear.{Clear, Apart}
+use Rattle.margin.proofs.Clear.{Clear, Apart}
 use Rattle.scores.specs.Score.{weighed}
 use Rattle.guarantee.specs.Within.{halfApart, halfSigma}
 use Rattle.guarantee.proofs.Range.{Level, Tame, tame, level-in, both}

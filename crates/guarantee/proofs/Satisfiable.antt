@@ -14,7 +14,7 @@ use Rattle.limits.specs.Chroma.{chromaOn, halvings, log2, weighted, symbolBits,
 use Rattle.color.specs.Color.{whole, fraction, luminance, linearToXyz, line, labF, lightness, xyzToLab}
 use Rattle.illum.specs.Correct.{unitModel, affineRow, unshaded, mixed}
 use Rattle.stats.specs.declared.ChannelStats.{ChannelStats}
-use Rattle.stats.specs.declared.Threshold.the-variants.{Thirteen, Nine}
+use Rattle.margin.specs.declared.Threshold.the-variants.{Thirteen, Nine}
 use Rattle.stats.specs.Noise.{nominal, between, sigmaAbAt, lumaLlr, distance, closer, weight, reliability, denominator, hueLogLikelihood, putLikelihood}
 use lib.Ieee.{add, sub, mul, div, neg, lt, le, eq, isNan, ofInt, toUnsigned}
 use Rattle.sentences.specs.Sentences.{refusal, decided}
@@ -34,7 +34,7 @@ use Rattle.symbols.specs.Mask.{maskRules, lumaMask, chromaRotation, chromaMaskA
 use Rattle.modulate.specs.Score.{unmaskedHue, symbolBit, bitOfHue, bettered, bitLlr, maskedAt, unmaskAt, badLumaLengths, unmaskSentences, unmaskLumaOf}
 use Rattle.reading.specs.Read.{readSentences, readListOf}
 use Rattle.modulate.specs.Draw.{isOne, bitOf, gridLevel, ringLevel, pushBit, cellHue, ringHue, levelAt, hueAt, drawnHues, shortBits, shortHues, badDrawLengths, drawSentences, drawOf}
-use Rattle.stats.specs.Margin.{levelFits, colourFits, levelsFit, sigmasFit, darkClear, lightClear, near, far, otherFar, apart, hueClear, chromaClear, inMargin}
+use Rattle.margin.specs.Margin.{levelFits, colourFits, levelsFit, sigmasFit, darkClear, lightClear, near, far, otherFar, apart, hueClear, chromaClear, inMargin}
 use Rattle.stats.specs.Calls as stats
 use Rattle.stats.specs.Calls.{shortPalette, wildFigure, badNoiseNumbers, badLevelSigma, badSigmas, badNumbers}
 use Rattle.observed.specs.Colours.{centre, cellCentre, moduleColour, cellColour}

@@ -20,13 +20,13 @@ use Rattle.float.proofs.Select.{abs-sides, abs-num}
 use Rattle.color.specs.Color.{whole, fraction}
 use Rattle.color.specs.Palette.{paletteLab}
 use Rattle.stats.specs.declared.ChannelStats.{ChannelStats}
-use Rattle.stats.specs.declared.Threshold.{Threshold}
-use Rattle.stats.specs.declared.Threshold.the-variants.{Thirteen, Nine}
+use Rattle.margin.specs.declared.Threshold.{Threshold}
+use Rattle.margin.specs.declared.Threshold.the-variants.{Thirteen, Nine}
 use Rattle.stats.specs.Arithmetic.{_⊕_, _⊖_, _⊗_, _⊘_}
 use Rattle.stats.specs.Noise.{lumaLlr}
-use Rattle.stats.specs.Margin.{darkClear, lightClear}
-use Rattle.stats.specs.Calls.{leastOf}
-use Rattle.stats.proofs.Wider.{least-num}
+use Rattle.margin.specs.Margin.{darkClear, lightClear}
+use Rattle.margin.specs.Calls.{leastOf}
+use Rattle.margin.proofs.Wider.{least-num}
 use Rattle.refine.proofs.Sign.{eight-is}
 use Rattle.guarantee.proofs.Range.{Level, Sigma, Tame, to-T, of-T}
 use Rattle.guarantee.proofs.Luma.{Lightness, two-is, llr-in, llr-falls}

@@ -2,7 +2,7 @@
 use Prim.Native.Nat.{ℕ, _<_}
 use lib.ListN.{getD}
 use lib.Ieee.{nan}
-use Rattle.stats.specs.declared.Threshold.the-variants.{Nine}
+use Rattle.margin.specs.declared.Threshold.the-variants.{Nine}
 use Rattle.reading.specs.Read.{reads}
 use Rattle.guarantee.specs.Card.{Setting, Card, modules, chromaScores, scoredCard, refinedCard, unmaskedCard}
 use Rattle.guarantee.specs.Guarantee.{Singles, InMargin, Readable, InMarginAt, NoNan}

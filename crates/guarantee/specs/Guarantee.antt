@@ -10,9 +10,9 @@ use lib.ListN.{length, getD}
 use lib.Ieee.{nan, binary32, fits, isNan}
 use Rattle.limits.specs.Chroma.{chromaOn}
 use Rattle.answers.specs.Answers.{gives}
-use Rattle.stats.specs.declared.Threshold.{Threshold}
-use Rattle.stats.specs.declared.Threshold.the-variants.{Nine}
-use Rattle.stats.specs.Calls.{marginAnswer, marginAtAnswer}
+use Rattle.margin.specs.declared.Threshold.{Threshold}
+use Rattle.margin.specs.declared.Threshold.the-variants.{Nine}
+use Rattle.margin.specs.Calls.{marginAnswer, marginAtAnswer}
 use Rattle.guarantee.specs.Within.{halfSigma}
 use Rattle.guarantee.specs.Card.{Setting, Card, modules, chromaScores, drawnCard, refinedCard, Accepted, bitsDrawn, bitsRead, moduleLab, cellLab, paletteColour, carriesChroma, ringPlace}
 

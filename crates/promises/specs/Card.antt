@@ -13,7 +13,7 @@ use Rattle.color.specs.declared.Lab.{Lab}
 use Rattle.color.specs.Color.{whole}
 use Rattle.color.specs.Palette.{hueAb}
 use Rattle.stats.specs.declared.ChannelStats.{ChannelStats}
-use Rattle.stats.specs.declared.Threshold.the-variants.{Nine}
+use Rattle.margin.specs.declared.Threshold.the-variants.{Nine}
 use Rattle.stats.specs.Arithmetic.{_⊕_, _⊖_, _⊘_}
 use Rattle.stats.specs.Noise.{sigmaAbAt, lumaLlr}
 use Rattle.guarantee.specs.Within.{units, halfApart}

@@ -14,9 +14,10 @@ use Rattle.color.specs.Color.{whole}
 use Rattle.color.specs.Palette.{paletteLab}
 use Rattle.stats.specs.declared.ChannelStats.{ChannelStats}
 use Rattle.stats.specs.Noise.{sigmaAbAt, lumaLlr, reliability}
-use Rattle.stats.specs.declared.Threshold.the-variants.{Thirteen, Nine}
-use Rattle.stats.specs.Calls.{badNoiseNumbers, badSigmas, marginAtAnswer}
-use Rattle.stats.specs.Margin.{levelFits, sigmasFit, darkClear, lightClear, near, far, inMargin}
+use Rattle.margin.specs.declared.Threshold.the-variants.{Thirteen, Nine}
+use Rattle.stats.specs.Calls.{badNoiseNumbers, badSigmas}
+use Rattle.margin.specs.Calls.{marginAtAnswer}
+use Rattle.margin.specs.Margin.{levelFits, sigmasFit, darkClear, lightClear, near, far, inMargin}
 use Rattle.measure.specs.Measure.{Request, measureOf}
 
 -- the record's figures are f32 values, as the code's are

@@ -9,22 +9,6 @@ pub n6 : ofBits binary32 0x40c0_0000 ≡ fraction 6 1
 unfolding ofBits round fraction
 n6 = refl
 
-pub n9 : ofBits binary32 0x4110_0000 ≡ fraction 9 1
-unfolding ofBits round fraction
-n9 = refl
-
-pub n13 : ofBits binary32 0x4150_0000 ≡ fraction 13 1
-unfolding ofBits round fraction
-n13 = refl
-
-pub n256 : ofBits binary32 0x4380_0000 ≡ fraction 256 1
-unfolding ofBits round fraction
-n256 = refl
-
-pub n1000 : ofBits binary32 0x447a_0000 ≡ fraction 1000 1
-unfolding ofBits round fraction
-n1000 = refl
-
 pub thousandth : ofBits binary32 0x3a83_126f ≡ fraction 1 1000
 unfolding ofBits round fraction
 thousandth = refl

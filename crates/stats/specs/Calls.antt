@@ -1,6 +1,6 @@
 -- The public calls of the noise record: which sentences of document 01 each can meet, in checking order, what the cases of its answer say, and what
 -- it answers. Definitions only.
-use mathlib.Core.Bool.{Bool, true, false, not, _||_, _&&_}
+use mathlib.Core.Bool.{Bool, not, _||_, _&&_}
 use mathlib.Core.List.{List, [], _∷_}
 use Prim.Native.Nat.{ℕ, _^_}
 use lib.Dec.{ltb}
@@ -17,12 +17,7 @@ use Rattle.stats.specs.declared.Figure.{Figure}
 use Rattle.stats.specs.declared.Figure.the-variants as figure
 use Rattle.stats.specs.declared.Noise.{Noise}
 use Rattle.stats.specs.declared.Noise.the-variants as noise
-use Rattle.stats.specs.declared.Threshold.{Threshold}
-use Rattle.stats.specs.declared.Threshold.the-variants as threshold
-use Rattle.stats.specs.declared.Verdict.{Verdict}
-use Rattle.stats.specs.declared.Verdict.the-variants as verdict
 use Rattle.stats.specs.Noise.{sigmaAbAt, lumaLlr, reliability, hueLogLikelihoods, nominal}
-use Rattle.stats.specs.Margin.{inMargin}
 
 -- ---- the sentences
 
@@ -73,7 +68,7 @@ unfoldable pub paletteSentences : List Float → ℕ → List Sentence
 paletteSentences palette hues =
     (3 when badHues hues) ∷ (5 when shortPalette palette hues) ∷ (8 when wildPalette palette hues) ∷ []
 
--- `reliability`, `margin`, `margin_at`
+-- `reliability`, and the margin check
 unfoldable pub sentencesOf : ChannelStats → List Float → ℕ → List Sentence
 sentencesOf n palette hues =
     (3 when badHues hues) ∷
@@ -101,12 +96,6 @@ abbrev pub noiseSaid : Noise → Said ChannelStats
 noiseSaid (noise.Refused n) = refusedBy n
 noiseSaid (noise.Record v) = gives v
 
--- "The margin check says yes", or it says no
-abbrev pub verdictSaid : Verdict → Said Bool
-verdictSaid (verdict.Refused n) = refusedBy n
-verdictSaid verdict.Yes = gives true
-verdictSaid verdict.No = gives false
-
 -- ---- what each call answers
 
 abbrev pub sigmaAbAnswer : ChannelStats → Float → Said Float
@@ -124,16 +113,3 @@ likelihoodsAnswer n sample palette hues out =
 
 abbrev pub nominalAnswer : List Float → ℕ → Said ChannelStats
 nominalAnswer palette hues = answered (paletteSentences palette hues) (nominal palette)
-
--- document 01's threshold is 13
-abbrev pub marginAnswer : ChannelStats → List Float → ℕ → Said Bool
-marginAnswer n palette hues = answered (sentencesOf n palette hues) (inMargin (whole 13) n palette hues)
-
--- a setting's threshold: document 01's, and the second one
-abbrev pub leastOf : Threshold → Float
-leastOf threshold.Thirteen = whole 13
-leastOf threshold.Nine = whole 9
-
--- the same at a setting's threshold
-abbrev pub marginAtAnswer : Threshold → ChannelStats → List Float → ℕ → Said Bool
-marginAtAnswer least n palette hues = answered (sentencesOf n palette hues) (inMargin (leastOf least) n palette hues)

@@ -1,4 +1,4 @@
-// The noise record of a capture with its methods (demod.rs, `ChannelStats`), and the margin check.
+// The noise record of a capture with its methods (demod.rs, `ChannelStats`).
 //
 // A first use: `ChannelStats::nominal(palette, hues)` gives the record to fall back on, and
 // `noise.luma_llr(l)` the score of a sample's L, positive for dark.
@@ -17,11 +17,6 @@ use color::palette::hue_ab;
 use color::palette::level_l;
 use color::palette::palette_lab;
 use color::palette::wild_palette;
-
-mod inside;
-
-pub use inside::margin;
-pub use inside::margin_at;
 
 // What was measured of the channel: the observed L of the dark and the light level, the luma noise, the
 // chroma noise pooled over both levels and that of each level (0 where it was not measured), and the
@@ -47,21 +42,6 @@ pub enum Figure {
 pub enum Noise {
     Refused(u32),
     Record(ChannelStats),
-}
-
-// The settings of the margin check: how far from 0 the luma score of every palette colour must lie half a
-// sigma off. Thirteen is document 01's; Nine is the second one, of which the read guarantee asks besides
-// that no refined score is a NaN.
-pub enum Threshold {
-    Thirteen,
-    Nine,
-}
-
-// What the margin check answers.
-pub enum Verdict {
-    Refused(u32),
-    Yes,
-    No,
 }
 
 // ---- the cores, for every float
@@ -365,7 +345,8 @@ fn refused_palette(palette: &[f32], hues: usize) -> u32
     0
 }
 
-fn refused(noise: ChannelStats, palette: &[f32], hues: usize) -> u32
+// Core: the number of the first sentence on a noise record and a palette that holds, or 0.
+pub fn refused(noise: ChannelStats, palette: &[f32], hues: usize) -> u32
     ensures { λ r. ⌜ r ≡ refusal (call.sentencesOf noise (now (palette .entry)) hues) ⌝ }
 {
     if limits::bad_hues(hues) {

@@ -1,11 +1,11 @@
 // Replays the stored answers of the crate `stats`: each method of a noise record, `nominal` and the margin check, refused calls
 // too, every bit.
 use answers::outcome_number;
+use margin::Threshold;
+use margin::Verdict;
 use stats::ChannelStats;
 use stats::Figure;
 use stats::Noise;
-use stats::Threshold;
-use stats::Verdict;
 use vectors::Compared;
 use vectors::Tally;
 
@@ -156,11 +156,11 @@ fn of_palette(
         return likelihoods(noise, palette, hues, row, at, got);
     }
     if function == 5 {
-        return put_verdict(got, stats::margin(noise, palette, hues));
+        return put_verdict(got, margin::margin(noise, palette, hues));
     }
     if function == 6 {
         let least = setting(stage_words::count(row, at, 0));
-        return put_verdict(got, stats::margin_at(least, noise, palette, hues));
+        return put_verdict(got, margin::margin_at(least, noise, palette, hues));
     }
     0
 }

@@ -2,7 +2,7 @@
 use mathlib.Core.List.{List}
 use Prim.Native.Nat.{ℕ}
 use Rattle.stats.specs.declared.ChannelStats.{ChannelStats}
-use Rattle.stats.proofs.Clear as clear
+use Rattle.margin.proofs.Clear as clear
 use Rattle.promises.specs.Noise.{Apart}
 use lib.Ieee.{Float}
 use Rattle.promises.proofs.margin_clauses.Statement.{statement}

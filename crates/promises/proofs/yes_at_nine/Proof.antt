@@ -1,5 +1,5 @@
 -- `promises::yes_at_nine` meets its contract: the theorem of `stats`. Assumes nothing.
-use Rattle.stats.proofs.Wider as wider
+use Rattle.margin.proofs.Wider as wider
 use Rattle.promises.proofs.yes_at_nine.Statement.{statement}
 use Rattle.promises.proofs.yes_at_nine.Tie as tie
 

@@ -1,7 +1,7 @@
 -- `exports::replies::threshold_of` meets its contract: by cases, as the definition goes. Assumes nothing.
 use mathlib.Core.Bool.{Bool, true, false}
 use mathlib.Core.Path.{_≡_}
-use Rattle.stats.specs.declared.Threshold.the-variants.{Thirteen, Nine}
+use Rattle.margin.specs.declared.Threshold.the-variants.{Thirteen, Nine}
 use Rattle.exports.specs.Replies.{thresholdOf}
 use Rattle.exports.proofs.replies.threshold_of.Statement.{statement}
 use Rattle.exports.proofs.replies.threshold_of.Tie as tie

@@ -3,9 +3,9 @@ use mathlib.Core.Path.{_≡_}
 use borrow.Author.Needs.{needs}
 use mathlib.Core.Bool.{true, false}
 use Prim.Native.Nat.{ℕ}
-use Rattle.stats.specs.declared.Verdict.{Verdict}
-use Rattle.stats.specs.declared.Verdict.the-variants.{Refused, Yes, No}
-use Rattle.stats.specs.Calls.{verdictSaid}
+use Rattle.margin.specs.declared.Verdict.{Verdict}
+use Rattle.margin.specs.declared.Verdict.the-variants.{Refused, Yes, No}
+use Rattle.margin.specs.Calls.{verdictSaid}
 use Rattle.exports.specs.Replies.{structOf, judged, flagAnswer}
 use Rattle.exports.proofs.replies.verdict_answer.Statement.{statement}
 use Rattle.exports.proofs.replies.verdict_answer.Tie as tie

@@ -1,4 +1,4 @@
--- `exports::stage::purdolve_margin` meets its contract: it is `stats::margin`, its answer turned for C. Assumes nothing.
+-- `exports::stage::purdolve_margin` meets its contract: it is `margin::margin`, its answer turned for C. Assumes nothing.
 use borrow.Author.Needs.{needs}
 use Rattle.exports.proofs.stage.purdolve_margin.Statement.{statement}
 use Rattle.exports.proofs.stage.purdolve_margin.Tie as tie

@@ -1,4 +1,4 @@
--- `exports::stage::purdolve_margin_at` meets its contract: it is `stats::margin_at`, its setting and its answer turned for C. Assumes nothing.
+-- `exports::stage::purdolve_margin_at` meets its contract: it is `margin::margin_at`, its setting and its answer turned for C. Assumes nothing.
 use borrow.Author.Needs.{needs}
 use Rattle.exports.proofs.stage.purdolve_margin_at.Statement.{statement}
 use Rattle.exports.proofs.stage.purdolve_margin_at.Tie as tie
