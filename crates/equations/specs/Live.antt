@@ -1,11 +1,11 @@
 -- Which references are live: the Rust's `active`, as 1 for true and 0 for false. Definitions only.
-use mathlib.Core.Bool.{Bool, false, cond}
+use mathlib.Core.Bool.{Bool, false}
 use mathlib.Core.List.{List}
-use Prim.Native.Nat.{ℕ, _+_}
+use Prim.Native.Nat.{ℕ}
 use lib.IntN.{pos}
 use lib.ListN.{getD, replicate}
 use lib.Ieee.{Float, nan, fin, eq}
-use Rattle.loops.specs.Loops.{forUp}
+use Rattle.loops.specs.Loops.{countUp}
 
 abbrev pub liveMark : Float
 liveMark = fin false 1 (pos 0)
@@ -20,8 +20,5 @@ unfoldable pub isLive : List Float → ℕ → Bool
 isLive live i = eq (getD live i nan) liveMark
 
 -- how many of the first n are live
-unfoldable pub countAt : List Float → ℕ → ℕ → ℕ
-countAt live i k = cond (isLive live i) (k + 1) k
-
 abbrev pub liveCount : List Float → ℕ → ℕ
-liveCount live n = forUp 0 n (countAt live) 0
+liveCount live n = countUp 0 n (isLive live)

@@ -2,6 +2,7 @@
 ghost use mathlib.Core.Path.{_≡_};
 ghost use Prim.Native.Nat.{_+_, _<_, _≤_};
 ghost use lib.ListN.{length};
+ghost use Rattle.loops.specs.Loops.{raise};
 ghost use Rattle.equations.specs.Live as spec;
 
 // Core: whether reference i is live.
@@ -15,7 +16,7 @@ pub fn is_live(live: &[f32], i: usize) -> bool
 // One more than k where reference i is live.
 fn count_at(live: &[f32], i: usize, k: usize) -> usize
     requires { ⌜ (i < length (now live)) × (k ≤ i) ⌝ }
-    ensures { λ r. ⌜ (r ≡ spec.countAt (now (live .entry)) i k) × (r ≤ i + 1) ⌝ }
+    ensures { λ r. ⌜ (r ≡ raise (spec.isLive (now (live .entry))) i k) × (r ≤ i + 1) ⌝ }
 {
     if is_live(live, i) {
         return k + 1;

@@ -8,9 +8,9 @@ use lib.Dec.{ltb}
 use lib.ListN.{length, getD, set, length-set, length-replicate, getD-replicate}
 use lib.Seq.{getD-set-same, getD-set-other}
 use lib.Ieee.{Float, nan, eq, lt}
-use Rattle.loops.specs.Loops.{turns, forUp}
+use Rattle.loops.specs.Loops.{turns, forUp, raise}
 use Rattle.loops.proofs.Laws.{forUp-same, forUp-to, forUp-done}
-use Rattle.equations.specs.Live.{liveMark, droppedMark, allLive, isLive, countAt, liveCount}
+use Rattle.equations.specs.Live.{liveMark, droppedMark, allLive, isLive, liveCount}
 use Rattle.residuals.specs.Residual.{Rejection, rejection, rejectAt, rejectAbove}
 
 -- ---- the last turn of a loop
@@ -49,18 +49,18 @@ unfolding isLive eq
 dropped-dead live i h = ap (λ (x : Float). eq x liveMark) (getD-set-same live i droppedMark nan h)
 
 passed-kept : (live : List Float) (i : ℕ) (v : Float) → liveCount (set live i v) i ≡ liveCount live i
-unfolding countAt
+unfolding raise
 passed-kept live i v =
-    forUp-same (countAt (set live i v)) (countAt live) i 0 0 (λ j p q k. ap (λ (b : Bool). cond b (k + 1) k) (live-kept live i j v (λ e. omega arith)))
+    forUp-same (raise (isLive (set live i v))) (raise (isLive live)) i 0 0 (λ j p q k. ap (λ (b : Bool). cond b (k + 1) k) (live-kept live i j v (λ e. omega arith)))
 
 module _ (live : List Float) (i : ℕ) where
   counts-live : isLive live i ≡ true → liveCount live (suc i) ≡ liveCount live i + 1
-  unfolding countAt
-  counts-live t = forUp-last (countAt live) i 0 ∙ ap (λ (b : Bool). cond b (liveCount live i + 1) (liveCount live i)) t
+  unfolding raise
+  counts-live t = forUp-last (raise (isLive live)) i 0 ∙ ap (λ (b : Bool). cond b (liveCount live i + 1) (liveCount live i)) t
 
   counts-dead : isLive live i ≡ false → liveCount live (suc i) ≡ liveCount live i
-  unfolding countAt
-  counts-dead t = forUp-last (countAt live) i 0 ∙ ap (λ (b : Bool). cond b (liveCount live i + 1) (liveCount live i)) t
+  unfolding raise
+  counts-dead t = forUp-last (raise (isLive live)) i 0 ∙ ap (λ (b : Bool). cond b (liveCount live i + 1) (liveCount live i)) t
 
 -- those before i are live or counted as rejected, and those from i on are live
 pub record Settled (n i : ℕ) (s : Rejection) : Type 0 where
@@ -102,7 +102,7 @@ begins : (n : ℕ) → Settled n 0 (rejection (allLive n) 0)
 begins n =
     record {
       long = length-replicate n liveMark;
-      count = omega (arith, forUp-done (countAt (allLive n)) 0 0 0 (omega arith));
+      count = omega (arith, forUp-done (raise (isLive (allLive n))) 0 0 0 (omega arith));
       rest = λ j p q. all-live n j q;
     }
 

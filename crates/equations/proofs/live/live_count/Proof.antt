@@ -1,14 +1,15 @@
 -- `equations::live::live_count` meets its contract: what is left from i on counts the rest; no more are live than were passed.
 -- Assumes nothing.
 use Prim.Native.Nat.{_-_, _≤_}
+use Rattle.loops.specs.Loops.{raise}
 use Rattle.loops.proofs.Laws.{Left, loops}
-use Rattle.equations.specs.Live.{countAt, liveCount}
+use Rattle.equations.specs.Live.{isLive, liveCount}
 use borrow.Author.Needs.{needs}
 use Rattle.equations.proofs.live.live_count.Statement.{statement}
 use Rattle.equations.proofs.live.live_count.Tie as tie
 
 abbrev Inv : tie.InvT-loop
-Inv live n k₀ i₀ k i = (k ≤ i) × (i ≤ n) × Left (countAt live) n i k (liveCount live n)
+Inv live n k₀ i₀ k i = (k ≤ i) × (i ≤ n) × Left (raise (isLive live)) n i k (liveCount live n)
 
 abbrev μ : tie.MeasureT-loop
 μ live n k₀ i₀ k i = n - i
