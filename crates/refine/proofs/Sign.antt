@@ -38,7 +38,8 @@ use Rattle.sentences.specs.Sentences.{refusal}
 use Rattle.lists.proofs.Laws.{Reached}
 use Rattle.refine.specs.declared.Levels.{Levels}
 use Rattle.refine.specs.Window.{windowOf}
-use Rattle.refine.specs.Refine.{sure, deglared, weighedAmount, added, addFit, refineOne, squareOf, levelsOf, gridOf, refined}
+use Rattle.places.specs.Places.{squareOf}
+use Rattle.refine.specs.Refine.{sure, deglared, weighedAmount, added, addFit, refineOne, levelsOf, gridOf, refined}
 use Rattle.refine.specs.Calls.{Request, Final, sentencesOf, refinedOf, refineOf}
 use Rattle.refine.specs.Sign.{KeepsSign, StepKeepsSign, CallKeepsSign}
 use Rattle.refine.proofs.Within.{Within, AmountWithin, amount-within, either}
