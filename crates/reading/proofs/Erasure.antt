@@ -1,7 +1,7 @@
 -- A score reads as 2 exactly where neither test holds; and turning its sign exchanges the two tests, since a comparison with zero looks at the sign and at whether there is a magnitude. Assumes nothing.
 use mathlib.Core.Path.{_≡_, refl, sym, ap, _∙_}
 use mathlib.Core.Bool.{Bool, true, false, cond}
-use Prim.Native.Nat.{ℕ, zero-le, _+_, _*_}
+use Prim.Native.Nat.{ℕ, zero-le, _+_, _*_, _≤_}
 use native.Mathlib.Nat.{zero-mul, add-zero}
 use native.Mathlib.Omega.{arith}
 use borrow.Author.Tests.{le-ltb}
@@ -10,6 +10,16 @@ use lib.IntN.{pos}
 use lib.Ieee.{Float, nan, inf, fin, up, down, lt, neg}
 use Rattle.reading.specs.Read.{reads}
 use Rattle.reading.specs.Erasure.{turned, NoSign, Erasures}
+
+-- what is read is 0, 1 or 2
+pub reads-most : (v : Float) → reads v ≤ 2
+unfolding reads
+reads-most v = by (lt v (fin false 0 (pos 0))) (lt (fin false 0 (pos 0)) v)
+  where
+    by : (b c : Bool) → cond b 1 (cond c 0 2) ≤ 2
+    by true c = omega arith
+    by false true = omega arith
+    by false false = omega arith
 
 erased : (v : Float) → NoSign v → reads v ≡ 2
 unfolding reads

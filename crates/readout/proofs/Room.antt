@@ -12,7 +12,7 @@ use lib.IntN.{ℤ, pos}
 use lib.Signed.{mag}
 use lib.ListN.{length, getD, set, length-replicate}
 use lib.Seq.{getD-set-same, getD-set-other, set-out}
-use lib.Ieee.{Float, nan, lt, fin, binary32, ofBits}
+use lib.Ieee.{Float, nan, binary32, ofBits}
 use Rattle.loops.proofs.Laws.{forUp-to}
 use Rattle.sentences.specs.Sentences.{Sentence, refusal, decided}
 use Rattle.limits.specs.Chroma.{symbolBits, chromaLength}
@@ -25,6 +25,7 @@ use Rattle.answers.specs.Answers.{outcomeNumber, ended, writtenOr}
 use Rattle.lists.specs.Lists.{replaceAt}
 use Rattle.modulate.specs.Score.{unmaskSentences, unmaskLumaOf}
 use Rattle.reading.specs.Read.{reads, readAt, readList, readSentences, readListOf}
+use Rattle.reading.proofs.Erasure.{reads-most}
 use Rattle.illum.specs.declared.IlluminationModel.{IlluminationModel}
 use Rattle.stats.specs.declared.ChannelStats.{ChannelStats}
 use Rattle.demod.specs.Call as scoring
@@ -111,15 +112,6 @@ after-in (suc k) next h g = line-in (suc k) (omega arith)
 abbrev Bits : List ℕ → Type 0
 Bits l = (i : ℕ) → getD l i 0 ≤ 2
 
-reads-bit : (v : Float) → reads v ≤ 2
-unfolding reads
-reads-bit v = by (lt v (fin false 0 (pos 0))) (lt (fin false 0 (pos 0)) v)
-  where
-    by : (b c : Bool) → cond b 1 (cond c 0 2) ≤ 2
-    by true c = omega arith
-    by false true = omega arith
-    by false false = omega arith
-
 set-bit : (l : List ℕ) (j x : ℕ) → x ≤ 2 → Bits l → Bits (set l j x)
 set-bit l j x h p i = by (eqb i j) refl (ltb j (length l)) refl
   where
@@ -136,7 +128,7 @@ no-bit (suc n) (suc i) = no-bit n i
 list-bits : (scores : List Float) (bits : List ℕ) → Bits bits → Bits (readList scores bits)
 list-bits scores bits p =
     forUp-to (λ n l. Bits l) (replaceAt 0 (readAt scores)) (length scores) 0 bits (omega arith) p
-    (λ j a b l q. set-bit l j (reads (getD scores j nan)) (reads-bit (getD scores j nan)) q)
+    (λ j a b l q. set-bit l j (reads (getD scores j nan)) (reads-most (getD scores j nan)) q)
 
 ended-bits : (k : ℕ) (before after : List ℕ) → Bits before → Bits after → Bits (decided k (λ n. ended (outcome.Refused n) before) (ended outcome.Done after) .list)
 unfolding decided
