@@ -1,4 +1,4 @@
--- What a fit comes to: the model that it gives always passes sentence 10, and its counts are 0 kept, or kept and rejected of all. Assumes nothing.
+-- What a fit comes to: the model that it gives always passes sentence 10, and its counts are 0 kept, or kept and rejected of all; rejected are never more than all. Assumes nothing.
 use mathlib.Core.Path.{_≡_, refl, ap, _∙_}
 use mathlib.Core.Logic.{_⊎_, inl, inr}
 use mathlib.Core.Bool.{Bool, true, false, cond}
@@ -25,15 +25,16 @@ use Rattle.fit.proofs.Shape.{pass-alike, pass-finite, counts-apart, cou
 pub record Sound (n : ℕ) (r : Modelled) : Type 0 where
   pub passes : r .number ≡ 0 → badModel (r .model) ≡ false
   pub all : r .number ≡ 0 → (r .model .kept ≡ 0) ⊎ (r .model .kept + r .model .rejected ≡ n)
+  pub few : r .number ≡ 0 → r .model .rejected ≤ n
 
 refused-sound : (n k : ℕ) (m : IlluminationModel) → Sound n (modelled (suc k) m)
-refused-sound n k m = record { passes = λ e. absurd (omega arith); all = λ e. absurd (omega arith) }
+refused-sound n k m = record { passes = λ e. absurd (omega arith); all = λ e. absurd (omega arith); few = λ e. absurd (omega arith) }
 
 -- pass two, from a model that passes and has 0 kept, over the live ones of n references
 module _ (first : IlluminationModel) (flat live : List Float) (n : ℕ) (h : badModel first ≡ false) (k : first .kept ≡ 0) (c : liveCount live n + first .rejected ≡ n) where
   concludes : (s b : Bool) → let p = passOf first flat live n in p .solved ≡ s → p .bad ≡ b
       → Sound n (cond s (cond b (refusedModel 11) (modelled 0 (withCounts (p .model) (p .model .rejected) (liveCount live n)))) (modelled 0 first))
-  concludes false b es eb = record { passes = λ e. h; all = λ e. inl k }
+  concludes false b es eb = record { passes = λ e. h; all = λ e. inl k; few = λ e. omega arith }
   concludes true true es eb = refused-sound n 10 noModel
   concludes true false es eb =
       let p = passOf first flat live n in
@@ -43,6 +44,7 @@ module _ (first : IlluminationModel) (flat live : List Float) (n : ℕ) (h : bad
             λ e. alike-passes first (withCounts (p .model) (p .model .rejected) (liveCount live n)) (a .terms) (a .side) h
             (counts-apart (p .model) (p .model .rejected) (liveCount live n) ∙ pass-finite first flat live n es eb);
         all = λ e. inr (ap (λ (j : ℕ). liveCount live n + j) (a .rejected) ∙ c);
+        few = λ e. omega (arith, a .rejected);
       }
 
   concluded-sound : Sound n (concluded first live n (passOf first flat live n))
@@ -56,10 +58,10 @@ refitted-sound m flat residuals n h k =
     concluded-sound (withCounts m (r .rejected) (m .kept)) flat (r .live) n (counts-pass m (r .rejected) (m .kept) h) k (each-counted residuals (limitOf residuals) n)
 
 -- pass one
-module _ (start : IlluminationModel) (flat : List Float) (n : ℕ) (h : badModel start ≡ false) (k : start .kept ≡ 0) where
+module _ (start : IlluminationModel) (flat : List Float) (n : ℕ) (h : badModel start ≡ false) (k : start .kept ≡ 0) (z : start .rejected ≡ 0) where
   begins : (s b : Bool) → let p = passOf start flat (allLive n) n in p .solved ≡ s → p .bad ≡ b
       → Sound n (cond s (cond b (ran (refusedModel 11) (allLive n)) (refitted (p .model) flat (residualsOf (p .model) flat n) (allLive n) n)) (ran (modelled 0 start) (allLive n)) .answer)
-  begins false b es eb = record { passes = λ e. h; all = λ e. inl k }
+  begins false b es eb = record { passes = λ e. h; all = λ e. inl k; few = λ e. omega arith }
   begins true true es eb = refused-sound n 10 noModel
   begins true false es eb =
       let p = passOf start flat (allLive n) n in
@@ -67,7 +69,7 @@ module _ (start : IlluminationModel) (flat : List Float) (n : ℕ) (h : badModel
       refitted-sound (p .model) flat (residualsOf (p .model) flat n) n (alike-passes start (p .model) (a .terms) (a .side) h (pass-finite start flat (allLive n) n es eb)) (a .kept ∙ k)
 
   few-or-more : (b : Bool) → Sound n (cond b (ran (modelled 0 start) (allLive n)) (firstPass start flat n (passOf start flat (allLive n) n)) .answer)
-  few-or-more true = record { passes = λ e. h; all = λ e. inl k }
+  few-or-more true = record { passes = λ e. h; all = λ e. inl k; few = λ e. omega arith }
   few-or-more false = begins (passOf start flat (allLive n) n .solved) (passOf start flat (allLive n) n .bad) refl refl
 
 start-passes : (side version : ℕ) → 1 ≤ side → side ≤ 1024 → badModel (unitModel side (termsFor version)) ≡ false
@@ -82,10 +84,14 @@ none-kept : (side terms : ℕ) → unitModel side terms .kept ≡ 0
 unfolding unitModel
 none-kept side terms = refl
 
+none-rejected : (side terms : ℕ) → unitModel side terms .rejected ≡ 0
+unfolding unitModel
+none-rejected side terms = refl
+
 fitted-sound : (flat : List Float) (n side version : ℕ) → 1 ≤ side → side ≤ 1024 → Sound n (fitted flat n side (termsFor version) .answer)
 unfolding fitted
 fitted-sound flat n side version l h =
-    few-or-more (unitModel side (termsFor version)) flat n (start-passes side version l h) (none-kept side (termsFor version)) (ltb n 8)
+    few-or-more (unitModel side (termsFor version)) flat n (start-passes side version l h) (none-kept side (termsFor version)) (none-rejected side (termsFor version)) (ltb n 8)
 
 by-number : (q : Request) (k : ℕ) → k ≡ refusal (sentencesOf q) → Sound (q .n) (decided k (turnedAway q) (done q) .answer)
 unfolding decided
@@ -94,7 +100,7 @@ by-number q zero e =
     fitted-sound (q .flat) (q .n) (q .side) (q .version) (a .side-least) (a .side-most)
 by-number q (suc k) e = refused-sound (q .n) k noModel
 
--- whatever a fit is handed: where it is accepted, its model passes sentence 10, and kept is 0, or kept + rejected is all
+-- whatever a fit is handed: where it is accepted, its model passes sentence 10, and kept is 0, or kept + rejected is all, and rejected is at most all
 pub fit-sound : (q : Request) → Sound (q .n) (fitOf q .answer)
 unfolding fitOf
 fit-sound q = by-number q (refusal (sentencesOf q)) refl

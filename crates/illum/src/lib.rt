@@ -533,8 +533,8 @@ pub fn not_finite(v: f32) -> bool
     not_finite_f64(float::widen(v))
 }
 
-// The terms are neither 4 nor 9.
-fn bad_terms(terms: usize) -> bool
+// Core: sentence 10, of a model's terms: they are neither 4 nor 9.
+pub fn bad_terms(terms: usize) -> bool
     ensures { λ r. ⌜ r ≡ badTerms terms ⌝ }
 {
     if terms == 4 {
