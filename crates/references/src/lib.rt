@@ -60,8 +60,8 @@ pub fn too_many(n: usize) -> bool
     16384 < n
 }
 
-// A coordinate is not a number from -16 to side + 16.
-fn bad_position(side: usize, v: f32) -> bool
+// Core: a coordinate is not a number from -16 to side + 16.
+pub fn bad_position(side: usize, v: f32) -> bool
     requires { ⌜ side ≤ 1024 ⌝ }
     ensures { λ r. ⌜ r ≡ spec.badPosition side v ⌝ }
 {
