@@ -78,8 +78,8 @@ pub fn widen(x: f32) -> f64
     std::num::f32_to_f64_with_nan(x)
 }
 
-// n / 2^k to the nearest whole number, a tie to the even one.
-fn round_shift(n: u64, k: u64) -> u64
+// Core: n / 2^k to the nearest whole number, a tie to the even one.
+pub fn round_shift(n: u64, k: u64) -> u64
     requires { ⌜ n < 2 ^ 63 ⌝ ∗ ⌜ 1 ≤ k ⌝ ∗ ⌜ k < 63 ⌝ }
     ensures { λ r. ⌜ r ≡ closest n (2 ^ k) ⌝ }
 {

@@ -120,6 +120,39 @@ closest-near a b B = go (compare (a % b * 2) b) (cmp (a % b * 2) b)
     go Ordering·eq c = tie (q % 2) (bit q) c
     go Ordering·gt c = omega (arith, is, few, suc-mul q b)
 
+-- q is the whole number nearest to a / b, a tie going to the even one: at most a half away, and even where it is a half
+pub record NearestWhole (a b q : ℕ) : Type 0 where
+  pub from-above : q * b * 2 ≤ a * 2 + b
+  pub from-below : a * 2 ≤ q * b * 2 + b
+  pub tie-above : q * b * 2 ≡ a * 2 + b → q % 2 ≡ 0
+  pub tie-below : a * 2 ≡ q * b * 2 + b → q % 2 ≡ 0
+
+-- and `closest`, by which every result is rounded, gives it
+pub closest-nearest : (a b : ℕ) → 0 < b → NearestWhole a b (closest a b)
+closest-nearest a b B =
+    record {
+      from-above = closest-near a b B .0;
+      from-below = closest-near a b B .1;
+      tie-above = above (compare (a % b * 2) b) (cmp (a % b * 2) b);
+      tie-below = below (compare (a % b * 2) b) (cmp (a % b * 2) b);
+    }
+  where
+    is : a / b * b + a % b ≡ a
+    is = div-add-mod' a b
+
+    even-up : (w : ℕ) → (w + w % 2) % 2 ≡ 0
+    even-up w = omega arith
+
+    above : (o : Ordering) → Cmp o (a % b * 2) b → nearest (a / b) o * b * 2 ≡ a * 2 + b → nearest (a / b) o % 2 ≡ 0
+    above Ordering·lt c e = absurd (omega (arith, is))
+    above Ordering·eq c e = even-up (a / b)
+    above Ordering·gt c e = absurd (omega (arith, is, suc-mul (a / b) b))
+
+    below : (o : Ordering) → Cmp o (a % b * 2) b → a * 2 ≡ nearest (a / b) o * b * 2 + b → nearest (a / b) o % 2 ≡ 0
+    below Ordering·lt c e = absurd (omega (arith, is))
+    below Ordering·eq c e = even-up (a / b)
+    below Ordering·gt c e = absurd (omega (arith, is, suc-mul (a / b) b, mod-lt a B))
+
 -- ---- n / 2 ^ k to the nearest whole number
 -- By one sum and one shift. n is w * u + r: half of u, less one, and one more where w is odd, carries into the quotient as `nearest` does.
 carry : (n h u w r p : ℕ) → 0 < h → u ≡ 2 * h → p ≡ w * u → p + r ≡ n → r < u → (o : Ordering) → Cmp o (r * 2) u
