@@ -25,6 +25,10 @@ weighted k = ltb 1 k
 unfoldable pub symbolBits : ℕ → ℕ
 symbolBits k = cond (chromaOn k) (log2 k) 0
 
+-- the classes that hues are told apart by: one a hue, and one in all with chroma off
+unfoldable pub hueClasses : ℕ → ℕ
+hueClasses k = cond (chromaOn k) k 1
+
 -- of m modules, of which g are grid modules, the others are ring modules; none where g exceeds m
 abbrev pub ringModules : ℕ → ℕ → ℕ
 ringModules m g = m - g

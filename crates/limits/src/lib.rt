@@ -5,7 +5,7 @@ ghost use Prim.Native.Nat.{_+_, _^_, _<_};
 ghost use lib.Dec.{ltb};
 ghost use lib.ListN.{length};
 ghost use Rattle.limits.specs.Limits.{badSide, badHues, badCellSize, badModules, badCounts, badCell, badCells};
-ghost use Rattle.limits.specs.Chroma.{log2, chromaOn, weighted, symbolBits, ringModules, chromaEntries, chromaLength};
+ghost use Rattle.limits.specs.Chroma.{log2, chromaOn, weighted, symbolBits, hueClasses, ringModules, chromaEntries, chromaLength};
 
 // ---- the sentences
 
@@ -131,6 +131,16 @@ pub fn symbol_bits(hues: usize) -> usize
         return log2(hues);
     }
     0
+}
+
+// Core: the classes that hues are told apart by: one a hue, and one in all with chroma off.
+pub fn hue_classes(hues: usize) -> usize
+    ensures { λ r. ⌜ r ≡ hueClasses hues ⌝ }
+{
+    if chroma_on(hues) {
+        return hues;
+    }
+    1
 }
 
 // Core: the modules that are listed after the grid modules; none where there are fewer modules than that.
