@@ -11,6 +11,7 @@ use lib.Dec.{T}
 use lib.IntN.{ℤ}
 use lib.ListN.{length, getD}
 use lib.Ieee.{Float, nan, binary32, neg, le, round}
+use Rattle.loops.proofs.Laws.{anyUp-none}
 use Rattle.sentences.specs.Sentences.{refusal, orElse, decided}
 use Rattle.sentences.proofs.Laws.{joined, neither}
 use Rattle.floatlaws.specs.Order.{le-trans, of-le, to-le}
@@ -30,7 +31,6 @@ use Rattle.reading.specs.Read.{readList, readSentences, readListOf}
 use Rattle.lists.proofs.Laws.{reached}
 use Rattle.stats.specs.Calls.{shortPalette, badNumbers, badSigmas}
 use Rattle.stats.proofs.Range.{Held}
-use Rattle.margin.proofs.Wider.{any-none}
 use Rattle.demod.proofs.Outcome.{IsDone, at-done}
 use Rattle.demod.proofs.Range.{luma-in, colour-tame}
 use Rattle.refine.specs.Refine.{squares, levelsOf, gridOf, refined}
@@ -74,7 +74,7 @@ component colours i (suc (suc zero)) h e = neither (wild (getD colours (3 * i + 
 component colours i (suc (suc (suc r))) h e = absurd (omega arith)
 
 colours-tame : (colours : List Float) (m : ℕ) → ((i : ℕ) → i < m → wildLinear (linearAt colours i) ≡ false) → wildIn colours (3 * m) ≡ false
-colours-tame colours m h = any-none (wildAt colours) (3 * m) (λ j l. at j l)
+colours-tame colours m h = anyUp-none (wildAt colours) (3 * m) (λ j l. at j l)
   where
     split : (j : ℕ) → j ≡ 3 * (j / 3) + j % 3
     split j = omega arith
@@ -135,7 +135,7 @@ module _ (s : Setting) (c : Card) (z : scoredCard s c .number ≡ 0) where
     numbers-tame =
         let i = facts .fit .inputs in
         no-or _ _ (colours-tame (scoredCard s c .colours) (length (s .xs)) (colour-tame (toScore s c) is-done))
-        (no-or _ _ (any-none (wildAt (scoredCard s c .luma)) (length (s .xs)) (λ j l. score-tame (getD (scoredCard s c .luma) j nan) (luma-in (toScore s c) held is-done j l))) (no-or _ _ (i .palette-tame) (i .noise-tame)))
+        (no-or _ _ (anyUp-none (wildAt (scoredCard s c .luma)) (length (s .xs)) (λ j l. score-tame (getD (scoredCard s c .luma) j nan) (luma-in (toScore s c) held is-done j l))) (no-or _ _ (i .palette-tame) (i .noise-tame)))
 
     refines : refinedCard s c ≡ refining.finalOf (refining.refinedOf (toRefine s c))
     refines =

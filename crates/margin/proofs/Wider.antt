@@ -1,15 +1,15 @@
 -- The margin check says yes at a lower threshold wherever it does at a higher one: a score that is at least the one is at least the other, and nothing else of the sentence has the threshold. So yes at 13
 -- gives yes at 9. Assumes nothing.
 use mathlib.Core.Path.{_≡_, refl, sym, ap}
-use mathlib.Core.Bool.{Bool, true, false, not, _&&_}
+use mathlib.Core.Bool.{Bool, true, not, _&&_}
 use mathlib.Core.List.{List}
-use Prim.Native.Nat.{ℕ, zero, suc, _+_, _-_, _≤_, _<_}
+use Prim.Native.Nat.{ℕ}
 use native.Mathlib.Omega.{arith}
 use lib.Dec.{T}
 use lib.Ieee.{Float, nan, inf, fin, binary32, neg, lt, le, eq, round, fits, isNan}
 use lib.Ieee.Fits.{div-fits}
 use lib.Ieee.Bits.{is-true}
-use Rattle.loops.specs.Loops.{someOf, anyUp}
+use Rattle.loops.proofs.Laws.{anyUp-none}
 use Rattle.answers.specs.Answers.{gives}
 use Rattle.answers.proofs.Answers.{given-none-holds, given-is, says-given}
 use Rattle.floatlaws.specs.Value.{Num}
@@ -28,18 +28,8 @@ use Rattle.margin.proofs.Clear.{each}
 
 -- ---- tests
 
-some-none : (k i : ℕ) (p : ℕ → Bool) → ((j : ℕ) → i ≤ j → j < i + k → p j ≡ false) → someOf k i p ≡ false
-unfolding someOf
-some-none zero i p h = refl
-some-none (suc k) i p h = rw (h i (omega arith) (omega arith)) (some-none k (suc i) p (λ j a b. h j (omega arith) (omega arith)))
-
--- where no element is bad, none is found
-pub any-none : (p : ℕ → Bool) (n : ℕ) → ((j : ℕ) → j < n → p j ≡ false) → anyUp 0 n p ≡ false
-unfolding anyUp
-any-none p n h = some-none (n - 0) 0 p (λ j a b. h j (omega arith))
-
 every-wider : (n : ℕ) (p q : ℕ → Bool) → ((i : ℕ) → p i ≡ true → q i ≡ true) → every 0 n p ≡ true → every 0 n q ≡ true
-every-wider n p q h e = ap not (any-none (failsAt q) n (λ j l. ap not (h j (each n p e j l))))
+every-wider n p q h e = ap not (anyUp-none (failsAt q) n (λ j l. ap not (h j (each n p e j l))))
 
 all : (a b : Bool) → a ≡ true → b ≡ true → a && b ≡ true
 all a b p q = rw (p, q)
