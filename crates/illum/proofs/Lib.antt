@@ -9,3 +9,4 @@ pub mod Rounded
 pub mod Shown
 pub mod Side
 pub mod Terms
+pub mod UnitModel

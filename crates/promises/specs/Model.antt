@@ -3,8 +3,7 @@ use mathlib.Core.Path.{_≡_}
 use mathlib.Core.Logic.{_⊎_}
 use mathlib.Core.Bool.{true, false}
 use Prim.Native.Nat.{ℕ, _+_, _≤_}
-use lib.IntN.{pos}
-use lib.Ieee.{Float, fin, binary32}
+use lib.Ieee.{Float, binary32}
 use Rattle.floatlaws.specs.Finite.{Fin}
 use Rattle.answers.specs.Answers.{gives}
 use Rattle.color.specs.declared.Linear.{Linear}
@@ -13,23 +12,13 @@ use Rattle.illum.specs.declared.IlluminationModel.{IlluminationModel}
 use Rattle.illum.specs.Correct.{corrected}
 use Rattle.illum.specs.Refusals.{badModel, identityOf, correctOf}
 use Rattle.illum.specs.Reach.{Typed, Placed, reachOf, isWithin}
+use Rattle.illum.specs.Returned.{ReturnedColour}
 use Rattle.fit.specs.Fit.{Request, fitOf}
 
 -- where the model's side is from 1 to 1,024 and its numbers from -8 to 8, the position from -side to 2 × side and each component of the colour from -256 to 256 (`isWithin` of `reachOf`), the
 -- corrected colour is finite and at most 1,048,576 in magnitude, as sentence 12 asks. Every number is a value of its format, f64 in the model and f32 elsewhere
 abbrev pub Moderate : Type 0
 Moderate = (m : IlluminationModel) (x y : Float) (c : Linear) → Typed m → Placed x y c → isWithin (reachOf m) x y c ≡ true → wildLinear (corrected m x y c .colour) ≡ false
-
--- what comes back for v is v itself, and +0 where v is -0
-pub record Returned (v back : Float) : Type 0 where
-  pub same : (v ≡ fin true 0 (pos 0) → ⊥) → back ≡ v
-  pub zero : v ≡ fin true 0 (pos 0) → back ≡ fin false 0 (pos 0)
-
--- of each component of a colour
-pub record ReturnedColour (c back : Linear) : Type 0 where
-  pub r : Returned (c .r) (back .r)
-  pub g : Returned (c .g) (back .g)
-  pub b : Returned (c .b) (back .b)
 
 -- the model of `identity`, of a side from 1 to 1,024: at a position of finite f32 values a colour of finite f32 components comes back, and `correct` answers it wherever the colour does not break sentence 8
 pub record IdentityReturns : Type 0 where
