@@ -377,6 +377,21 @@ unsafe extern "C" {
     ) -> u32;
     pub fn purdolve_read(score: f32) -> u8;
     pub fn purdolve_read_list(scores: *const f32, scores_len: usize, bits: *mut u8, bits_len: usize) -> u32;
+    pub fn purdolve_page(
+        side: usize,
+        terms: usize,
+        kept: u32,
+        rejected: u32,
+        xs: *const i32,
+        xs_len: usize,
+        ys: *const i32,
+        ys_len: usize,
+        grid: usize,
+        luma: *const f32,
+        luma_len: usize,
+        page: *mut u8,
+        page_len: usize,
+    ) -> u32;
     pub fn purdolve_grid_level(bit: u8, mask: u8, x: u16, y: u16) -> u8;
     pub fn purdolve_ring_level(bit: u8) -> u8;
     pub fn purdolve_symbol_of_bits(bits: *const u8, bits_len: usize, hues: usize) -> NumberAnswer;

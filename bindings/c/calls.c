@@ -432,6 +432,46 @@ static void stage(void) {
     CHECK(levels[0] == 0 && levels[1] == 1 && levels[2] == 7 && drawn[0] == 7);
 }
 
+static uint32_t page(size_t side, size_t terms, uint32_t kept, uint32_t rejected, size_t grid,
+                     const float *luma, uint8_t *out, size_t out_len) {
+    static const int32_t xs[] = {0, 1, 2, -6, 9, 1}, ys[] = {0, 2, 1, 0, 9, 2};
+    return purdolve_page(side, terms, kept, rejected, xs, 6, ys, 6, grid, luma, 6, out, out_len);
+}
+
+static void door(void) {
+#define BLANK "            "
+    static const char wanted[] = "         4         9     16384        12\n"
+                                 "1..." BLANK BLANK BLANK "\n"
+                                 "..0." BLANK BLANK BLANK "\n"
+                                 ".2.." BLANK BLANK BLANK "\n"
+                                 "...." BLANK BLANK BLANK "\n";
+    const float luma[6] = {-20, 20, 20, 1, 1, NAN};
+    static uint8_t out[PURDOLVE_PAGE_LENGTH(1024)];
+    memset(out, 7, sizeof out);
+    CHECK(PURDOLVE_PAGE_LENGTH(4) == sizeof wanted - 1);
+    CHECK(PURDOLVE_PAGE_LENGTH(40) == PURDOLVE_PAGE_ROOM);
+    CHECK(page(0, 9, 0, 0, 1, luma, out, 300) == PURDOLVE_REFUSED_SIDE);
+    CHECK(page(4, 9, 0, 0, 1, luma, out, 204) == PURDOLVE_REFUSED_LENGTH);
+    CHECK(page(4, 9, 0, 0, 7, luma, out, 300) == PURDOLVE_REFUSED_COUNT);
+    CHECK(page(4, 9, 16385, 0, 1, luma, out, 300) == PURDOLVE_REFUSED_COUNT);
+    CHECK(page(4, 9, 0, 16385, 6, luma, out, 300) == PURDOLVE_REFUSED_COUNT);
+    CHECK(page(4, 5, 0, 0, 4, luma, out, 300) == PURDOLVE_REFUSED_PLACE);
+    CHECK(page(41, 5, 0, 0, 1, luma, out, 1722) == PURDOLVE_REFUSED_MODEL);
+    CHECK(page(41, 9, 0, 0, 1, luma, out, 1721) == PURDOLVE_REFUSED_LENGTH);
+    CHECK(page(41, 9, 0, 0, 1, luma, out, 1722) == PURDOLVE_REFUSED_PAGE);
+    CHECK(page(1024, 9, 0, 0, 1, luma, out, sizeof out) == PURDOLVE_REFUSED_PAGE);
+    size_t untouched = 0;
+    while (untouched < sizeof out && out[untouched] == 7) {
+        untouched++;
+    }
+    CHECK(untouched == sizeof out);
+    CHECK(page(4, 9, 16384, 12, 1, luma, out, 300) == 0);
+    CHECK(memcmp(out, wanted, sizeof wanted - 1) == 0);
+    CHECK(out[sizeof wanted - 1] == 7 && out[299] == 7);
+    CHECK(page(40, 4, 0, 0, 1, luma, out, PURDOLVE_PAGE_ROOM) == 0 && out[1680] == '\n');
+    CHECK(out[1681] == 7);
+}
+
 int main(void) {
     floats();
     systems();
@@ -445,6 +485,7 @@ int main(void) {
     records();
     card_file();
     stage();
+    door();
     printf("%d checks, %d failed\n", checked, failed);
     return failed != 0;
 }

@@ -72,7 +72,9 @@ enum purdolve_refusal {
     PURDOLVE_REFUSED_FIT = 11,
     /* A corrected colour of a module, cell or measured reference is not finite or has magnitude
        above 1,048,576. */
-    PURDOLVE_REFUSED_CORRECTED = 12
+    PURDOLVE_REFUSED_CORRECTED = 12,
+    /* The side is above 40 where a page is laid out. */
+    PURDOLVE_REFUSED_PAGE = 14
 };
 /* end of docs/refusals.txt */
 
@@ -313,6 +315,24 @@ uint8_t purdolve_read(float score);
 
 /* The bit of each score, or 2. bits needs scores. refused: 5 */
 uint32_t purdolve_read_list(const float *scores, size_t scores_len, uint8_t *bits, size_t bits_len);
+
+/*
+ * Lays a read card out as a page of text, from its unmasked luma scores (needs modules). Line one
+ * gives the side, a model's terms, and how many references it kept and rejected, each right-aligned
+ * in ten columns. Below it stands every row of the grid, y from 0 down, one column a module: 0, 1
+ * or 2 as purdolve_read reads its score, or a dot where no listed module stands; of several modules
+ * at one position the last shows. Each line is padded to 40 columns and ends in one line feed.
+ * Nothing ends the text but its length, PURDOLVE_PAGE_LENGTH(side), which page needs;
+ * PURDOLVE_PAGE_ROOM bytes are room for every page.
+ * terms, kept and rejected as purdolve_fit_flat gives them are never refused.
+ * refused: 2, 5, 6 (kept or rejected above 16,384 too), 7, 10 (of terms), 14
+ */
+#define PURDOLVE_PAGE_LENGTH(side) (41 * ((size_t)(side) + 1))
+#define PURDOLVE_PAGE_ROOM 1681
+uint32_t purdolve_page(size_t side, size_t terms, uint32_t kept, uint32_t rejected,
+                       const int32_t *xs, size_t xs_len, const int32_t *ys, size_t ys_len,
+                       size_t grid, const float *luma, size_t luma_len, uint8_t *page,
+                       size_t page_len);
 
 /*
  * Reads a card from its raw colours in one call: makes the calls purdolve_score,

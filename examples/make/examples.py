@@ -1,5 +1,5 @@
 #!/usr/bin/env python3
-"""Makes every example of the folder again: card files, and what the oracle's reader lists for them.
+"""Makes every example of the folder again: card files, what the oracle's reader lists for them, and pages.
 
     python3 examples/make/examples.py           writes them
     python3 examples/make/examples.py --check   compares them with the stored ones
@@ -82,6 +82,8 @@ def examples():
         put(drawn.file(), data % (name, "card"), data % (name, "txt"))
         made["examples/%s.drawn" % name] = lines.encode()
     put(erasures().file(), data % ("erasures", "card"), data % ("erasures", "txt"))
+    for name in ("four-hues", "erasures"):
+        made["examples/%s.page" % name] = oracle("page", made[data % (name, "card")])
     made["examples/glare.unrefined.txt"] = oracle("unrefined", made[data % ("glare", "card")])
     for number, file in refused():
         name = "refused-%d" % number

@@ -7,5 +7,6 @@ pub mod illum;
 pub mod math;
 pub mod measure;
 pub mod modulate;
+pub mod page;
 pub mod refine;
 pub mod stats;

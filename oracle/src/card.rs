@@ -3,6 +3,7 @@ use crate::calls::demod::{Scoring, score};
 use crate::calls::illum::{Model, fit};
 use crate::calls::measure::{Measuring, measure};
 use crate::calls::modulate::{bits_a_cell, read, unmask_luma};
+use crate::calls::page::{self, Laying};
 use crate::calls::refine::{Refining, refine};
 use crate::calls::stats::ChannelStats;
 use std::fmt::Write;
@@ -174,6 +175,18 @@ impl Card {
         Ok(text)
     }
 
+    /// The page for the panel door, or the number of the first call refused.
+    pub fn page(&self) -> Result<String, u32> {
+        let (scoring, mut luma, _) = self.scored(true)?;
+        let (side, grid, model) = (scoring.side, scoring.grid, &scoring.model);
+        unmask_luma(&mut luma, side, &self.xs, &self.ys, grid, self.mask)?;
+        let mut out = vec![0; 41 * (side + 1)];
+        let (xs, ys) = (self.xs.clone(), self.ys.clone());
+        let (terms, kept, rejected) = (model.terms, model.kept, model.rejected);
+        page::page(&Laying { side, terms, kept, rejected, xs, ys, grid, luma }, &mut out)?;
+        Ok(String::from_utf8_lossy(&out).into_owned())
+    }
+
     /// The card as scoring takes it.
     fn scoring(&self, model: Model, stats: ChannelStats) -> Scoring {
         Scoring {
@@ -211,4 +224,10 @@ pub fn readcard(file: &[u8]) -> String {
 /// The same with the scores that scoring left, so that one sees what refinement changed.
 pub fn unrefined(file: &[u8]) -> String {
     listed(file, false)
+}
+
+/// The page of a file for the panel door, or one line `refused N`.
+pub fn page(file: &[u8]) -> String {
+    let page = Card::parse(file).ok_or(1).and_then(|card| card.page());
+    page.unwrap_or_else(|number| format!("refused {number}\n"))
 }

@@ -9,6 +9,7 @@ mod illum;
 mod math;
 mod measure;
 mod modulate;
+mod page;
 mod private;
 mod records;
 mod refine;
@@ -34,6 +35,7 @@ pub const KINDS: &[Kind] = &[
     math::KIND,
     color::KIND,
     modulate::KIND,
+    page::KIND,
     illum::KIND,
     stats::KIND,
     measure::KIND,

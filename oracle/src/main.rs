@@ -1,5 +1,5 @@
 //! The oracle as a program; `oracle help` says what it does.
-use oracle::card::{Card, make, readcard, unrefined};
+use oracle::card::{Card, make, page, readcard, unrefined};
 use oracle::compare::compare;
 use oracle::exact;
 use oracle::lists::KINDS;
@@ -13,6 +13,7 @@ oracle list NAME               the stored list NAME to standard output
 oracle many NAME COUNT [SEED]  COUNT random records of the kinds of NAME, without a header
 oracle readcard                a card file on standard input to its listing, or `refused N`
 oracle unrefined               the same without refinement: what it would be read as
+oracle page                    the page of a card file for the panel door, or `refused N`
 oracle cards FOLDER COUNT SEED card files FOLDER/0.card .., with their listings beside them (.txt)
 oracle listings COUNT SEED     the listings of as many cards to standard output, one after the other
 oracle whole COUNT SEED        on as many cards, scoring and then refining is the Rust's `demodulate` with its last call
@@ -31,11 +32,15 @@ fn main() {
         ["list", name] => kind(name).stored(&mut to),
         ["many", name, count] => kind(name).randoms(&mut List::new(&mut to), number(count), 0),
         ["many", name, count, seed] => kind(name).randoms(&mut List::new(&mut to), number(count), number(seed) as u64),
-        ["readcard" | "unrefined"] => {
+        ["readcard" | "unrefined" | "page"] => {
             let mut file = Vec::new();
             std::io::stdin().take(16_385).read_to_end(&mut file).expect("standard input");
-            let listing = if words[0] == "readcard" { readcard(&file) } else { unrefined(&file) };
-            to.write_all(listing.as_bytes()).expect("standard output");
+            let text = match words[0] {
+                "readcard" => readcard(&file),
+                "unrefined" => unrefined(&file),
+                _ => page(&file),
+            };
+            to.write_all(text.as_bytes()).expect("standard output");
         }
         ["cards", folder, count, seed] => {
             let mut rng = Rng::new(number(seed) as u64);

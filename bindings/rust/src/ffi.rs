@@ -226,6 +226,21 @@ unsafe extern "C" {
         mask: u8,
     ) -> u32;
     fn purdolve_read_list(scores: *const f32, scores_len: usize, bits: *mut u8, bits_len: usize) -> u32;
+    fn purdolve_page(
+        side: usize,
+        terms: usize,
+        kept: u32,
+        rejected: u32,
+        xs: *const i32,
+        xs_len: usize,
+        ys: *const i32,
+        ys_len: usize,
+        grid: usize,
+        luma: *const f32,
+        luma_len: usize,
+        page: *mut u8,
+        page_len: usize,
+    ) -> u32;
     fn purdolve_symbol_of_bits(bits: *const u8, bits_len: usize, hues: usize) -> NumberAnswer;
     fn purdolve_draw(
         bits: *const u8,
@@ -456,6 +471,26 @@ pub fn unmask_luma(luma: &mut [f32], places: &Places, mask: u8) -> u32 {
 
 pub fn read_list(scores: &[f32], bits: &mut [u8]) -> u32 {
     unsafe { purdolve_read_list(scores.as_ptr(), scores.len(), bits.as_mut_ptr(), bits.len()) }
+}
+
+pub fn page(places: &Places, illum: &IlluminationModel, luma: &[f32], page: &mut [u8]) -> u32 {
+    unsafe {
+        purdolve_page(
+            places.side,
+            illum.terms(),
+            illum.kept,
+            illum.rejected,
+            places.xs.as_ptr(),
+            places.xs.len(),
+            places.ys.as_ptr(),
+            places.ys.len(),
+            places.grid,
+            luma.as_ptr(),
+            luma.len(),
+            page.as_mut_ptr(),
+            page.len(),
+        )
+    }
 }
 
 pub fn symbol_of_bits(bits: &[u8], hues: usize) -> NumberAnswer {

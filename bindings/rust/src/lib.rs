@@ -18,6 +18,7 @@
 //! | `add_local_luma(luma, at, side, palette, stats, chroma)` | the same without `chroma` |
 //! | `unmask_luma(llrs, layout, mask)` | the same, a `Result` |
 //! | - | `read_bits(raw, layout, palette, illum, stats, mask)`: all of these calls in one, and the bits read |
+//! | - | `page(luma, layout, illum)`: the read card as a page of text |
 //! | `lcr_core::palette::Palette`, `lcr_core::layout::Layout` | [`palette::Palette`], [`layout::Layout`]: the fields that the stage reads |
 //! | `solve`, `least_squares`, `chroma_bit_llrs`, rotations, symbols | the same, each a `Result` |
 //! | colours, `median`, `mad_sigma`, `gray`, `luma_mask` | the same |
@@ -69,6 +70,7 @@ pub mod layout;
 pub mod mask;
 pub mod math;
 pub mod modulate;
+pub mod page;
 pub mod palette;
 pub mod readcard;
 mod refusal;

@@ -71,6 +71,7 @@ refusals! {
     Fit = 11, "After a pass of `fit`, a number of the model or a reference's residual is not finite.";
     Corrected = 12, "A corrected colour of a module, cell or measured reference is not finite or has magnitude above \
         1,048,576.";
+    Page = 14, "The side is above 40 where a page is laid out.";
 }
 // end of docs/refusals.txt
 

@@ -8,6 +8,7 @@ use purdolve::illum::{IlluminationModel, Reference};
 use purdolve::layout::Layout;
 use purdolve::math::{NormalEquations, least_squares, solve};
 use purdolve::modulate::{chroma_bit_llrs, draw};
+use purdolve::page::page;
 use purdolve::palette::Palette;
 use purdolve::readcard::read_card;
 use purdolve::{mask, symbol};
@@ -178,6 +179,22 @@ fn corrected() {
     let raw = RawColours { modules: &[Linear::new(100.0, 100.0, 100.0); 2], cells: &[] };
     let scores = demodulate(raw, &two_modules(), &black_and_white(), &model, &noise());
     assert_eq!(scores.unwrap_err(), Refusal::Corrected);
+}
+
+#[test]
+fn wide_page() -> Result<(), Refusal> {
+    let at = |side| Layout { side, payload: vec![(0, 0), (1, 0), (0, 0)], ..Layout::default() };
+    let model = IlluminationModel::identity(40)?;
+    let text = page(&[1.0, f32::NAN, -1.0], &at(40), &model)?;
+    assert_eq!(text.len(), 41 * 41);
+    assert_eq!(text.lines().nth(1), Some("12......................................"));
+    assert_eq!(page(&[1.0; 3], &at(41), &model), Err(Refusal::Page));
+    assert_eq!(page(&[1.0; 2], &at(41), &model), Err(Refusal::Length));
+    assert_eq!(page(&[1.0; 3], &at(1), &model), Err(Refusal::Place));
+    let mut many = model;
+    many.kept = 16_385;
+    assert_eq!(page(&[1.0; 3], &at(41), &many), Err(Refusal::Count));
+    Ok(())
 }
 
 #[test]

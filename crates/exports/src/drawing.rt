@@ -1,4 +1,5 @@
-// What stands between a card's bits and its colours: Gray code, masks, bit scores, drawing, unmasking and reading.
+// What stands between a card's bits and its colours: Gray code, masks, bit scores, drawing, unmasking, reading, and a read card's
+// page.
 ghost use mathlib.Core.Path.{_≡_};
 ghost use Rattle.limits.specs.Chroma as symbols;
 ghost use Rattle.answers.specs.Answers as told;
@@ -7,6 +8,7 @@ ghost use Rattle.symbols.specs.Gray as gray_code;
 ghost use Rattle.symbols.specs.Mask as masks;
 ghost use Rattle.reading.specs.Read as reading;
 ghost use Rattle.modulate.specs.Score as scores;
+ghost use Rattle.page.specs.Calls as page_call;
 ghost use Rattle.exports.specs.Replies as spec;
 ghost use Rattle.exports.specs.Exits as exits;
 ghost use Rattle.exports.specs.Layouts.{layout};
@@ -140,6 +142,26 @@ pub extern "C" fn purdolve_read_list(scores: &[f32], bits: &mut [u8]) -> u32
     ensures { λ r. ⌜ exits.exit1 r (now (bits .exit)) ≡ exits.writeExit (reading.readListOf (now (scores .entry)) (now (bits .entry))) ⌝ }
 {
     answers::outcome_number(reading::read_list(scores, bits))
+}
+
+// Lays a read card out as a page of text, from its unmasked luma scores: side + 1 lines of 40 columns and a line feed, at the front
+// of `out`. Answers document 01's number. Refused: 2, 5 (fewer than 41 × (side + 1) bytes too), 6 (a count above 16,384 too), 7, 10,
+// 14 (the side is above 40); nothing is written then.
+#[no_mangle]
+pub extern "C" fn purdolve_page(
+    side: usize,
+    terms: usize,
+    kept: u32,
+    rejected: u32,
+    xs: &[i32],
+    ys: &[i32],
+    grid: usize,
+    luma: &[f32],
+    out: &mut [u8],
+) -> u32
+    ensures { λ r. ⌜ exits.exit1 r (now (out .exit)) ≡ exits.writeExit (page_call.pageOf (page_call.request side terms kept rejected (now (xs .entry)) (now (ys .entry)) grid (now (luma .entry)) (now (out .entry)))) ⌝ }
+{
+    answers::outcome_number(page::page(side, terms, kept, rejected, xs, ys, grid, luma, out))
 }
 
 // The level of a grid module, 1 for light: its bit, other than 0 for 1, turned where the mask turns it.

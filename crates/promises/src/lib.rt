@@ -19,6 +19,8 @@ ghost use Rattle.promises.specs.Noise.{ReliabilityRange, LumaLlrRange, M
 ghost use Rattle.promises.specs.Scores.{ScoresInRange, ScoringAnswers};
 ghost use Rattle.promises.specs.Window.{WindowInCoordinates};
 ghost use Rattle.refine.specs.Sign.{StepKeepsSign, CallKeepsSign};
+ghost use Rattle.page.specs.Laws.{Pages};
+ghost use Rattle.promises.specs.Door.{FittedOnPages};
 ghost use Rattle.promises.specs.Reading.{AcceptedIsListed, RoomForAll};
 
 // ---- the crate guarantee: whole cards (the read guarantee itself is the contract of `bits::read_bits`)
@@ -237,6 +239,22 @@ pub fn window_in_coordinates()
 // call's list, refused calls too.
 pub fn signs_kept()
     ensures { λ _. ⌜ StepKeepsSign × CallKeepsSign ⌝ }
+{}
+
+// ---- the crate page
+
+// What every call of `page` leaves, byte by byte. Accepted: side + 1 lines, each of 40 columns and then its only line feed;
+// the digits of the side, the terms, kept and rejected, each number's last one in its tenth column, with spaces before the
+// first; on each square of the grid how the last module that is listed there reads, or a dot where none is; and the rest
+// of the slice as it was. Refused: the whole slice as it was.
+pub fn every_page()
+    ensures { λ _. ⌜ Pages ⌝ }
+{}
+
+// The terms, kept and rejected of the model of an accepted fit never meet sentence 10 or 6 of `page`: the terms are 4 or 9,
+// and both counts at most 16,384.
+pub fn fitted_models_on_pages()
+    ensures { λ _. ⌜ FittedOnPages ⌝ }
 {}
 
 // ---- the crates bits, readout and reader

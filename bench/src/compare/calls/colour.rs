@@ -115,6 +115,7 @@ fn lists(t: &mut Record) -> bool {
         "chroma_bit_llrs" => chroma_bit_llrs(t),
         "unmask_luma" => unmask_luma(t),
         "read_list" => read_list(t),
+        "page" => page(t),
         "draw" => draw(t),
         _ => return false,
     }
@@ -166,6 +167,39 @@ fn read_list(t: &mut Record) {
         same &= bits.untouched();
     }
     same &= bits.is(&t.answer.bytes(), scores.len());
+    t.add(r, same);
+}
+
+fn page(t: &mut Record) {
+    let i = &mut t.inputs;
+    let (side, terms, kept, rejected) = (i.count(), i.count(), i.count() as u32, i.count() as u32);
+    let (xs, ys) = (Lent::new(i.places()), Lent::new(i.places()));
+    let grid = i.count();
+    let luma = Lent::new(i.singles());
+    let (lent, fill) = (i.count(), i.byte());
+    let mut out = Lent::new(vec![fill; lent]);
+    let r = unsafe {
+        purdolve_page(
+            side,
+            terms,
+            kept,
+            rejected,
+            xs.ptr(),
+            xs.len(),
+            ys.ptr(),
+            ys.len(),
+            grid,
+            luma.ptr(),
+            luma.len(),
+            out.ptr_mut(),
+            out.len(),
+        )
+    };
+    let mut same = r as u64 == t.answer.word() && xs.untouched() && ys.untouched() && luma.untouched();
+    if r != 0 {
+        same &= out.untouched();
+    }
+    same &= out.is(&t.answer.bytes(), if r == 0 { 41 * (side + 1) } else { 0 });
     t.add(r, same);
 }
 
