@@ -117,6 +117,28 @@ pub struct NoiseAnswer {
     pub noise: Stats,
 }
 
+/// Cards, modules, undecided, under 12, sum.
+#[repr(C)]
+#[derive(Clone, Copy, Debug)]
+pub struct Totals {
+    pub fields: [u64; 5],
+}
+
+#[repr(C)]
+#[derive(Clone, Copy, Debug)]
+pub struct TotalsAnswer {
+    pub number: u32,
+    pub totals: Totals,
+}
+
+#[repr(C)]
+#[derive(Clone, Copy, Debug)]
+pub struct RatioAnswer {
+    pub number: u32,
+    pub numerator: u64,
+    pub denominator: u64,
+}
+
 #[repr(C)]
 #[derive(Clone, Copy, Debug)]
 pub struct NumberAnswer {
@@ -438,6 +460,9 @@ unsafe extern "C" {
         out: *mut f32,
         out_len: usize,
     ) -> u32;
+    pub fn purdolve_add_card(totals: Totals, luma: *const f32, luma_len: usize) -> TotalsAnswer;
+    pub fn purdolve_add_totals(a: Totals, b: Totals) -> TotalsAnswer;
+    pub fn purdolve_mean(totals: Totals) -> RatioAnswer;
     pub fn purdolve_margin(noise: Stats, palette: *const f32, palette_len: usize, hues: usize) -> FlagAnswer;
     pub fn purdolve_margin_at(
         nine: bool,

@@ -472,6 +472,47 @@ static void door(void) {
     CHECK(out[1681] == 7);
 }
 
+static bool same_totals(purdolve_totals t, uint64_t cards, uint64_t modules, uint64_t undecided,
+                        uint64_t under, uint64_t sum) {
+    return t.cards == cards && t.modules == modules && t.undecided == undecided &&
+           t.under == under && t.sum == sum;
+}
+
+static void totals(void) {
+    static float many[1048577];
+    float luma[5] = {0.0f, -12.0f, 11.0f, 2.5f / 65536, 20.0f}, bad[2] = {1.0f, 20.000002f};
+    purdolve_totals none = purdolve_empty_totals(), t, full = {65535, 0, 0, 0, 0};
+    CHECK(same_totals(none, 0, 0, 0, 0, 0));
+    purdolve_totals_answer a = purdolve_add_card(none, luma, 5);
+    CHECK(a.number == 0 && same_totals(a.totals, 1, 5, 1, 3, 43 * 65536 + 2));
+    t = a.totals;
+    a = purdolve_add_card(t, bad, 2);
+    CHECK(a.number == PURDOLVE_REFUSED_SCORE && same_totals(a.totals, 0, 0, 0, 0, 0));
+    bad[1] = NAN;
+    CHECK(purdolve_add_card(t, bad, 2).number == PURDOLVE_REFUSED_SCORE);
+    CHECK(purdolve_add_card(full, bad, 2).number == PURDOLVE_REFUSED_TOTALS);
+    CHECK(purdolve_add_card(full, many, 1048577).number == PURDOLVE_REFUSED_COUNT);
+    a = purdolve_add_card(none, many, 1048576);
+    CHECK(a.number == 0 && same_totals(a.totals, 1, 1048576, 1048576, 1048576, 0));
+    CHECK(purdolve_add_card(t, bad, 0).totals.cards == 2);
+
+    a = purdolve_add_totals(t, a.totals);
+    CHECK(a.number == 0 && same_totals(a.totals, 2, 1048581, 1048577, 1048579, 43 * 65536 + 2));
+    CHECK(purdolve_add_totals(full, none).number == 0);
+    CHECK(purdolve_add_totals(full, t).number == PURDOLVE_REFUSED_TOTALS);
+    t.under = 6;
+    CHECK(purdolve_add_totals(none, t).number == PURDOLVE_REFUSED_TOTALS);
+
+    purdolve_totals six = {1, 6, 0, 6, 3};
+    purdolve_ratio_answer m = purdolve_mean(six);
+    CHECK(m.number == 0 && m.ratio.numerator == 1 && m.ratio.denominator == 2);
+    m = purdolve_mean(none);
+    CHECK(m.number == 0 && m.ratio.numerator == 0 && m.ratio.denominator == 1);
+    m = purdolve_mean(t);
+    CHECK(m.number == PURDOLVE_REFUSED_TOTALS && m.ratio.numerator == 0 &&
+          m.ratio.denominator == 0);
+}
+
 int main(void) {
     floats();
     systems();
@@ -486,6 +527,7 @@ int main(void) {
     card_file();
     stage();
     door();
+    totals();
     printf("%d checks, %d failed\n", checked, failed);
     return failed != 0;
 }

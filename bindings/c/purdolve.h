@@ -74,7 +74,12 @@ enum purdolve_refusal {
        above 1,048,576. */
     PURDOLVE_REFUSED_CORRECTED = 12,
     /* The side is above 40 where a page is laid out. */
-    PURDOLVE_REFUSED_PAGE = 14
+    PURDOLVE_REFUSED_PAGE = 14,
+    /* Totals have more than 65,535 cards, or would have with what is added, more than 1,048,576
+       modules a card, a count above their modules, or a sum above 1,310,720 a module. */
+    PURDOLVE_REFUSED_TOTALS = 18,
+    /* A score that is added to totals is NaN or above 20 in magnitude. */
+    PURDOLVE_REFUSED_SCORE = 19
 };
 /* end of docs/refusals.txt */
 
@@ -166,6 +171,29 @@ typedef struct {
     purdolve_channel_stats noise;
 } purdolve_noise_answer;
 
+/* What a batch of cards adds up to. */
+typedef struct {
+    uint64_t cards;
+    uint64_t modules;
+    uint64_t undecided; /* modules whose score reads as 2 */
+    uint64_t under;     /* modules whose score's magnitude is under 12 */
+    uint64_t sum;       /* of the magnitudes, each in whole 65,536ths */
+} purdolve_totals;
+
+typedef struct {
+    uint64_t numerator, denominator;
+} purdolve_ratio;
+
+typedef struct {
+    uint32_t number;
+    purdolve_totals totals;
+} purdolve_totals_answer;
+
+typedef struct {
+    uint32_t number;
+    purdolve_ratio ratio;
+} purdolve_ratio_answer;
+
 /* The library was built for these sizes. */
 PURDOLVE_ASSERT(sizeof(size_t) == 8 && sizeof(bool) == 1);
 PURDOLVE_ASSERT(sizeof(float) == 4 && sizeof(double) == 8);
@@ -186,6 +214,10 @@ PURDOLVE_ASSERT(sizeof(purdolve_linear_answer) == 16);
 PURDOLVE_ASSERT(sizeof(purdolve_modelled) == 560);
 PURDOLVE_ASSERT(offsetof(purdolve_modelled, model) == 8);
 PURDOLVE_ASSERT(sizeof(purdolve_noise_answer) == 32);
+PURDOLVE_ASSERT(sizeof(purdolve_totals) == 40);
+PURDOLVE_ASSERT(sizeof(purdolve_ratio) == 16);
+PURDOLVE_ASSERT(sizeof(purdolve_totals_answer) == 48);
+PURDOLVE_ASSERT(sizeof(purdolve_ratio_answer) == 24);
 
 /* ---- The stage, in the order in which a card goes through it ----------------------------- */
 
@@ -383,6 +415,30 @@ purdolve_noise_answer purdolve_measure(const purdolve_reference *refs, size_t re
  */
 #define PURDOLVE_LISTING_ROOM 101047
 size_t purdolve_read_card(const uint8_t *file, size_t file_len, uint8_t *out, size_t out_len);
+
+/* ---- Totals over a season's cards -------------------------------------------------------- */
+
+/* The totals of no card, all zero. */
+purdolve_totals purdolve_empty_totals(void);
+
+/*
+ * A card added to totals, by its refined luma scores, one a module: what purdolve_add_local_luma
+ * left. Unmasking makes no difference, since only magnitudes count. luma is read whole: its length is
+ * the card's number of modules.
+ * refused: 6, 18, 19
+ */
+purdolve_totals_answer purdolve_add_card(purdolve_totals totals, const float *luma,
+                                         size_t luma_len);
+
+/* The totals of two batches added. refused: 18 */
+purdolve_totals_answer purdolve_add_totals(purdolve_totals a, purdolve_totals b);
+
+/*
+ * The mean magnitude of a score in 65,536ths: sum over modules, as two whole numbers without common
+ * factor, and 0 over 1 with no modules.
+ * refused: 18
+ */
+purdolve_ratio_answer purdolve_mean(purdolve_totals totals);
 
 /* ---- Drawing, masks and Gray code -------------------------------------------------------- */
 

@@ -7,10 +7,12 @@
 The oracle must be built (oracle/build). The files that the gate replays lie with the programs that do so
 (crates/readcard, crates/card_vectors/data), and examples/ has links to them.
 """
+import math
 import os
 import struct
 import subprocess
 import sys
+from fractions import Fraction
 
 sys.dont_write_bytecode = True
 import card
@@ -68,6 +70,18 @@ def oracle(call, file):
     return subprocess.run([ORACLE, call], input=file, stdout=subprocess.PIPE, check=True).stdout
 
 
+def season(listings):
+    """The totals of all cards that were read, from their listings, in whole numbers."""
+    read = [text for text in listings if not text.startswith("refused")]
+    words = [line.split()[3] for text in read for line in text.splitlines() if line.startswith("L ")]
+    scores = [abs(struct.unpack(">f", bytes.fromhex(word))[0]) for word in words]
+    undecided, under = sum(v == 0 for v in scores), sum(v < 12 for v in scores)
+    parts = sum(round(65536 * Fraction(v)) for v in scores)  # a tie to the even one
+    most = math.gcd(parts, len(scores))
+    counts = (len(read), len(scores), undecided, under, parts, parts // most, len(scores) // most, len(listings) - len(read))
+    return "cards %d\nmodules %d\nundecided %d\nunder 12 %d\nsum %d\nmean %d/%d\nleft out %d\n" % counts
+
+
 def examples():
     """Every stored file, by its path."""
     made = {}
@@ -88,6 +102,8 @@ def examples():
     for number, file in refused():
         name = "refused-%d" % number
         put(file, data % (name, "card"), data % (name, "txt"))
+    listings = [text.decode() for path, text in made.items() if path.endswith((".txt", "stdout")) and "unrefined" not in path]
+    made["examples/season.txt"] = season(listings).encode()
     return made
 
 

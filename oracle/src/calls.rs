@@ -10,3 +10,4 @@ pub mod modulate;
 pub mod page;
 pub mod refine;
 pub mod stats;
+pub mod totals;

@@ -14,6 +14,7 @@ mod private;
 mod records;
 mod refine;
 mod stats;
+mod totals;
 mod whole;
 
 /// How one list is made.
@@ -43,6 +44,7 @@ pub const KINDS: &[Kind] = &[
     demod::KIND,
     refine::KIND,
     whole::KIND,
+    totals::KIND,
     private::KIND,
 ];
 

@@ -7,6 +7,7 @@ use crate::words::Words;
 mod colour;
 mod floor;
 mod stage;
+mod totals;
 
 /// One record under way.
 pub struct Record<'a> {
@@ -64,7 +65,11 @@ pub fn replay(tallies: &mut Tallies, line: &str) {
         return; // cores, which are not exported
     }
     let record = &mut Record { tallies, name, line, inputs, answer };
-    let known = floats(record) || floor::replay(record) || colour::replay(record) || stage::replay(record);
+    let known = floats(record)
+        || floor::replay(record)
+        || colour::replay(record)
+        || stage::replay(record)
+        || totals::replay(record);
     assert!(known, "no such call: {name}");
     assert!(record.inputs.left() == 0, "words left over: {line}");
 }

@@ -1,5 +1,5 @@
 //! Calls the static library on the oracle's lists, structured and random, and compares every answer and every byte of
-//! lent memory; then the roots on every pattern. `compare COUNT SEED`: COUNT random records of each list.
+//! lent memory; then the roots on every pattern. `compare COUNT SEED [LIST]`: COUNT random records of each list, or of one.
 use oracle::lists::KINDS;
 use oracle::rng::Rng;
 use oracle::words::List;
@@ -73,7 +73,8 @@ fn main() {
     let (count, seed) = (number(0, 1000), number(1, 1));
     let tallies = &mut Tallies::default();
     // `private` has functions that are not exported, `records` calls that have a list of their own
-    for kind in KINDS.iter().filter(|k| !matches!(k.name, "private" | "records")) {
+    let asked = |name: &str| words.get(2).is_none_or(|w| w == name || w == "roots");
+    for kind in KINDS.iter().filter(|k| !matches!(k.name, "private" | "records") && asked(k.name)) {
         let mut body = Vec::new();
         (kind.structured)(&mut List::new(&mut body));
         replay(tallies, &body);
@@ -84,7 +85,9 @@ fn main() {
             replay(tallies, &body);
         }
     }
-    drawing::elements(tallies, count, seed);
+    if asked("drawing") {
+        drawing::elements(tallies, count, seed);
+    }
     tallies.print();
     if words.get(2).is_some_and(|w| w == "roots") {
         calls::roots();

@@ -9,6 +9,7 @@ use crate::color::{Lab, Linear, Srgb8};
 use crate::demod::{ChannelStats, Demodulation, RawColours};
 use crate::illum::{IlluminationModel, Reference};
 use crate::layout::Places;
+use crate::totals::{Ratio, Totals};
 use core::slice;
 
 #[repr(C)]
@@ -84,6 +85,18 @@ pub struct NoiseAnswer {
     pub noise: ChannelStats,
 }
 
+#[repr(C)]
+pub struct TotalsAnswer {
+    pub number: u32,
+    pub totals: Totals,
+}
+
+#[repr(C)]
+pub struct RatioAnswer {
+    pub number: u32,
+    pub ratio: Ratio,
+}
+
 // The sizes that the library was built for.
 const _: () = {
     assert!(size_of::<usize>() == 8);
@@ -94,6 +107,7 @@ const _: () = {
     assert!(size_of::<ChannelStats>() == 28 && size_of::<NoiseAnswer>() == 32);
     assert!(size_of::<SolveAnswer>() == 8 && size_of::<FlagAnswer>() == 8 && size_of::<FloatAnswer>() == 8);
     assert!(size_of::<NumberAnswer>() == 16 && size_of::<LinearAnswer>() == 16);
+    assert!(size_of::<Totals>() == 40 && size_of::<TotalsAnswer>() == 48 && size_of::<RatioAnswer>() == 24);
 };
 
 // What takes values, and references to arrays of a fixed length, is safe to call with any.
@@ -163,6 +177,8 @@ unsafe extern "C" {
     ) -> LinearAnswer;
     pub safe fn purdolve_sigma_ab_at(noise: ChannelStats, l: f32) -> FloatAnswer;
     pub safe fn purdolve_luma_llr(noise: ChannelStats, l: f32) -> FloatAnswer;
+    pub safe fn purdolve_add_totals(a: Totals, b: Totals) -> TotalsAnswer;
+    pub safe fn purdolve_mean(totals: Totals) -> RatioAnswer;
 }
 
 // What takes slices: a pointer and a length each.
@@ -299,6 +315,7 @@ unsafe extern "C" {
         out: *mut f32,
         out_len: usize,
     ) -> u32;
+    fn purdolve_add_card(totals: Totals, luma: *const f32, luma_len: usize) -> TotalsAnswer;
     fn purdolve_margin(noise: ChannelStats, palette: *const f32, palette_len: usize, hues: usize) -> FlagAnswer;
     fn purdolve_margin_at(
         nine: bool,
@@ -562,6 +579,10 @@ pub fn hue_log_likelihoods(noise: ChannelStats, sample: Lab, palette: &[f32], hu
     unsafe {
         purdolve_hue_log_likelihoods(noise, sample, palette.as_ptr(), palette.len(), hues, out.as_mut_ptr(), out.len())
     }
+}
+
+pub fn add_card(totals: Totals, luma: &[f32]) -> TotalsAnswer {
+    unsafe { purdolve_add_card(totals, luma.as_ptr(), luma.len()) }
 }
 
 pub fn margin(noise: ChannelStats, palette: &[f32], hues: usize) -> FlagAnswer {

@@ -22,6 +22,7 @@
 //! | `lcr_core::palette::Palette`, `lcr_core::layout::Layout` | [`palette::Palette`], [`layout::Layout`]: the fields that the stage reads |
 //! | `solve`, `least_squares`, `chroma_bit_llrs`, rotations, symbols | the same, each a `Result` |
 //! | colours, `median`, `mad_sigma`, `gray`, `luma_mask` | the same |
+//! | - | [`totals::Totals`]: totals over a season's cards |
 //! | what is a `const fn` | a function; a constant of type `Srgb8` is made by `Srgb8::new` |
 //!
 //! # A card of two modules
@@ -75,5 +76,6 @@ pub mod palette;
 pub mod readcard;
 mod refusal;
 pub mod symbol;
+pub mod totals;
 
 pub use refusal::Refusal;

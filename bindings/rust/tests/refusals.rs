@@ -11,6 +11,7 @@ use purdolve::modulate::{chroma_bit_llrs, draw};
 use purdolve::page::page;
 use purdolve::palette::Palette;
 use purdolve::readcard::read_card;
+use purdolve::totals::Totals;
 use purdolve::{mask, symbol};
 
 const WHITE: Linear = Linear::new(1.0, 1.0, 1.0);
@@ -202,4 +203,22 @@ fn a_refusal_has_its_number_and_sentence() {
     let refusal = IlluminationModel::identity(0).unwrap_err();
     assert_eq!(refusal.number(), 2);
     assert_eq!(refusal.to_string(), "refused 2: The side is 0 or above 1,024.");
+}
+
+#[test]
+fn totals() {
+    let full = Totals { cards: 65_535, ..Totals::default() };
+    assert_eq!(full.add_card(&[1.0]), Err(Refusal::Totals));
+    assert_eq!(full.add(&Totals { cards: 1, ..Totals::default() }), Err(Refusal::Totals));
+    assert_eq!(full.add(&Totals::default()), Ok(full));
+    assert_eq!(Totals { cards: 1, modules: 1, sum: 1_310_721, ..Totals::default() }.mean(), Err(Refusal::Totals));
+    assert_eq!(Totals::default().add_card(&vec![0.0; 1_048_577]), Err(Refusal::Count));
+}
+
+#[test]
+fn score() {
+    for bad in [f32::NAN, f32::INFINITY, -20.000_002] {
+        assert_eq!(Totals::default().add_card(&[1.0, bad]), Err(Refusal::Score));
+    }
+    assert_eq!(Totals::default().add_card(&[20.0, -20.0]).unwrap().sum, 40 * 65_536);
 }

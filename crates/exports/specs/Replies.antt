@@ -17,6 +17,12 @@ use Rattle.exports.specs.declared.replies.FlagAnswer.{FlagAnswer}
 use Rattle.exports.specs.declared.replies.FloatAnswer.{FloatAnswer}
 use Rattle.exports.specs.declared.replies.LinearAnswer.{LinearAnswer}
 use Rattle.exports.specs.declared.replies.NoiseAnswer.{NoiseAnswer}
+use Rattle.totals.specs.declared.Totals.{Totals}
+use Rattle.totals.specs.declared.Ratio.{Ratio}
+use Rattle.totals.specs.Batch as batch
+use Rattle.totals.specs.LowestTerms as mean
+use Rattle.exports.specs.declared.replies.TotalsAnswer.{TotalsAnswer}
+use Rattle.exports.specs.declared.replies.RatioAnswer.{RatioAnswer}
 
 -- what stands where there is no value: +0, whose bits are all zero
 abbrev pub zero : Float
@@ -49,6 +55,12 @@ corrected n c = record { number = n; colour = c }
 abbrev pub measured : ℕ → ChannelStats → NoiseAnswer
 measured n c = record { number = n; noise = c }
 
+abbrev pub totalled : ℕ → Totals → TotalsAnswer
+totalled n t = record { number = n; totals = t }
+
+abbrev pub averaged : ℕ → Ratio → RatioAnswer
+averaged n q = record { number = n; ratio = q }
+
 -- ---- each answer
 
 -- a struct of what an answer says: its number, and its value, or v where it gives none
@@ -78,6 +90,14 @@ flagAnswer s = structOf judged false s
 -- the calls that give a number
 abbrev pub numberAnswer : Said ℕ → NumberAnswer
 numberAnswer s = structOf counted 0 s
+
+-- `add_card`, `add_totals`
+abbrev pub totalsAnswer : Said Totals → TotalsAnswer
+totalsAnswer s = structOf totalled batch.nothing s
+
+-- `mean`
+abbrev pub ratioAnswer : Said Ratio → RatioAnswer
+ratioAnswer s = structOf averaged (mean.over 0 0) s
 
 -- ---- what goes in as an enum
 

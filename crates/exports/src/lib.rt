@@ -10,4 +10,5 @@ mod floats; // floats.rt: floats
 mod floor; // floor.rt: linear systems, order statistics
 mod recorded; // recorded.rt: the model and the noise record, from references as records
 mod replies; // replies.rt: the structs that stand for enums
+mod season; // season.rt: totals over a season's cards
 mod stage; // stage.rt: the model, the noise record, scores

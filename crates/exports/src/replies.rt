@@ -8,6 +8,8 @@ ghost use Rattle.math.specs.Gauss.{solvingSaid};
 ghost use Rattle.order.specs.Deviation.{sigmaSaid};
 ghost use Rattle.stats.specs.Calls.{figureSaid, noiseSaid};
 ghost use Rattle.margin.specs.Calls.{verdictSaid};
+ghost use Rattle.totals.specs.Calls.{sumsSaid};
+ghost use Rattle.totals.specs.LowestTerms.{averageSaid};
 ghost use Rattle.exports.specs.Replies as spec;
 use answers::Number;
 use color::Linear;
@@ -21,6 +23,10 @@ use order::Sigma;
 use stats::ChannelStats;
 use stats::Figure;
 use stats::Noise;
+use totals::Average;
+use totals::Ratio;
+use totals::Sums;
+use totals::Totals;
 
 // Whether a linear system was solved.
 #[repr(C)]
@@ -62,6 +68,20 @@ pub struct LinearAnswer {
 pub struct NoiseAnswer {
     pub number: u32,
     pub noise: ChannelStats,
+}
+
+// Totals.
+#[repr(C)]
+pub struct TotalsAnswer {
+    pub number: u32,
+    pub totals: Totals,
+}
+
+// A fraction.
+#[repr(C)]
+pub struct RatioAnswer {
+    pub number: u32,
+    pub ratio: Ratio,
 }
 
 // Of `solve`, `finish` and `least_squares`.
@@ -205,6 +225,47 @@ pub fn number_answer(o: Number) -> NumberAnswer
         Number::Is(v) => NumberAnswer {
             number: 0,
             value: v,
+        },
+    }
+}
+
+// Of `add_card` and `add_totals`.
+pub fn totals_answer(o: Sums) -> TotalsAnswer
+    ensures { λ r. ⌜ r ≡ spec.totalsAnswer (sumsSaid o) ⌝ }
+{
+    match o {
+        Sums::Refused(n) => TotalsAnswer {
+            number: n,
+            totals: Totals {
+                cards: 0,
+                modules: 0,
+                undecided: 0,
+                under: 0,
+                sum: 0,
+            },
+        },
+        Sums::Are(t) => TotalsAnswer {
+            number: 0,
+            totals: t,
+        },
+    }
+}
+
+// Of `mean`.
+pub fn ratio_answer(o: Average) -> RatioAnswer
+    ensures { λ r. ⌜ r ≡ spec.ratioAnswer (averageSaid o) ⌝ }
+{
+    match o {
+        Average::Refused(n) => RatioAnswer {
+            number: n,
+            ratio: Ratio {
+                numerator: 0,
+                denominator: 0,
+            },
+        },
+        Average::Is(q) => RatioAnswer {
+            number: 0,
+            ratio: q,
         },
     }
 }

@@ -1,6 +1,6 @@
 -- `Held`: a record's figures are f32 values, in this crate's words and in those of the proofs of `stats`. `Neighbours`: how the symbols of neighbouring hues differ. `Formula`: the sRGB curve is the
 -- standard's. `OnlyNearest`: one float is the nearest. `Identity`: what the model of `identity` makes of a colour. `Systems`: what `solve` writes. `Window`: refinement's window in
--- coordinates. `Premises`: which of the read guarantee's premises hold by themselves.
+-- coordinates. `Premises`: which of the read guarantee's premises hold by themselves. `Season`: refined scores are within 20, or a NaN.
 mod Held
 mod Neighbours
 mod Formula
@@ -9,3 +9,4 @@ mod Identity
 mod Systems
 mod Window
 mod Premises
+mod Season

@@ -22,6 +22,7 @@ ghost use Rattle.refine.specs.Sign.{StepKeepsSign, CallKeepsSign};
 ghost use Rattle.page.specs.Laws.{Pages};
 ghost use Rattle.promises.specs.Door.{FittedOnPages};
 ghost use Rattle.promises.specs.Reading.{AcceptedIsListed, RoomForAll};
+ghost use Rattle.promises.specs.Season.{OnlyNanUnfit};
 
 // ---- the crate guarantee: whole cards (the read guarantee itself is the contract of `bits::read_bits`)
 
@@ -255,6 +256,14 @@ pub fn every_page()
 // and both counts at most 16,384.
 pub fn fitted_models_on_pages()
     ensures { λ _. ⌜ FittedOnPages ⌝ }
+{}
+
+// ---- the crate totals
+
+// Sentence 19 holds of a score that scoring and refinement left exactly where it is a NaN: `add_card` takes every card
+// without one, up to the batch's limit.
+pub fn only_a_nan_is_unfit()
+    ensures { λ _. ⌜ OnlyNanUnfit ⌝ }
 {}
 
 // ---- the crates bits, readout and reader
