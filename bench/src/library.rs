@@ -463,6 +463,14 @@ unsafe extern "C" {
     pub fn purdolve_add_card(totals: Totals, luma: *const f32, luma_len: usize) -> TotalsAnswer;
     pub fn purdolve_add_totals(a: Totals, b: Totals) -> TotalsAnswer;
     pub fn purdolve_mean(totals: Totals) -> RatioAnswer;
+    pub fn purdolve_colour_counts(
+        noise: Stats,
+        palette: *const f32,
+        palette_len: usize,
+        hues: usize,
+        out: *mut u32,
+        out_len: usize,
+    ) -> u32;
     pub fn purdolve_margin(noise: Stats, palette: *const f32, palette_len: usize, hues: usize) -> FlagAnswer;
     pub fn purdolve_margin_at(
         nine: bool,

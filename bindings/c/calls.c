@@ -210,6 +210,25 @@ static void figures(void) {
     CHECK(purdolve_margin_at(true, between, PALETTE, 10, 1).number == PURDOLVE_REFUSED_SIGMA);
 }
 
+static void counts(void) {
+    purdolve_channel_stats noise = purdolve_nominal(PALETTE, 10, 1).noise;
+    uint32_t out[4] = {7, 7, 7, 7};
+    CHECK(purdolve_colour_counts(noise, PALETTE, 10, 3, out, 4) == PURDOLVE_REFUSED_HUES);
+    CHECK(purdolve_colour_counts(noise, PALETTE, 10, 1, out, 2) == PURDOLVE_REFUSED_LENGTH);
+    CHECK(purdolve_colour_counts(noise, PALETTE, 9, 1, out, 4) == PURDOLVE_REFUSED_LENGTH);
+    noise.sigma_l = 0.5f;
+    CHECK(purdolve_colour_counts(noise, PALETTE, 10, 1, out, 4) == PURDOLVE_REFUSED_SIGMA);
+    noise.l0 = NAN;
+    CHECK(purdolve_colour_counts(noise, PALETTE, 10, 1, out, 4) == PURDOLVE_REFUSED_NUMBER);
+    CHECK(out[0] == 7 && out[1] == 7 && out[2] == 7);
+    noise = purdolve_nominal(PALETTE, 10, 1).noise;
+    CHECK(purdolve_colour_counts(noise, PALETTE, 10, 1, out, 4) == 0);
+    CHECK(out[0] == 12708 && out[1] == 20060 && out[2] == 0 && out[3] == 7);
+    noise.l1 = noise.l0;
+    CHECK(purdolve_colour_counts(noise, PALETTE, 10, 1, out, 4) == 0);
+    CHECK(out[0] == 0 && out[1] == 0 && out[2] == 32768);
+}
+
 static void models(void) {
     purdolve_modelled m = purdolve_identity(21);
     CHECK(m.number == 0 && m.model.terms == 4 && m.model.side == 21 && m.model.kept == 0);
@@ -521,6 +540,7 @@ int main(void) {
     symbols();
     rotations();
     figures();
+    counts();
     models();
     no_finite_fit();
     records();

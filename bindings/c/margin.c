@@ -1,6 +1,7 @@
 /*
  * Checks a palette before any card is printed: whether its inks lie far enough apart for the read
- * guarantee, and up to which noise they do, at both settings of the margin check.
+ * guarantee, and up to which noise they do, at both settings of the margin check; and how it divides
+ * the colours.
  */
 #include "inks.h"
 
@@ -25,6 +26,17 @@ static float most(bool nine, purdolve_channel_stats *noise, float *sigma) {
     return most;
 }
 
+/* How many colours fall to each ink at this noise, and how many to none. */
+static void print_counts(purdolve_channel_stats noise) {
+    uint32_t counts[COLOURS + 1] = {0};
+    purdolve_colour_counts(noise, palette, PALETTE, HUES, counts, COLOURS + 1);
+    printf("colours");
+    for (size_t i = 0; i <= COLOURS; i++) {
+        printf(" %u", (unsigned)counts[i]);
+    }
+    printf("\n");
+}
+
 int main(void) {
     make_palette(palette);
     for (size_t i = 0; i < COLOURS; i++) {
@@ -38,5 +50,6 @@ int main(void) {
         printf("yes up to sigma_l %.2f\n", most(nine, &noise, &noise.sigma_l));
         printf("yes up to sigma_ab %.2f\n", most(nine, &noise, &noise.sigma_ab));
     }
+    print_counts(noise);
     return !in_margin(false, noise);
 }

@@ -304,6 +304,17 @@ purdolve_flag_answer purdolve_margin_at(bool nine, purdolve_channel_stats noise,
                                         const float *palette, size_t palette_len, size_t hues);
 
 /*
+ * How a palette divides the colours: of the 32,768 sRGB colours whose three bytes are multiples of 8,
+ * how many fall to each level and hue with this noise. The level comes from the sign of
+ * purdolve_luma_llr, the hue from the highest of purdolve_hue_log_likelihoods, the lowest on
+ * equality. Writes the dark ones by hue, the light ones by hue, and those whose luma score is zero or
+ * NaN: out needs 2 * hues + 1, which is 3 with chroma off, and these add up to 32,768.
+ * refused: 3, 5, 8, 9
+ */
+uint32_t purdolve_colour_counts(purdolve_channel_stats noise, const float *palette,
+                                size_t palette_len, size_t hues, uint32_t *out, size_t out_len);
+
+/*
  * Scores a card from its raw colours. raw needs 3 * modules, craw 3 * cells. Writes to luma a score
  * for each module (needs modules; positive for dark, from -20 to 20), to colours the corrected
  * colour of each (needs 3 * modules), and to chroma log2(hues) scores for each symbol (needs the

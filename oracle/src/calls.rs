@@ -2,6 +2,7 @@
 //! `Err(number)` is a refusal; lent memory is then untouched, save that 11 leaves scratch all zero.
 
 pub mod color;
+pub mod counts;
 pub mod demod;
 pub mod illum;
 pub mod math;

@@ -3,6 +3,7 @@ use crate::rng::Rng;
 use crate::words::List;
 
 mod color;
+mod counts;
 mod demod;
 mod float;
 mod illum;
@@ -45,6 +46,7 @@ pub const KINDS: &[Kind] = &[
     refine::KIND,
     whole::KIND,
     totals::KIND,
+    counts::KIND,
     private::KIND,
 ];
 

@@ -18,7 +18,7 @@ macro_rules! whole_elements {
         }
     })*};
 }
-whole_elements!(u8 u16 i32 usize);
+whole_elements!(u8 u16 u32 i32 usize);
 
 macro_rules! float_elements {
     ($($t:ty)*) => {$(impl Element for $t {

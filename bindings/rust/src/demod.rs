@@ -1,7 +1,7 @@
 //! The noise record, scoring and refinement (`demod.rs` of the Rust).
 use crate::color::{Lab, Linear};
 use crate::illum::{IlluminationModel, Reference};
-use crate::layout::{Layout, symbol_bits};
+use crate::layout::{Layout, hue_classes, symbol_bits};
 use crate::palette::Palette;
 use crate::{Refusal, ffi};
 use alloc::vec;
@@ -73,6 +73,14 @@ impl ChannelStats {
         out.clear();
         out.extend_from_slice(&hues[..palette.hues]);
         Ok(())
+    }
+
+    /// How many of the 32,768 sRGB colours whose bytes are multiples of 8 fall to each level and hue of the palette: dark
+    /// by hue, light by hue, and last those whose luma score is zero or NaN. Refused: 3, 5, 8, 9.
+    pub fn colour_counts(&self, palette: &Palette) -> Result<Vec<u32>, Refusal> {
+        let mut counts = vec![0; 2 * hue_classes(palette.hues) + 1];
+        Refusal::check(ffi::colour_counts(*self, &palette.flat(), palette.hues, &mut counts))?;
+        Ok(counts)
     }
 
     /// The margin check: whether, with this noise, the palette's levels and hues lie far enough apart for the read

@@ -316,6 +316,14 @@ unsafe extern "C" {
         out_len: usize,
     ) -> u32;
     fn purdolve_add_card(totals: Totals, luma: *const f32, luma_len: usize) -> TotalsAnswer;
+    fn purdolve_colour_counts(
+        noise: ChannelStats,
+        palette: *const f32,
+        palette_len: usize,
+        hues: usize,
+        out: *mut u32,
+        out_len: usize,
+    ) -> u32;
     fn purdolve_margin(noise: ChannelStats, palette: *const f32, palette_len: usize, hues: usize) -> FlagAnswer;
     fn purdolve_margin_at(
         nine: bool,
@@ -583,6 +591,10 @@ pub fn hue_log_likelihoods(noise: ChannelStats, sample: Lab, palette: &[f32], hu
 
 pub fn add_card(totals: Totals, luma: &[f32]) -> TotalsAnswer {
     unsafe { purdolve_add_card(totals, luma.as_ptr(), luma.len()) }
+}
+
+pub fn colour_counts(noise: ChannelStats, palette: &[f32], hues: usize, out: &mut [u32]) -> u32 {
+    unsafe { purdolve_colour_counts(noise, palette.as_ptr(), palette.len(), hues, out.as_mut_ptr(), out.len()) }
 }
 
 pub fn margin(noise: ChannelStats, palette: &[f32], hues: usize) -> FlagAnswer {

@@ -52,3 +52,9 @@ pub(crate) fn symbol_bits(hues: usize) -> usize {
         _ => 0,
     }
 }
+
+/// The classes that hues are told apart by: one a hue, and one in all with chroma off, and for a number that is no hue
+/// count.
+pub(crate) fn hue_classes(hues: usize) -> usize {
+    1 << symbol_bits(hues)
+}

@@ -23,6 +23,7 @@
 //! | `solve`, `least_squares`, `chroma_bit_llrs`, rotations, symbols | the same, each a `Result` |
 //! | colours, `median`, `mad_sigma`, `gray`, `luma_mask` | the same |
 //! | - | [`totals::Totals`]: totals over a season's cards |
+//! | - | `ChannelStats::colour_counts`: how a palette divides the colours |
 //! | what is a `const fn` | a function; a constant of type `Srgb8` is made by `Srgb8::new` |
 //!
 //! # A card of two modules

@@ -131,3 +131,13 @@ fn models() {
     assert_eq!(IlluminationModel::fit(&[], 21, BIQUADRATIC_FROM_VERSION - 1), Ok(model));
     assert_eq!(IlluminationModel::fit(&[], 21, BIQUADRATIC_FROM_VERSION).map(|m| m.terms()), Ok(9));
 }
+
+#[test]
+fn colour_counts() {
+    let palette = black_and_white();
+    let nominal = ChannelStats::nominal(&palette).unwrap();
+    assert_eq!(nominal.colour_counts(&palette), Ok(vec![12_708, 20_060, 0]));
+    assert_eq!(stats(50.0, 50.0, 6.0, [0.0; 2]).colour_counts(&palette), Ok(vec![0, 0, 32_768]));
+    let three = Palette { hues: 3, ..palette };
+    assert_eq!(nominal.colour_counts(&three), Err(purdolve::Refusal::Hues));
+}

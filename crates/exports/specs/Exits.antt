@@ -83,7 +83,7 @@ fittedExit f = exit1 (solveAnswer (f .said)) (f .x)
 unfoldable pub sigmaExit : deviation.Final → Exit1 FloatAnswer Float
 sigmaExit f = exit1 (floatAnswer (f .said)) (f .scratch)
 
--- `chroma_bit_llrs`, `unmask_luma`, `read_list`, `hue_log_likelihoods`
+-- `chroma_bit_llrs`, `unmask_luma`, `read_list`, `hue_log_likelihoods`, `colour_counts`
 unfoldable pub writeExit : {A : Type 0} → Ended A → Exit1 ℕ A
 writeExit f = exit1 (f .number) (f .list)
 

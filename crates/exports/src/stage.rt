@@ -1,6 +1,7 @@
 // The illumination model, the noise record, scoring and refinement, and reading a card in one call.
 ghost use mathlib.Core.Path.{_≡_};
 ghost use Rattle.bits.specs.Reading.{setting, card, readOf};
+ghost use Rattle.counts.specs.Calls.{countsOf};
 ghost use Rattle.fit.specs.Fit as fit_call;
 ghost use Rattle.illum.specs.Correct.{lentModel};
 ghost use Rattle.illum.specs.Refusals as illum_call;
@@ -309,4 +310,19 @@ pub extern "C" fn purdolve_margin_at(
     ensures { λ r. ⌜ r ≡ spec.flagAnswer (margin_call.marginAtAnswer (spec.thresholdOf nine) noise (now (palette .entry)) hues) ⌝ }
 {
     replies::verdict_answer(margin::margin_at(replies::threshold_of(nine), noise, palette, hues))
+}
+
+// How the 32,768 sRGB colours whose bytes are multiples of 8 divide among the palette's levels and hues: writes the dark ones by hue,
+// the light ones by hue and those whose luma score is zero or NaN to the front of `out`. Answers document 01's number. Refused: 3, 5,
+// 8, 9; nothing is written then.
+#[no_mangle]
+pub extern "C" fn purdolve_colour_counts(
+    noise: ChannelStats,
+    palette: &[f32],
+    hues: usize,
+    out: &mut [u32],
+) -> u32
+    ensures { λ r. ⌜ exits.exit1 r (now (out .exit)) ≡ exits.writeExit (countsOf noise (now (palette .entry)) hues (now (out .entry))) ⌝ }
+{
+    answers::outcome_number(counts::colour_counts(noise, palette, hues, out))
 }

@@ -22,6 +22,7 @@ pub fn replay(t: &mut Record) -> bool {
         "luma_llr" => figures(t, |noise, l| unsafe { purdolve_luma_llr(noise, l) }),
         "reliability" => reliability(t),
         "hue_log_likelihoods" => hue_log_likelihoods(t),
+        "colour_counts" => colour_counts(t),
         "margin" => margin(t),
         "margin_at" => margin_at(t),
         "measure" => measure(t),
@@ -174,6 +175,19 @@ fn hue_log_likelihoods(t: &mut Record) {
         same &= out.untouched();
     }
     same &= out.is(&t.answer.singles(), hues);
+    t.add(r, same);
+}
+
+fn colour_counts(t: &mut Record) {
+    let (noise, palette) = (t.inputs.stats(), Lent::new(t.inputs.singles()));
+    let (hues, length) = (t.inputs.count(), t.inputs.count());
+    let mut out = Lent::new(vec![7u32; length]);
+    let r = unsafe { purdolve_colour_counts(noise, palette.ptr(), palette.len(), hues, out.ptr_mut(), out.len()) };
+    let mut same = r as u64 == t.answer.word() && palette.untouched();
+    if r != 0 {
+        same &= out.untouched();
+    }
+    same &= out.is(&t.answer.slice(|w| w.word() as u32), hues.saturating_mul(2).saturating_add(1));
     t.add(r, same);
 }
 
