@@ -194,6 +194,8 @@ unsafe extern "C" {
         flat_len: usize,
         side: usize,
         version: u8,
+        kept: *mut u8,
+        kept_len: usize,
         scratch: *mut f32,
         scratch_len: usize,
     ) -> Modelled;
@@ -202,9 +204,46 @@ unsafe extern "C" {
         refs_len: usize,
         side: usize,
         version: u8,
+        kept: *mut u8,
+        kept_len: usize,
         scratch: *mut f32,
         scratch_len: usize,
     ) -> Modelled;
+    pub fn purdolve_nearest(
+        xy: *const f32,
+        xy_len: usize,
+        kept: *const u8,
+        kept_len: usize,
+        side: usize,
+        x: i32,
+        y: i32,
+        out: *mut u32,
+        out_len: usize,
+    ) -> NumberAnswer;
+    pub fn purdolve_within(
+        xy: *const f32,
+        xy_len: usize,
+        kept: *const u8,
+        kept_len: usize,
+        side: usize,
+        x: i32,
+        y: i32,
+        radius: f32,
+        out: *mut u32,
+        out_len: usize,
+    ) -> NumberAnswer;
+    pub fn purdolve_cut_off(
+        xy: *const f32,
+        xy_len: usize,
+        kept: *const u8,
+        kept_len: usize,
+        side: usize,
+        x: i32,
+        y: i32,
+        column: i32,
+        out: *mut u32,
+        out_len: usize,
+    ) -> NumberAnswer;
     pub fn purdolve_measure(
         refs: *const Reference,
         refs_len: usize,

@@ -32,6 +32,7 @@ mod linked {
         luma: Vec<f32>,
         colours: Vec<f32>,
         chroma: Vec<f32>,
+        kept: Vec<u8>,
         scratch: Vec<f32>,
     }
 
@@ -50,15 +51,17 @@ mod linked {
                 luma: vec![0.0; m],
                 colours: vec![0.0; 3 * m],
                 chroma: vec![0.0; bits * cells],
+                kept: vec![0; references],
                 scratch: vec![0.0; (4 * references).max((card.side + 12).pow(2))],
                 card,
             }
         }
 
         fn fit(&mut self, version: u8) -> Model {
-            let (flat, s) = (&self.card.flat_references, &mut self.scratch);
+            let (flat, k, s) = (&self.card.flat_references, &mut self.kept, &mut self.scratch);
+            let (kept, marks, side) = (k.as_mut_ptr(), k.len(), self.card.side);
             let r = unsafe {
-                purdolve_fit_flat(flat.as_ptr(), flat.len(), self.card.side, version, s.as_mut_ptr(), s.len())
+                purdolve_fit_flat(flat.as_ptr(), flat.len(), side, version, kept, marks, s.as_mut_ptr(), s.len())
             };
             assert_eq!(r.number, 0);
             r.model

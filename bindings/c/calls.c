@@ -247,17 +247,21 @@ static void models(void) {
     CHECK(corrected.number == PURDOLVE_REFUSED_MODEL && corrected.colour.r == 0);
 
     float flat[8] = {0}, scratch[5] = {9, 9, 9, 9, 9};
-    m = purdolve_fit_flat(flat, 8, 21, 10, scratch, 5);
+    uint8_t kept[2] = {7, 7};
+    m = purdolve_fit_flat(flat, 8, 21, 10, kept, 2, scratch, 5);
     CHECK(m.number == 0 && m.model.terms == 9 && m.model.kept == 0 && m.model.gain_r[0] == 1);
-    CHECK(scratch[0] == 0 && scratch[3] == 0 && scratch[4] == 9);
-    m = purdolve_fit_flat(flat, 0, 21, 9, scratch, 0);
+    CHECK(scratch[0] == 0 && scratch[3] == 0 && scratch[4] == 9 && kept[0] == 0 && kept[1] == 7);
+    m = purdolve_fit_flat(flat, 0, 21, 9, kept, 0, scratch, 0);
     CHECK(m.number == 0 && m.model.terms == 4);
-    CHECK(purdolve_fit_flat(flat, 7, 21, 1, scratch, 4).number == PURDOLVE_REFUSED_LENGTH);
+    CHECK(purdolve_fit_flat(flat, 7, 21, 1, kept, 2, scratch, 4).number == PURDOLVE_REFUSED_LENGTH);
+    CHECK(purdolve_fit_flat(flat, 8, 21, 1, kept, 0, scratch, 4).number == PURDOLVE_REFUSED_LENGTH);
     flat[0] = 38;
-    CHECK(purdolve_fit_flat(flat, 8, 21, 1, scratch, 4).number == PURDOLVE_REFUSED_PLACE);
+    kept[0] = 7;
+    CHECK(purdolve_fit_flat(flat, 8, 21, 1, kept, 2, scratch, 4).number == PURDOLVE_REFUSED_PLACE);
     flat[0] = 0;
     flat[3] = INFINITY;
-    CHECK(purdolve_fit_flat(flat, 8, 21, 1, scratch, 4).number == PURDOLVE_REFUSED_NUMBER);
+    CHECK(purdolve_fit_flat(flat, 8, 21, 1, kept, 2, scratch, 4).number == PURDOLVE_REFUSED_NUMBER);
+    CHECK(kept[0] == 7);
 
     purdolve_noise_answer n =
         purdolve_measure_flat(flat, 0, 21, m.model, PALETTE, 10, 1, scratch, 4);
@@ -280,14 +284,68 @@ static void no_finite_fit(void) {
     for (int i = 0; i < 33; i++) {
         scratch[i] = 9;
     }
-    CHECK(purdolve_fit_flat(flat, 64, 21, 1, scratch, 33).number == PURDOLVE_REFUSED_FIT);
+    uint8_t kept[8] = {7, 7, 7, 7, 7, 7, 7, 7};
+    CHECK(purdolve_fit_flat(flat, 64, 21, 1, kept, 8, scratch, 33).number == PURDOLVE_REFUSED_FIT);
     CHECK(scratch[0] == 0 && scratch[31] == 0 && scratch[32] == 9);
+    CHECK(kept[0] == 7 && kept[7] == 7);
+}
+
+/* The references near a module, of six of which four are kept. */
+static void near_module(void) {
+    static const float xy[12] = {10.5f, 10.5f, 12.5f, 10.5f, 10.5f, 13.5f,
+                                 8.5f,  10.5f, 10.5f, 8.5f,  14.5f, 13.5f};
+    static const uint8_t kept[6] = {1, 0, 1, 255, 0, 1};
+    uint32_t out[7] = {7, 7, 7, 7, 7, 7, 7};
+    purdolve_number_answer a = purdolve_nearest(xy, 12, kept, 6, 21, 10, 10, out, 7);
+    CHECK(a.number == 0 && a.value == 3 && out[0] == 0 && out[1] == 3 && out[2] == 2);
+    CHECK(out[3] == 7 && out[6] == 7);
+    out[0] = out[1] = out[2] = 7;
+    a = purdolve_within(xy, 12, kept, 6, 21, 10, 10, 2, out, 6);
+    CHECK(a.number == 0 && a.value == 2 && out[0] == 0 && out[1] == 3 && out[2] == 7);
+    a = purdolve_within(xy, 12, kept, 6, 21, 10, 10, 5, out, 6);
+    CHECK(a.number == 0 && a.value == 4 && out[3] == 5 && out[4] == 7);
+    a = purdolve_cut_off(xy, 12, kept, 6, 21, 10, 10, 12, out, 6);
+    CHECK(a.number == 0 && a.value == 1 && out[0] == 5);
+    a = purdolve_cut_off(xy, 12, kept, 6, 21, -6, 26, 26, out, 6);
+    CHECK(a.number == 0 && a.value == 0);
+    out[0] = 7;
+    CHECK(purdolve_within(xy, 12, kept, 6, 21, 10, 10, -1, out, 6).number ==
+          PURDOLVE_REFUSED_RADIUS);
+    CHECK(purdolve_within(xy, 12, kept, 6, 21, -7, 10, NAN, out, 6).number ==
+          PURDOLVE_REFUSED_PLACE);
+    CHECK(purdolve_cut_off(xy, 12, kept, 6, 21, 10, 10, 27, out, 6).number ==
+          PURDOLVE_REFUSED_PLACE);
+    CHECK(purdolve_nearest(xy, 11, kept, 6, 21, 10, 10, out, 6).number == PURDOLVE_REFUSED_LENGTH);
+    CHECK(purdolve_nearest(xy, 12, kept, 5, 21, 10, 10, out, 6).number == PURDOLVE_REFUSED_LENGTH);
+    CHECK(purdolve_nearest(xy, 12, kept, 6, 21, 10, 10, out, 5).number == PURDOLVE_REFUSED_LENGTH);
+    CHECK(purdolve_nearest(xy, 12, kept, 6, 0, 10, 10, out, 6).number == PURDOLVE_REFUSED_SIDE);
+    CHECK(out[0] == 7);
+}
+
+/* As many references as there may be, all kept and all at one place, and one more. */
+static void near_many(void) {
+    static float xy[2 * 16385];
+    static uint8_t kept[16385];
+    static uint32_t out[16385];
+    for (int i = 0; i < 16385; i++) {
+        kept[i] = 1;
+    }
+    purdolve_number_answer a = purdolve_within(xy, 2 * 16384, kept, 16385, 21, 0, 0, 1, out, 16385);
+    CHECK(a.number == 0 && a.value == 16384 && out[0] == 0 && out[16383] == 16383);
+    xy[2 * 9000] = 0.5f;
+    a = purdolve_nearest(xy, 2 * 16384, kept, 16385, 21, 0, 0, out, 16385);
+    CHECK(a.number == 0 && a.value == 3 && out[0] == 9000 && out[1] == 0 && out[2] == 1);
+    CHECK(purdolve_nearest(xy, 2 * 16385, kept, 16385, 21, 0, 0, out, 16385).number ==
+          PURDOLVE_REFUSED_COUNT);
 }
 
 /* The forms on records answer as the flat ones. */
 static void records(void) {
     purdolve_reference refs[12];
     float scratch[49];
+    uint8_t kept[13], marks[13];
+    memset(kept, 7, sizeof kept);
+    memset(marks, 7, sizeof marks);
     for (int i = 0; i < 12; i++) {
         float v = (float)(i * 5 % 7) / 8;
         purdolve_linear nominal = {v, 0.5f * v + 0.1f, (float)(i % 3) / 4};
@@ -297,21 +355,29 @@ static void records(void) {
     for (int i = 0; i < 49; i++) {
         scratch[i] = 9;
     }
-    CHECK(purdolve_fit(refs, 12, 21, 1, scratch, 47).number == PURDOLVE_REFUSED_LENGTH);
-    CHECK(scratch[0] == 9);
-    purdolve_modelled m = purdolve_fit(refs, 12, 21, 1, scratch, 49);
+    CHECK(purdolve_fit(refs, 12, 21, 1, kept, 13, scratch, 47).number == PURDOLVE_REFUSED_LENGTH);
+    CHECK(purdolve_fit(refs, 12, 21, 1, kept, 11, scratch, 48).number == PURDOLVE_REFUSED_LENGTH);
+    CHECK(scratch[0] == 9 && kept[0] == 7);
+    purdolve_modelled m = purdolve_fit(refs, 12, 21, 1, kept, 13, scratch, 49);
     CHECK(m.number == 0 && m.model.kept + m.model.rejected == 12);
     CHECK(scratch[0] == 0 && scratch[47] == 0 && scratch[48] == 9);
+    uint32_t ones = 0;
+    for (int i = 0; i < 12; i++) {
+        CHECK(kept[i] <= 1);
+        ones += kept[i];
+    }
+    CHECK(ones == m.model.kept && kept[12] == 7);
     float flat[96];
     memcpy(flat, refs, sizeof flat);
-    purdolve_modelled f = purdolve_fit_flat(flat, 96, 21, 1, scratch, 49);
+    purdolve_modelled f = purdolve_fit_flat(flat, 96, 21, 1, marks, 13, scratch, 49);
     CHECK(memcmp(&m.model, &f.model, sizeof m.model) == 0);
+    CHECK(memcmp(kept, marks, sizeof kept) == 0);
     purdolve_noise_answer r = purdolve_measure(refs, 12, 21, m.model, PALETTE, 10, 1, scratch, 49);
     purdolve_noise_answer n =
         purdolve_measure_flat(flat, 96, 21, m.model, PALETTE, 10, 1, scratch, 49);
     CHECK(r.number == 0 && n.number == 0 && memcmp(&r.noise, &n.noise, sizeof r.noise) == 0);
     refs[11].observed.b = NAN;
-    CHECK(purdolve_fit(refs, 12, 21, 1, scratch, 49).number == PURDOLVE_REFUSED_NUMBER);
+    CHECK(purdolve_fit(refs, 12, 21, 1, kept, 13, scratch, 49).number == PURDOLVE_REFUSED_NUMBER);
 }
 
 /* Little-endian numbers, one after the other. */
@@ -543,6 +609,8 @@ int main(void) {
     counts();
     models();
     no_finite_fit();
+    near_module();
+    near_many();
     records();
     card_file();
     stage();

@@ -41,7 +41,7 @@ static float raw[3 * MODULES], craw[3 * CELLS];
 /* What it is lent. */
 static float luma[MODULES], colours[3 * MODULES], chroma[SCORES];
 static float fit_scratch[4 * REFERENCES], window[WINDOW];
-static uint8_t luma_bits[MODULES], chroma_bits[SCORES];
+static uint8_t luma_bits[MODULES], chroma_bits[SCORES], kept[REFERENCES];
 
 /* Ends the program where a call was refused. */
 static void accept(const char *call, uint32_t number) {
@@ -111,7 +111,8 @@ static void make_references(void) {
 /* The model and the noise record from the references. */
 static purdolve_illumination_model fit(void) {
     purdolve_modelled fitted =
-        purdolve_fit_flat(flat, 8 * REFERENCES, SIDE, VERSION, fit_scratch, 4 * REFERENCES);
+        purdolve_fit_flat(flat, 8 * REFERENCES, SIDE, VERSION, kept, REFERENCES, fit_scratch,
+                          4 * REFERENCES);
     accept("fit", fitted.number);
     printf("fit: %zu terms, %u kept, %u rejected\n", fitted.model.terms,
            (unsigned)fitted.model.kept, (unsigned)fitted.model.rejected);

@@ -75,6 +75,8 @@ enum purdolve_refusal {
     PURDOLVE_REFUSED_CORRECTED = 12,
     /* The side is above 40 where a page is laid out. */
     PURDOLVE_REFUSED_PAGE = 14,
+    /* The radius within which references are asked for is negative or not finite. */
+    PURDOLVE_REFUSED_RADIUS = 15,
     /* Totals have more than 65,535 cards, or would have with what is added, more than 1,048,576
        modules a card, a count above their modules, or a sum above 1,310,720 a module. */
     PURDOLVE_REFUSED_TOTALS = 18,
@@ -241,11 +243,34 @@ PURDOLVE_ASSERT(sizeof(purdolve_ratio_answer) == 24);
  * Fits the illumination to references, in two passes with rejection. Below version 10 the surfaces
  * have 4 terms, from 10 on 9. With fewer than 8 references, or where the equations of the first
  * pass have no solution, the model corrects nothing and has kept 0.
+ * kept needs a byte a reference and gets 1 for one that was kept and 0 for any other; where the
+ * model's kept is 0, all are 0.
  * scratch needs 4 * references and is zero to that length afterwards, also after refusal 11.
  * refused: 2, 5, 6, 7, 8 (only where a colour is not finite), 11
  */
 purdolve_modelled purdolve_fit_flat(const float *flat, size_t flat_len, size_t side,
-                                    uint8_t version, float *scratch, size_t scratch_len);
+                                    uint8_t version, uint8_t *kept, size_t kept_len, float *scratch,
+                                    size_t scratch_len);
+
+/*
+ * Which of the kept references stand near the module at (x, y), from -6 to side + 5: the three
+ * nearest to its centre (all, if fewer); all within a radius of it, those at the radius too; all
+ * that a column cuts off, its centre lying at or between the reference's x and the x of the
+ * module's centre. xy has two floats a reference and kept a byte, 0 for one that was not kept.
+ * Writes the places of the references in their list, from 0, the nearest first and of equal
+ * distances the earlier one; the value is how many. out needs a place a reference, and beyond the
+ * value it stays as it was.
+ * refused: 2, 5, 6, 7 (any reference, kept or not, the module, the column), 15
+ */
+purdolve_number_answer purdolve_nearest(const float *xy, size_t xy_len, const uint8_t *kept,
+                                        size_t kept_len, size_t side, int32_t x, int32_t y,
+                                        uint32_t *out, size_t out_len);
+purdolve_number_answer purdolve_within(const float *xy, size_t xy_len, const uint8_t *kept,
+                                       size_t kept_len, size_t side, int32_t x, int32_t y,
+                                       float radius, uint32_t *out, size_t out_len);
+purdolve_number_answer purdolve_cut_off(const float *xy, size_t xy_len, const uint8_t *kept,
+                                        size_t kept_len, size_t side, int32_t x, int32_t y,
+                                        int32_t column, uint32_t *out, size_t out_len);
 
 /* The model that corrects nothing, with 4 terms. refused: 2 */
 purdolve_modelled purdolve_identity(size_t side);
@@ -412,7 +437,8 @@ uint32_t purdolve_read_bits(size_t side, size_t hues, size_t size, const int32_t
  * refused: as the flat forms
  */
 purdolve_modelled purdolve_fit(const purdolve_reference *refs, size_t refs_len, size_t side,
-                               uint8_t version, float *scratch, size_t scratch_len);
+                               uint8_t version, uint8_t *kept, size_t kept_len, float *scratch,
+                               size_t scratch_len);
 purdolve_noise_answer purdolve_measure(const purdolve_reference *refs, size_t refs_len, size_t side,
                                        purdolve_illumination_model model, const float *palette,
                                        size_t palette_len, size_t hues, float *scratch,

@@ -67,7 +67,7 @@ def refused():
 
 
 def oracle(call, file):
-    return subprocess.run([ORACLE, call], input=file, stdout=subprocess.PIPE, check=True).stdout
+    return subprocess.run([ORACLE, *call.split()], input=file, stdout=subprocess.PIPE, check=True).stdout
 
 
 def season(listings):
@@ -99,10 +99,11 @@ def examples():
     for name in ("four-hues", "erasures"):
         made["examples/%s.page" % name] = oracle("page", made[data % (name, "card")])
     made["examples/glare.unrefined.txt"] = oracle("unrefined", made[data % ("glare", "card")])
+    made["examples/four-hues.near.txt"] = oracle("nearest 1 8", made[data % ("four-hues", "card")])
     for number, file in refused():
         name = "refused-%d" % number
         put(file, data % (name, "card"), data % (name, "txt"))
-    listings = [text.decode() for path, text in made.items() if path.endswith((".txt", "stdout")) and "unrefined" not in path]
+    listings = [text.decode() for path, text in made.items() if path.startswith("crates/") and path.endswith((".txt", "stdout"))]
     made["examples/season.txt"] = season(listings).encode()
     return made
 

@@ -1,10 +1,11 @@
 #!/usr/bin/env python3
 """Draws a card file as a PNG: its modules and references in the colours that the camera saw.
 
-    python3 picture.py OUT.png FILE.card [--drawn FILE] [LISTING ..]
+    python3 picture.py OUT.png FILE.card [--drawn FILE] [--near FILE] [LISTING ..]
 
 Each listing adds a panel of the bits read, light where the bit is 1. With `--drawn`, the file of the bits drawn that
-card.py writes, a module that was read wrong is red.
+card.py writes, a module that was read wrong is red. With `--near`, what `oracle nearest` prints, only the references and
+the module are drawn: the module white in a frame, its nearest kept references framed, those that were not kept crossed out.
 """
 import argparse
 import struct
@@ -12,6 +13,7 @@ import zlib
 
 PIXELS = 14  # a module's side
 PAPER, WRONG, BITS = (236, 236, 232), (214, 40, 40), [(26, 30, 38), (250, 250, 246)]
+FRAME = (20, 90, 220)
 
 
 def sections(file):
@@ -54,6 +56,25 @@ def panel(side, squares):
     return rows
 
 
+def near(file, path):
+    """A panel of the references, with what is near a module."""
+    side, squares = camera(file)
+    places = [(int(r[0] // 1), int(r[1] // 1)) for r in struct.iter_unpack("<8f", sections(file)[2])]
+    rows = [list(row) for row in panel(side, {at: squares[at] for at in places})]
+    with open(path) as lines:
+        words = [line.split() for line in lines]
+    for kind, *numbers in words:
+        at = tuple(int(float(v) // 1) for v in numbers[-2:])
+        x, y = ((v + 3) * PIXELS for v in at)
+        for i in range(PIXELS):
+            for j in range(PIXELS):
+                edge = min(i, j, PIXELS - 1 - i, PIXELS - 1 - j) < 2
+                cross = abs(i - j) < 2 or abs(i + j - PIXELS + 1) < 2
+                if kind == "M" or kind == "N" and edge or kind == "R" and cross:
+                    rows[y + i][x + j] = WRONG if kind == "R" else FRAME if edge else BITS[1]
+    return rows
+
+
 def png(rows):
     """An image of rows of (red, green, blue)."""
     raw = b"".join(b"\0" + bytes(v for pixel in row for v in pixel) for row in rows)
@@ -79,9 +100,10 @@ def main():
     p.add_argument("card", help="a card file")
     p.add_argument("listings", nargs="*", help="listings, a panel each")
     p.add_argument("--drawn", help="the bits drawn")
+    p.add_argument("--near", help="a module and its nearest references")
     o = p.parse_intermixed_args()
     with open(o.card, "rb") as file:
-        rows = picture(file.read(), o.listings, o.drawn)
+        rows = near(file.read(), o.near) if o.near else picture(file.read(), o.listings, o.drawn)
     with open(o.out, "wb") as out:
         out.write(png(rows))
 

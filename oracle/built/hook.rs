@@ -14,6 +14,7 @@ thread_local! {
     static RING: RefCell<Vec<(i32, i32)>> = const { RefCell::new(Vec::new()) };
     static REFINING: Cell<bool> = const { Cell::new(true) };
     static FINITE: Cell<bool> = const { Cell::new(true) };
+    static KEPT: RefCell<Vec<bool>> = const { RefCell::new(Vec::new()) };
 }
 
 /// The shape that `Profile` answers with, where one is set.
@@ -51,4 +52,14 @@ pub fn after_pass(finite: bool) {
 /// Whether every pass since the last question was finite.
 pub fn passes_were_finite() -> bool {
     FINITE.replace(true)
+}
+
+/// `fit` tells at its end which references it keeps.
+pub fn set_kept(active: &[bool]) {
+    KEPT.set(active.to_vec());
+}
+
+/// Which references the fits since the last question kept last; none where no fit came to its end.
+pub fn kept() -> Vec<bool> {
+    KEPT.take()
 }

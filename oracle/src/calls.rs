@@ -8,6 +8,7 @@ pub mod illum;
 pub mod math;
 pub mod measure;
 pub mod modulate;
+pub mod near;
 pub mod page;
 pub mod refine;
 pub mod stats;

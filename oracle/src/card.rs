@@ -1,8 +1,9 @@
 //! Document 01's card file and listing: the reference reader, and a maker of cards of every shape.
 use crate::calls::demod::{Scoring, score};
-use crate::calls::illum::{Model, fit};
+use crate::calls::illum::{Model, fit, fit_kept};
 use crate::calls::measure::{Measuring, measure};
 use crate::calls::modulate::{bits_a_cell, read, unmask_luma};
+use crate::calls::near::{Query, near};
 use crate::calls::page::{self, Laying};
 use crate::calls::refine::{Refining, refine};
 use crate::calls::stats::ChannelStats;
@@ -157,6 +158,25 @@ impl Card {
         let rust = scoring.demodulated(true);
         let text = |scores: &[f32]| scores.iter().map(|&s| digits(s)).collect::<String>();
         Ok(text(&luma) == text(&rust.luma) && text(&chroma) == text(&rust.chroma))
+    }
+
+    /// A module (`M`), the kept references nearest to its centre (`N`), and those that were not kept (`R`), each with its
+    /// place in the list and its position.
+    pub fn nearest(&self, x: i32, y: i32) -> Result<String, u32> {
+        let (n, side) = (self.references.len() / 8, self.side as usize);
+        let (_, kept) = fit_kept(&self.references, n, side, self.version, n, &mut vec![0.0; 4 * n])?;
+        let xy: Vec<f32> = self.references.chunks(8).flat_map(|r| [r[0], r[1]]).collect();
+        let marks: Vec<u8> = kept.iter().map(|&kept| kept as u8).collect();
+        let mut places = vec![0; n];
+        let count = near(&xy, &marks, side, x, y, Query::Nearest, &mut places)?;
+        let mut text = format!("M {x} {y}\n");
+        for &i in &places[..count] {
+            writeln!(text, "N {i} {} {}", xy[2 * i as usize], xy[2 * i as usize + 1]).unwrap();
+        }
+        for i in (0..n).filter(|&i| !kept[i]) {
+            writeln!(text, "R {i} {} {}", xy[2 * i], xy[2 * i + 1]).unwrap();
+        }
+        Ok(text)
     }
 
     /// The listing, or the number of the first call refused; without refining, that of the scores that scoring left.

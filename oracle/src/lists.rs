@@ -10,6 +10,7 @@ mod illum;
 mod math;
 mod measure;
 mod modulate;
+mod near;
 mod page;
 mod private;
 mod records;
@@ -42,6 +43,7 @@ pub const KINDS: &[Kind] = &[
     stats::KIND,
     measure::KIND,
     records::KIND,
+    near::KIND,
     demod::KIND,
     refine::KIND,
     whole::KIND,

@@ -14,6 +14,7 @@ oracle many NAME COUNT [SEED]  COUNT random records of the kinds of NAME, withou
 oracle readcard                a card file on standard input to its listing, or `refused N`
 oracle unrefined               the same without refinement: what it would be read as
 oracle page                    the page of a card file for the panel door, or `refused N`
+oracle nearest X Y             the kept references of a card file nearest to a module, and those not kept
 oracle cards FOLDER COUNT SEED card files FOLDER/0.card .., with their listings beside them (.txt)
 oracle listings COUNT SEED     the listings of as many cards to standard output, one after the other
 oracle whole COUNT SEED        on as many cards, scoring and then refining is the Rust's `demodulate` with its last call
@@ -41,6 +42,13 @@ fn main() {
                 _ => page(&file),
             };
             to.write_all(text.as_bytes()).expect("standard output");
+        }
+        ["nearest", x, y] => {
+            let mut file = Vec::new();
+            std::io::stdin().read_to_end(&mut file).expect("standard input");
+            let place = |word: &str| word.parse().unwrap_or_else(|_| panic!("no place: {word}"));
+            let found = Card::parse(&file).ok_or(1).and_then(|card| card.nearest(place(x), place(y)));
+            to.write_all(found.unwrap_or_else(|n| format!("refused {n}\n")).as_bytes()).expect("standard output");
         }
         ["cards", folder, count, seed] => {
             let mut rng = Rng::new(number(seed) as u64);

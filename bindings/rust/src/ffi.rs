@@ -284,9 +284,46 @@ unsafe extern "C" {
         flat_len: usize,
         side: usize,
         version: u8,
+        kept: *mut u8,
+        kept_len: usize,
         scratch: *mut f32,
         scratch_len: usize,
     ) -> Modelled;
+    fn purdolve_nearest(
+        xy: *const f32,
+        xy_len: usize,
+        kept: *const u8,
+        kept_len: usize,
+        side: usize,
+        x: i32,
+        y: i32,
+        out: *mut u32,
+        out_len: usize,
+    ) -> NumberAnswer;
+    fn purdolve_within(
+        xy: *const f32,
+        xy_len: usize,
+        kept: *const u8,
+        kept_len: usize,
+        side: usize,
+        x: i32,
+        y: i32,
+        radius: f32,
+        out: *mut u32,
+        out_len: usize,
+    ) -> NumberAnswer;
+    fn purdolve_cut_off(
+        xy: *const f32,
+        xy_len: usize,
+        kept: *const u8,
+        kept_len: usize,
+        side: usize,
+        x: i32,
+        y: i32,
+        column: i32,
+        out: *mut u32,
+        out_len: usize,
+    ) -> NumberAnswer;
     fn purdolve_measure_flat(
         flat: *const f32,
         flat_len: usize,
@@ -548,8 +585,34 @@ pub fn draw(bits: &[u8], places: &Places, hues: usize, mask: u8, levels: &mut [u
     }
 }
 
-pub fn fit_flat(flat: &[f32], side: usize, version: u8, scratch: &mut [f32]) -> Modelled {
-    unsafe { purdolve_fit_flat(flat.as_ptr(), flat.len(), side, version, scratch.as_mut_ptr(), scratch.len()) }
+pub fn fit_flat(flat: &[f32], side: usize, version: u8, kept: &mut [u8], scratch: &mut [f32]) -> Modelled {
+    unsafe {
+        purdolve_fit_flat(
+            flat.as_ptr(),
+            flat.len(),
+            side,
+            version,
+            kept.as_mut_ptr(),
+            kept.len(),
+            scratch.as_mut_ptr(),
+            scratch.len(),
+        )
+    }
+}
+
+pub fn nearest(xy: &[f32], kept: &[u8], side: usize, x: i32, y: i32, out: &mut [u32]) -> NumberAnswer {
+    let (xs, ks, os) = (xy.len(), kept.len(), out.len());
+    unsafe { purdolve_nearest(xy.as_ptr(), xs, kept.as_ptr(), ks, side, x, y, out.as_mut_ptr(), os) }
+}
+
+pub fn within(xy: &[f32], kept: &[u8], side: usize, x: i32, y: i32, radius: f32, out: &mut [u32]) -> NumberAnswer {
+    let (xs, ks, os) = (xy.len(), kept.len(), out.len());
+    unsafe { purdolve_within(xy.as_ptr(), xs, kept.as_ptr(), ks, side, x, y, radius, out.as_mut_ptr(), os) }
+}
+
+pub fn cut_off(xy: &[f32], kept: &[u8], side: usize, x: i32, y: i32, column: i32, out: &mut [u32]) -> NumberAnswer {
+    let (xs, ks, os) = (xy.len(), kept.len(), out.len());
+    unsafe { purdolve_cut_off(xy.as_ptr(), xs, kept.as_ptr(), ks, side, x, y, column, out.as_mut_ptr(), os) }
 }
 
 pub fn measure_flat(

@@ -2,6 +2,7 @@
 use crate::color::Linear;
 use crate::{Refusal, ffi};
 use alloc::vec;
+use alloc::vec::Vec;
 
 /// The version from which on a model's surfaces have 9 terms; below it they have 4.
 pub const BIQUADRATIC_FROM_VERSION: u8 = 10;
@@ -53,9 +54,24 @@ impl IlluminationModel {
     /// # Ok::<(), purdolve::Refusal>(())
     /// ```
     pub fn fit(refs: &[Reference], side: u16, version: u8) -> Result<IlluminationModel, Refusal> {
+        IlluminationModel::fit_kept(refs, side, version).map(|(model, _)| model)
+    }
+
+    /// Fits the model, and says which references were kept: none where the model's `kept` is 0. Refused as `fit`.
+    ///
+    /// ```
+    /// use purdolve::color::Linear;
+    /// use purdolve::illum::{IlluminationModel, Reference};
+    /// let grey = Linear::new(0.5, 0.5, 0.5);
+    /// let (model, kept) = IlluminationModel::fit_kept(&[Reference { x: 0.5, y: 0.5, observed: grey, nominal: grey }], 21, 1)?;
+    /// assert_eq!((model.kept, kept), (0, vec![false]));
+    /// # Ok::<(), purdolve::Refusal>(())
+    /// ```
+    pub fn fit_kept(refs: &[Reference], side: u16, version: u8) -> Result<(IlluminationModel, Vec<bool>), Refusal> {
+        let mut kept = vec![0; refs.len()];
         let mut scratch = vec![0.0; 4 * refs.len()];
-        let answer = ffi::fit_flat(ffi::flat(refs), side.into(), version, &mut scratch);
-        Refusal::check(answer.number).map(|()| answer.model)
+        let answer = ffi::fit_flat(ffi::flat(refs), side.into(), version, &mut kept, &mut scratch);
+        Refusal::check(answer.number).map(|()| (answer.model, kept.iter().map(|&mark| mark != 0).collect()))
     }
 
     /// A colour observed at a position, any float, as it would be under even light. Refused: 8, 10.

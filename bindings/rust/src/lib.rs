@@ -18,6 +18,7 @@
 //! | `add_local_luma(luma, at, side, palette, stats, chroma)` | the same without `chroma` |
 //! | `unmask_luma(llrs, layout, mask)` | the same, a `Result` |
 //! | - | `read_bits(raw, layout, palette, illum, stats, mask)`: all of these calls in one, and the bits read |
+//! | - | `IlluminationModel::fit_kept(refs, side, version)`: the fit with the references that it kept; [`near::near`]: which of them stand near a module |
 //! | - | `page(luma, layout, illum)`: the read card as a page of text |
 //! | `lcr_core::palette::Palette`, `lcr_core::layout::Layout` | [`palette::Palette`], [`layout::Layout`]: the fields that the stage reads |
 //! | `solve`, `least_squares`, `chroma_bit_llrs`, rotations, symbols | the same, each a `Result` |
@@ -72,6 +73,7 @@ pub mod layout;
 pub mod mask;
 pub mod math;
 pub mod modulate;
+pub mod near;
 pub mod page;
 pub mod palette;
 pub mod readcard;

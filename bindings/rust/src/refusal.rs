@@ -72,6 +72,7 @@ refusals! {
     Corrected = 12, "A corrected colour of a module, cell or measured reference is not finite or has magnitude above \
         1,048,576.";
     Page = 14, "The side is above 40 where a page is laid out.";
+    Radius = 15, "The radius within which references are asked for is negative or not finite.";
     Totals = 18, "Totals have more than 65,535 cards, or would have with what is added, more than 1,048,576 modules a \
         card, a count above their modules, or a sum above 1,310,720 a module.";
     Score = 19, "A score that is added to totals is NaN or above 20 in magnitude.";

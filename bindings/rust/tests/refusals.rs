@@ -8,6 +8,7 @@ use purdolve::illum::{IlluminationModel, Reference};
 use purdolve::layout::Layout;
 use purdolve::math::{NormalEquations, least_squares, solve};
 use purdolve::modulate::{chroma_bit_llrs, draw};
+use purdolve::near::{Query, near};
 use purdolve::page::page;
 use purdolve::palette::Palette;
 use purdolve::readcard::read_card;
@@ -196,6 +197,19 @@ fn wide_page() -> Result<(), Refusal> {
     many.kept = 16_385;
     assert_eq!(page(&[1.0; 3], &at(41), &many), Err(Refusal::Count));
     Ok(())
+}
+
+#[test]
+fn radius() {
+    let at = |radius, module| near(&[[10.5, 10.5]], &[true], 21, module, Query::Within(radius));
+    assert_eq!(at(-0.0, (10, 10)), Ok(vec![0]));
+    for radius in [-1e-45, -1.0, f32::NAN, f32::INFINITY, f32::NEG_INFINITY] {
+        assert_eq!(at(radius, (10, 10)), Err(Refusal::Radius));
+        assert_eq!(at(radius, (27, 10)), Err(Refusal::Place));
+    }
+    assert_eq!(near(&[[10.5, 10.5]], &[], 21, (10, 10), Query::Within(-1.0)), Err(Refusal::Length));
+    assert_eq!(near(&[[0.0; 2]; 16385], &[true; 16385], 21, (0, 0), Query::Nearest), Err(Refusal::Count));
+    assert_eq!(near(&[], &[], 0, (0, 0), Query::CutOff(0)), Err(Refusal::Side));
 }
 
 #[test]

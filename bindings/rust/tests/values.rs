@@ -1,7 +1,7 @@
 //! Known answers: the worked examples of the scope, and others that can be worked out by hand.
 use purdolve::color::{self, Lab, Linear, Srgb8};
 use purdolve::demod::{ChannelStats, Threshold};
-use purdolve::illum::{BIQUADRATIC_FROM_VERSION, IlluminationModel};
+use purdolve::illum::{BIQUADRATIC_FROM_VERSION, IlluminationModel, Reference};
 use purdolve::math::{NormalEquations, least_squares, mad_sigma, median, solve};
 use purdolve::modulate::{
     cell_hue, chroma_bit_llrs, grid_level, read, read_list, ring_hue, ring_level, symbol_of_bits,
@@ -140,4 +140,26 @@ fn colour_counts() {
     assert_eq!(stats(50.0, 50.0, 6.0, [0.0; 2]).colour_counts(&palette), Ok(vec![0, 0, 32_768]));
     let three = Palette { hues: 3, ..palette };
     assert_eq!(nominal.colour_counts(&three), Err(purdolve::Refusal::Hues));
+}
+
+/// References of a known shade, the third seen far too bright.
+fn shaded(n: usize) -> Vec<Reference> {
+    let one = |i: usize| {
+        let v = 0.1 + 0.07 * (i * 5 % 11) as f32;
+        let nominal = Linear::new(v, 0.9 - v, 0.2 + 0.5 * v);
+        let seen = if i == 2 { 2.0 } else { 0.8 };
+        let observed = Linear::new(seen * nominal.r, seen * nominal.g, seen * nominal.b);
+        Reference { x: (i % 5) as f32 * 4.0, y: (i / 5) as f32 * 4.0, observed, nominal }
+    };
+    (0..n).map(one).collect()
+}
+
+#[test]
+fn kept_references() {
+    let (model, kept) = IlluminationModel::fit_kept(&shaded(16), 21, 1).unwrap();
+    assert_eq!(IlluminationModel::fit(&shaded(16), 21, 1), Ok(model));
+    assert_eq!(kept.iter().filter(|&&k| k).count(), model.kept as usize);
+    assert!(model.kept + model.rejected == 16 && !kept[2]);
+    let (model, kept) = IlluminationModel::fit_kept(&shaded(7), 21, 1).unwrap();
+    assert_eq!((model.kept, kept), (0, vec![false; 7]));
 }

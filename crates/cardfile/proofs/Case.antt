@@ -77,7 +77,7 @@ unfolding referencesOf listOf listFrom
 case-references = refl
 
 case-text : fitText theCase [] ≡ theText
-unfolding add sub mul div neg lt le eq round isNan fraction toBits ofBits abs max min clamp refusal decided someOf anyUp turns forUp badHues shortPalette badNumbers wild badNoiseNumbers wildFigure badSigmas badLevelSigma levelL hueAb paletteLab lumaLlr chromaOn sigmaAbAt between badSide badCellSize chromaLength symbolBits log2 halvings chromaEntries shape placement modulePlacement badCounts badModules badPositions misplaced outside badCell xor lumaMask maskRules unitModel moduleColour centre ofInt linearAt mixed unshaded affineRow basisAt normalised termsUsed addTerm isHeld holdGain leastGain deshade toSingle linearToXyz xyzToLab lightness labF line cbrtOf digits iroot rootOfUnits mag scoredOf scoring.sentencesOf badLengths badModuleLengths badCellLengths shortChroma badInputs badCorrected wildLinear badModel badShape badTerms badModelSide notFiniteModel notFiniteAffine notFiniteGains notFiniteFlares toUnsigned writeModule lumaScore weighted weighed reliability closer distance weight sqrtOf chromaWritten ringChroma refineOf refinement.sentencesOf shortSlices wildNumbers refinedOf refined refineAt refineOne sure placeAt unmaskLumaOf unmaskSentences badLumaLengths unmaskAt maskedAt readListOf readSentences reads shortScratch tooMany referencePlacement fitSentences fitOf termsFor fitting.fitted tooShort sentencesFor measureOf measuring.measured measuring.wildNumbers measuring.badCorrected readOf textOf scoreText afterMeasuring measureText afterFitting fitText row rows listing.listing listing.digits decimal signed hexDigit hex scoreEnd fitLine lumaLine
+unfolding add sub mul div neg lt le eq round isNan fraction toBits ofBits abs max min clamp refusal decided someOf anyUp turns forUp badHues shortPalette badNumbers wild badNoiseNumbers wildFigure badSigmas badLevelSigma levelL hueAb paletteLab lumaLlr chromaOn sigmaAbAt between badSide badCellSize chromaLength symbolBits log2 halvings chromaEntries shape placement modulePlacement badCounts badModules badPositions misplaced outside badCell xor lumaMask maskRules unitModel moduleColour centre ofInt linearAt mixed unshaded affineRow basisAt normalised termsUsed addTerm isHeld holdGain leastGain deshade toSingle linearToXyz xyzToLab lightness labF line cbrtOf digits iroot rootOfUnits mag scoredOf scoring.sentencesOf badLengths badModuleLengths badCellLengths shortChroma badInputs badCorrected wildLinear badModel badShape badTerms badModelSide notFiniteModel notFiniteAffine notFiniteGains notFiniteFlares toUnsigned writeModule lumaScore weighted weighed reliability closer distance weight sqrtOf chromaWritten ringChroma refineOf refinement.sentencesOf shortSlices wildNumbers refinedOf refined refineAt refineOne sure placeAt unmaskLumaOf unmaskSentences badLumaLengths unmaskAt maskedAt readListOf readSentences reads shortScratch tooMany referencePlacement fitSentences fitOf termsFor fitting.short fitting.marksLeft fitting.fitted tooShort sentencesFor measureOf measuring.measured measuring.wildNumbers measuring.badCorrected readOf textOf scoreText afterMeasuring measureText afterFitting fitText row rows listing.listing listing.digits decimal signed hexDigit hex scoreEnd fitLine lumaLine
 case-text = refl
 
 pub the-case : cardText (cardFile theCase []) ≡ theText

@@ -1,10 +1,14 @@
 -- What a call leaves, as its own contract has it, is what its export leaves: the answer is turned into a struct, and the slices are the same.
 -- Assumes nothing.
-use mathlib.Core.Path.{_≡_, refl}
+use mathlib.Core.Path.{_≡_, refl, ap₂, _∙_}
 use mathlib.Core.Bool.{Bool}
 use mathlib.Core.List.{List}
 use Prim.Native.Nat.{ℕ}
+use lib.IntN.{ℤ}
 use lib.Ieee.{Float}
+use mir.Syntax.{w32}
+use mir.Val.{SFits, toZ, ofZ}
+use mir.Facts.{toZ-ofZ}
 use Rattle.answers.specs.Answers as told
 use Rattle.answers.specs.declared.Outcome as writing
 use Rattle.bits.specs.Reading as bits
@@ -12,6 +16,8 @@ use Rattle.demod.specs.Call as demod
 use Rattle.math.specs.Gauss as gauss
 use Rattle.math.specs.Normal as normal
 use Rattle.measure.specs.Measure as measure
+use Rattle.near.specs.Near as near
+use Rattle.near.specs.declared.Query.{Query}
 use Rattle.modulate.specs.Draw as draw
 use Rattle.modulate.specs.Score as write
 use Rattle.order.specs.Deviation as deviation
@@ -19,10 +25,11 @@ use Rattle.refine.specs.Calls as refine
 use Rattle.modulate.specs.declared.Cell as cell
 use Rattle.stats.specs.declared.ChannelStats.{ChannelStats}
 use Rattle.exports.specs.declared.replies.SolveAnswer.{SolveAnswer}
+use Rattle.exports.specs.declared.replies.NumberAnswer.{NumberAnswer}
 use Rattle.exports.specs.declared.replies.NoiseAnswer.{NoiseAnswer}
 use Rattle.exports.specs.declared.replies.FloatAnswer.{FloatAnswer}
-use Rattle.exports.specs.Replies.{solveAnswer, noiseAnswer, floatAnswer}
-use Rattle.exports.specs.Exits.{exit1, exit2, exit3, exit6, solveExit, measureExit, scoreExit, readExit, refineExit, addRowExit, fittedExit, sigmaExit, writeExit, drawExit}
+use Rattle.exports.specs.Replies.{solveAnswer, numberAnswer, noiseAnswer, floatAnswer}
+use Rattle.exports.specs.Exits.{exit1, exit2, exit3, exit6, solveExit, measureExit, scoreExit, readExit, refineExit, addRowExit, fittedExit, sigmaExit, writeExit, drawExit, nearExit}
 
 pub solve-exit : {s : told.Said Bool} {r : SolveAnswer} {a b x : List Float} {f : gauss.Final} →
     r ≡ solveAnswer s → gauss.final s a b x ≡ f → exit3 r a b x ≡ solveExit f
@@ -78,3 +85,10 @@ pub draw-exit : {o : writing.Outcome} {r : ℕ} {a b : List ℕ} {f : draw.Drawn
     r ≡ told.outcomeNumber o → draw.drawn o a b ≡ f → exit2 r a b ≡ drawExit f
 unfolding drawExit
 draw-exit p q = rw (p, ← q)
+
+-- a position that is given on is read back from its bits
+pub near-exit : {s : told.Said ℕ} {r : NumberAnswer} {l : List ℕ} (xy : List Float) (kept : List ℕ) (side : ℕ) (x y : ℤ) (q : Query) (out : List ℕ) → SFits w32 x → SFits w32 y →
+    r ≡ numberAnswer s → near.final s l ≡ near.nearOf (near.request xy kept side (toZ w32 (ofZ w32 x)) (toZ w32 (ofZ w32 y)) q out) →
+    exit1 r l ≡ nearExit (near.nearOf (near.request xy kept side x y q out))
+unfolding nearExit
+near-exit xy kept side x y q out fx fy p g = rw (p, ← (g ∙ ap₂ (λ (a b : ℤ). near.nearOf (near.request xy kept side a b q out)) (toZ-ofZ fx) (toZ-ofZ fy)))

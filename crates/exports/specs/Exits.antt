@@ -9,12 +9,14 @@ use Rattle.math.specs.Gauss as gauss
 use Rattle.math.specs.Normal as normal
 use Rattle.measure.specs.Measure as measure
 use Rattle.modulate.specs.Draw as draw
+use Rattle.near.specs.Near as near
 use Rattle.order.specs.Deviation as deviation
 use Rattle.refine.specs.Calls as refine
 use Rattle.exports.specs.declared.replies.SolveAnswer.{SolveAnswer}
+use Rattle.exports.specs.declared.replies.NumberAnswer.{NumberAnswer}
 use Rattle.exports.specs.declared.replies.NoiseAnswer.{NoiseAnswer}
 use Rattle.exports.specs.declared.replies.FloatAnswer.{FloatAnswer}
-use Rattle.exports.specs.Replies.{solveAnswer, noiseAnswer, floatAnswer}
+use Rattle.exports.specs.Replies.{solveAnswer, numberAnswer, noiseAnswer, floatAnswer}
 
 -- an answer, and one, two or three lent slices
 pub record Exit1 (R A : Type 0) : Type 0 where
@@ -90,3 +92,7 @@ writeExit f = exit1 (f .number) (f .list)
 -- `draw`
 unfoldable pub drawExit : draw.Drawn → Exit2 ℕ ℕ ℕ
 drawExit f = exit2 (f .number) (f .levels) (f .hues)
+
+-- `nearest`, `within`, `cut_off`
+unfoldable pub nearExit : near.Final → Exit1 NumberAnswer ℕ
+nearExit f = exit1 (numberAnswer (f .said)) (f .out)

@@ -8,6 +8,7 @@ mod colour; // colour.rt: colours and the palette
 mod drawing; // drawing.rt: bits and hues, drawing and reading
 mod floats; // floats.rt: floats
 mod floor; // floor.rt: linear systems, order statistics
+mod nearby; // nearby.rt: the references near a module
 mod recorded; // recorded.rt: the model and the noise record, from references as records
 mod replies; // replies.rt: the structs that stand for enums
 mod season; // season.rt: totals over a season's cards

@@ -10,18 +10,20 @@ use illum::IlluminationModel;
 use illum::Modelled;
 use records::Reference;
 
-// Fits the model to references as records: what `purdolve_fit_flat` gives of the same floats, eight a record. Takes 512 KB of stack
-// for a copy of them. Refused: 2, 5, 6, 7, 8, 11; scratch is untouched then, save that 11 leaves it zero.
+// Fits the model to references as records, and marks those that were kept: what `purdolve_fit_flat` gives of the same floats, eight
+// a record. Takes 512 KB of stack for a copy of them. Refused: 2, 5, 6, 7, 8, 11; kept and scratch are untouched then, save that 11
+// leaves scratch zero.
 #[no_mangle]
 pub extern "C" fn purdolve_fit(
     refs: &[Reference],
     side: usize,
     version: u8,
+    kept: &mut [u8],
     scratch: &mut [f32],
 ) -> Modelled
-    ensures { λ r. ⌜ fit_call.final r (now (scratch .exit)) ≡ fit_call.fitOf (fit_call.flatRequest (records_call.flattened (now (refs .entry))) side version (now (scratch .entry))) ⌝ }
+    ensures { λ r. ⌜ fit_call.final r (now (kept .exit)) (now (scratch .exit)) ≡ fit_call.fitOf (fit_call.flatRequest (records_call.flattened (now (refs .entry))) side version (now (kept .entry)) (now (scratch .entry))) ⌝ }
 {
-    records::fit(refs, side, version, scratch)
+    records::fit(refs, side, version, kept, scratch)
 }
 
 // Measures the noise record from references as records, corrected by the model: what `purdolve_measure_flat` gives of the same

@@ -66,18 +66,20 @@ pub extern "C" fn purdolve_correct_lent<'a>(
     ))
 }
 
-// Fits the model to references in flat floats, eight each: x, y, the observed colour, the nominal colour. Scratch of 4 × references
-// is all zero afterwards. Refused: 2, 5, 6, 7, 8, 11; scratch is untouched then, save that 11 leaves it zero.
+// Fits the model to references in flat floats, eight each: x, y, the observed colour, the nominal colour. Kept gets a byte a
+// reference, 1 where it was kept, and 0 for all where the model counts none as kept. Scratch of 4 × references is all zero
+// afterwards. Refused: 2, 5, 6, 7, 8, 11; kept and scratch are untouched then, save that 11 leaves scratch zero.
 #[no_mangle]
 pub extern "C" fn purdolve_fit_flat(
     flat: &[f32],
     side: usize,
     version: u8,
+    kept: &mut [u8],
     scratch: &mut [f32],
 ) -> Modelled
-    ensures { λ r. ⌜ fit_call.final r (now (scratch .exit)) ≡ fit_call.fitOf (fit_call.flatRequest (now (flat .entry)) side version (now (scratch .entry))) ⌝ }
+    ensures { λ r. ⌜ fit_call.final r (now (kept .exit)) (now (scratch .exit)) ≡ fit_call.fitOf (fit_call.flatRequest (now (flat .entry)) side version (now (kept .entry)) (now (scratch .entry))) ⌝ }
 {
-    fit::fit_flat(flat, side, version, scratch)
+    fit::fit_flat(flat, side, version, kept, scratch)
 }
 
 // Measures the noise record from references in flat floats, corrected by the model. Scratch of 4 × references is all zero

@@ -1,4 +1,5 @@
 pub mod Accepted
 pub mod Counts
 pub mod Law
+pub mod Marks
 pub mod Shape

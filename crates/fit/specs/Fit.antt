@@ -1,11 +1,14 @@
--- The fit: two passes with a rejection between them, and the refusals of `fit_flat` and `fit_counted`. Definitions only.
+-- The fit: two passes with a rejection between them, the marks of the references that were kept, and the refusals of `fit_flat` and
+-- `fit_counted`. Definitions only.
+use mathlib.Core.Path.{_≡_}
 use mathlib.Core.Bool.{Bool, true, false, cond, not, _||_}
 use mathlib.Core.List.{List, [], _∷_, _++_}
-use Prim.Native.Nat.{ℕ, _*_, _/_, _%_}
+use Prim.Native.Nat.{ℕ, _+_, _*_, _/_, _%_}
 use lib.Dec.{ltb, eqb}
-use lib.ListN.{length}
+use lib.ListN.{length, getD}
 use lib.Ieee.{Float}
-use Rattle.loops.specs.Loops.{anyUp}
+use Rattle.loops.specs.Loops.{anyUp, countUp}
+use Rattle.lists.specs.Lists.{replaced}
 use Rattle.sentences.specs.Sentences.{Sentence, _when_, refusal, decided}
 use Rattle.limits.specs.Limits.{badSide}
 use Rattle.order.specs.Deviation.{cleared}
@@ -15,7 +18,7 @@ use Rattle.illum.specs.Correct.{unitModel}
 use Rattle.illum.specs.Refusals.{notFiniteAt, notFiniteModel, modelled, refusedModel}
 use Rattle.fit.specs.declared.Pass.{Pass}
 use Rattle.references.specs.References.{badColours, shortScratch, referencePlacement}
-use Rattle.equations.specs.Live.{allLive, liveCount}
+use Rattle.equations.specs.Live.{allLive, isLive, liveCount}
 use Rattle.equations.specs.Once.{fitOnce}
 use Rattle.residuals.specs.Residual.{residualsOf, rmsOf, limitOf, Rejection, rejectAbove}
 
@@ -132,6 +135,38 @@ fitted flat n side terms =
 unfoldable pub termsFor : ℕ → ℕ
 termsFor version = cond (ltb version 10) 4 9
 
+-- ---- which references were kept
+
+-- "The fit therefore also gives back which references were kept, none where kept is 0": of the live ones, `count` of which the model counts as kept
+unfoldable pub keptMark : ℕ → List Float → ℕ → ℕ
+keptMark count live i = cond (eqb count 0) 0 (cond (isLive live i) 1 0)
+
+abbrev pub markAt : ℕ → List Float → ℕ → ℕ → ℕ
+markAt count live i b = keptMark count live i
+
+-- one a reference
+abbrev pub marksOf : ℕ → List Float → ℕ → List ℕ → List ℕ
+marksOf count live n marks = replaced 0 n (markAt count live) marks
+
+-- by the passes' number: 11 leaves the marks as they were
+unfoldable pub marksLeft : ℕ → ℕ → List Float → ℕ → List ℕ → List ℕ
+marksLeft number count live n marks = decided number (λ (k : ℕ). marks) (marksOf count live n marks)
+
+-- mark i is v
+unfoldable pub isMark : ℕ → List ℕ → ℕ → Bool
+isMark v marks i = eqb (getD marks i 0) v
+
+-- how many of the first n are
+abbrev pub marked : ℕ → List ℕ → ℕ → ℕ
+marked v marks n = countUp 0 n (isMark v marks)
+
+-- the marks of n references are 0 and 1; the 1s are as many as the model's kept ones, so that all are 0 where none is kept; and where some are,
+-- the 0s are the rejected ones
+pub record MarksAddUp (n : ℕ) (m : IlluminationModel) (marks : List ℕ) : Type 0 where
+  pub all : marked 0 marks n + marked 1 marks n ≡ n
+  pub ones : marked 1 marks n ≡ m .kept
+  pub zeros : (m .kept ≡ 0 → ⊥) → marked 0 marks n ≡ m .rejected
+
 -- ---- the calls
 
 -- what a call is handed: n references in flat floats, of which the last is cut off where `cut`
@@ -141,40 +176,54 @@ pub record Request : Type 0 where
   pub n : ℕ
   pub side : ℕ
   pub version : ℕ
+  pub kept : List ℕ
   pub scratch : List Float
 
-abbrev pub request : List Float → Bool → ℕ → ℕ → ℕ → List Float → Request
-request flat cut n side version scratch = record { flat = flat; cut = cut; n = n; side = side; version = version; scratch = scratch }
+abbrev pub request : List Float → Bool → ℕ → ℕ → ℕ → List ℕ → List Float → Request
+request flat cut n side version kept scratch = record { flat = flat; cut = cut; n = n; side = side; version = version; kept = kept; scratch = scratch }
 
 -- eight floats a reference
-abbrev pub flatRequest : List Float → ℕ → ℕ → List Float → Request
-flatRequest flat side version scratch = request flat (not (eqb (length flat % 8) 0)) (length flat / 8) side version scratch
+abbrev pub flatRequest : List Float → ℕ → ℕ → List ℕ → List Float → Request
+flatRequest flat side version kept scratch = request flat (not (eqb (length flat % 8) 0)) (length flat / 8) side version kept scratch
+
+-- 5: one mark a reference, and scratch of 4 × references
+unfoldable pub short : ℕ → ℕ → ℕ → Bool
+short marks lent n = ltb marks n || shortScratch lent n
 
 -- in checking order
-unfoldable pub fitSentences : List Float → Bool → ℕ → ℕ → ℕ → List Sentence
-fitSentences flat cut n side lent =
+unfoldable pub fitSentences : List Float → Bool → ℕ → ℕ → ℕ → ℕ → List Sentence
+fitSentences flat cut n side marks lent =
     (2 when badSide side) ∷
-    (5 when (cut || shortScratch lent n)) ∷
+    (5 when (cut || short marks lent n)) ∷
     (referencePlacement side flat n ++ ((8 when badColours flat n) ∷ []))
 
 abbrev pub sentencesOf : Request → List Sentence
-sentencesOf q = fitSentences (q .flat) (q .cut) (q .n) (q .side) (length (q .scratch))
+sentencesOf q = fitSentences (q .flat) (q .cut) (q .n) (q .side) (length (q .kept)) (length (q .scratch))
 
 -- what it gives back
 pub record Final : Type 0 where
   pub answer : Modelled
+  pub kept : List ℕ
   pub scratch : List Float
 
-abbrev pub final : Modelled → List Float → Final
-final r scratch = record { answer = r; scratch = scratch }
+abbrev pub final : Modelled → List ℕ → List Float → Final
+final r kept scratch = record { answer = r; kept = kept; scratch = scratch }
 
 -- refused by sentence n: nothing changes
 abbrev pub turnedAway : Request → ℕ → Final
-turnedAway q n = final (refusedModel n) (q .scratch)
+turnedAway q n = final (refusedModel n) (q .kept) (q .scratch)
 
--- accepted, or refused by 11: scratch is all zero, and its tail stays
+-- what the passes give
+abbrev pub ranOf : Request → Ran
+ranOf q = fitted (q .flat) (q .n) (q .side) (termsFor (q .version))
+
+-- after the passes, with n marks and the scratch that they used: the marks are written, save by 11; scratch is all zero, and its tail stays
+abbrev pub left : ℕ → List ℕ → List Float → Ran → Final
+left n kept scratch x = final (x .answer) (marksLeft (x .answer .number) (x .answer .model .kept) (x .live) n kept) (cleared (4 * n) scratch)
+
+-- accepted, or refused by 11
 abbrev pub done : Request → Final
-done q = final (fitted (q .flat) (q .n) (q .side) (termsFor (q .version)) .answer) (cleared (4 * q .n) (q .scratch))
+done q = left (q .n) (q .kept) (q .scratch) (ranOf q)
 
 unfoldable pub fitOf : Request → Final
 fitOf q = decided (refusal (sentencesOf q)) (turnedAway q) (done q)

@@ -4,12 +4,13 @@
 //
 // References are flat floats, eight each: x, y, the observed colour, the nominal colour.
 //
+//     let mut kept = [0u8; 256];
 //     let mut scratch = [0.0f32; 1024];
-//     let fitted = fit::fit_flat(&flat, 21, 1, &mut scratch);      // up to 256 references of a card of side 21, version 1
-//     if fitted.number == 0 { .. fitted.model .. }
+//     let fitted = fit::fit_flat(&flat, 21, 1, &mut kept, &mut scratch);      // up to 256 references of a card of side 21, version 1
+//     if fitted.number == 0 { .. fitted.model .. kept[i] .. }
 ghost use mathlib.Core.Path.{_≡_};
 ghost use mathlib.Core.Bool.{true, false};
-ghost use Prim.Native.Nat.{_*_, _≤_};
+ghost use Prim.Native.Nat.{_*_, _/_, _<_, _≤_};
 ghost use lib.ListN.{length, take, drop};
 ghost use Rattle.sentences.specs.Sentences.{refusal};
 ghost use Rattle.references.specs.Ready.{Scratch, Lent};
@@ -162,6 +163,43 @@ pub fn fit_live(flat: &[f32], n: usize, side: usize, terms: usize, s: &mut [f32]
     refit(model, flat, n, s)
 }
 
+// ---- which references were kept
+
+// The mark of reference i, of those that a model with this count of kept references was fitted to.
+fn kept_mark(count: u32, live: &[f32], i: usize) -> u8
+    requires { ⌜ i < length (now live) ⌝ }
+    ensures { λ r. ⌜ r ≡ spec.keptMark count (now (live .entry)) i ⌝ }
+{
+    if count == 0 {
+        return 0;
+    }
+    if live::is_live(live, i) {
+        return 1;
+    }
+    0
+}
+
+// Writes the marks of n references.
+fn write_marks(count: u32, live: &[f32], n: usize, kept: &mut [u8])
+    requires { ⌜ (n ≤ length (now live)) × (n ≤ length (now kept)) ⌝ }
+    ensures { λ _. ⌜ now (kept .exit) ≡ spec.marksOf count (now (live .entry)) n (now (kept .entry)) ⌝ }
+{
+    for i in 0..n {
+        kept[i] = kept_mark(count, live, i);
+    }
+}
+
+// Writes the marks of n references after the passes, where they were not refused by 11.
+fn mark_kept(number: u32, count: u32, live: &[f32], n: usize, kept: &mut [u8])
+    requires { ⌜ (n ≤ length (now live)) × (n ≤ length (now kept)) ⌝ }
+    ensures { λ _. ⌜ now (kept .exit) ≡ spec.marksLeft number count (now (live .entry)) n (now (kept .entry)) ⌝ }
+{
+    if number != 0 {
+        return;
+    }
+    write_marks(count, live, n, kept);
+}
+
 // ---- the calls
 
 // 4 terms below version 10, 9 from it on.
@@ -174,15 +212,25 @@ fn terms_for(version: u8) -> usize
     9
 }
 
+// Sentence 5: fewer marks than references, or scratch shorter than 4 × n.
+fn short(marks: usize, lent: usize, n: usize) -> bool
+    ensures { λ r. ⌜ r ≡ spec.short marks lent n ⌝ }
+{
+    if marks < n {
+        return true;
+    }
+    references::short_scratch(lent, n)
+}
+
 // The number of the first sentence that holds, or 0.
-fn refused(flat: &[f32], n: usize, side: usize, scratch: &[f32]) -> u32
+fn refused(flat: &[f32], n: usize, side: usize, marks: usize, lent: usize) -> u32
     requires { ⌜ (n ≤ 16384 → 8 * n ≤ length (now flat)) ⌝ }
-    ensures { λ r. ⌜ r ≡ refusal (spec.fitSentences (now (flat .entry)) false n side (length (now (scratch .entry)))) ⌝ }
+    ensures { λ r. ⌜ r ≡ refusal (spec.fitSentences (now (flat .entry)) false n side marks lent) ⌝ }
 {
     if limits::bad_side(side) {
         return 2;
     }
-    if references::short_scratch(scratch.len(), n) {
+    if short(marks, lent, n) {
         return 5;
     }
     let placed = references::refused_references(side, flat, n);
@@ -195,19 +243,20 @@ fn refused(flat: &[f32], n: usize, side: usize, scratch: &[f32]) -> u32
     0
 }
 
-// Core: fits n references, which stand in flat where there are no more than 16,384 of them. Refused by 2, 5 (scratch shorter
-// than 4 × n), 6, 7, 8 and 11.
+// Core: fits n references, which stand in flat where there are no more than 16,384 of them. Refused by 2, 5 (kept shorter than n,
+// or scratch than 4 × n), 6, 7, 8 and 11.
 pub fn fit_counted(
     flat: &[f32],
     n: usize,
     side: usize,
     version: u8,
+    kept: &mut [u8],
     scratch: &mut [f32],
 ) -> Modelled
     requires { ⌜ (n ≤ 16384 → 8 * n ≤ length (now flat)) ⌝ }
-    ensures { λ r. ⌜ final r (now (scratch .exit)) ≡ spec.fitOf (request (now (flat .entry)) false n side version (now (scratch .entry))) ⌝ }
+    ensures { λ r. ⌜ final r (now (kept .exit)) (now (scratch .exit)) ≡ spec.fitOf (request (now (flat .entry)) false n side version (now (kept .entry)) (now (scratch .entry))) ⌝ }
 {
-    let number = refused(flat, n, side, scratch);
+    let number = refused(flat, n, side, kept.len(), scratch.len());
     if number != 0 {
         return Modelled {
             number,
@@ -215,18 +264,28 @@ pub fn fit_counted(
         };
     }
     let r = fit_live(flat, n, side, terms_for(version), &mut scratch[..4 * n]);
+    let model = r.model;
+    mark_kept(r.number, model.kept, &scratch[..n], n, kept);
     references::clear(scratch, 4 * n);
     r
 }
 
-// Fits the model to references in flat floats, eight each, for a card of this side and version. Scratch of 4 × references is all
-// zero afterwards, and its tail stays. Refused by 2, 5 (flat no multiple of eight long, or scratch too short), 6, 7, 8 and 11;
-// scratch is untouched then, save that 11 leaves it zero.
-pub fn fit_flat(flat: &[f32], side: usize, version: u8, scratch: &mut [f32]) -> Modelled
-    ensures { λ r. ⌜ final r (now (scratch .exit)) ≡ spec.fitOf (flatRequest (now (flat .entry)) side version (now (scratch .entry))) ⌝ }
+// Fits the model to references in flat floats, eight each, for a card of this side and version. The first byte a reference of kept
+// is 1 for one that was kept and 0 for any other, and 0 for all where the model's count of kept ones is 0; its tail stays. Scratch
+// of 4 × references is all zero afterwards, and its tail stays. Refused by 2, 5 (flat no multiple of eight long, or kept or scratch
+// too short), 6, 7, 8 and 11; kept and scratch are untouched then, save that 11 leaves scratch zero.
+pub fn fit_flat(
+    flat: &[f32],
+    side: usize,
+    version: u8,
+    kept: &mut [u8],
+    scratch: &mut [f32],
+) -> Modelled
+    ensures { λ r. ⌜ final r (now (kept .exit)) (now (scratch .exit)) ≡ spec.fitOf (flatRequest (now (flat .entry)) side version (now (kept .entry)) (now (scratch .entry))) ⌝ }
+    ensures { λ r. ⌜ (r .number ≡ 0 → spec.MarksAddUp (length (now (flat .entry)) / 8) (r .model) (now (kept .exit))) ⌝ }
 {
     if flat.len() % 8 == 0 {
-        return fit_counted(flat, flat.len() / 8, side, version, scratch);
+        return fit_counted(flat, flat.len() / 8, side, version, kept, scratch);
     }
     if limits::bad_side(side) {
         return Modelled {

@@ -61,13 +61,14 @@ fn correct(row: &[u64], got: &mut [u64]) -> usize {
     place
 }
 
-// The call that a record's floats and count make.
+// The call that a record's floats and count make, with room for the marks of up to 256 references.
 fn fit_of(flat: &[f32], n: usize, side: usize, version: u8, scratch: &mut [f32]) -> Modelled {
+    let mut kept = [0u8; 256];
     if 16384 < n {
-        return fit::fit_counted(flat, n, side, version, scratch);
+        return fit::fit_counted(flat, n, side, version, &mut kept, scratch);
     }
     let m = stage_words::lent(flat, n);
-    fit::fit_flat(&flat[..m], side, version, scratch)
+    fit::fit_flat(&flat[..m], side, version, &mut kept, scratch)
 }
 
 // The call on a scratch, each of whose elements is v.

@@ -11,7 +11,7 @@ use Rattle.card.specs.Sections.{filled}
 use Rattle.card.proofs.Filled.{filled-is}
 use Rattle.readout.proofs.Lists.{first-same, same-long}
 use Rattle.reader.specs.File.{listFrom, listOf}
-use Rattle.reader.specs.Fitting.{scratchOf}
+use Rattle.reader.specs.Fitting.{scratchOf, marksOf}
 
 -- ---- the list of f(i)
 
@@ -78,3 +78,7 @@ thrice-long n m k a b h g = sym (same-long (3 * n) k a g) ∙ ap (λ (j : ℕ). 
 -- the scratch of the fit and of the measurement, of at most 510 references
 pub scratch-first : (references : List Float) → length references ≤ 4080 → take (4 * (length references / 8)) (replicate 2040 (ofBits binary32 0)) ≡ scratchOf references
 scratch-first references h = first-same (4 * (length references / 8)) 2040 (ofBits binary32 0) (omega arith)
+
+-- the marks of the fit
+pub marks-first : (references : List Float) → length references ≤ 4080 → take (length references / 8) (replicate 510 0) ≡ marksOf references
+marks-first references h = first-same (length references / 8) 510 0 (omega arith)

@@ -23,7 +23,7 @@ use Rattle.measure.specs.Measure as measuring
 use Rattle.readout.specs.Sheet.{sheet}
 use Rattle.readout.specs.Reading.{scoreText}
 use Rattle.reader.specs.File.{floatsOf, Modules, Cells, sheetOf, referencesOf}
-use Rattle.reader.specs.Fitting.{scratchOf, afterMeasuring, measureText, Typed, fitted, afterFitting, fitText}
+use Rattle.reader.specs.Fitting.{scratchOf, marksOf, afterMeasuring, measureText, Typed, fitted, afterFitting, fitText}
 use Rattle.reader.specs.Text.{afterOpening, cardText}
 
 -- ---- measuring and fitting
@@ -42,10 +42,10 @@ module _ (s : Settings) (palette : List Float) (xs ys : List ℤ) (raw : List Fl
       unfolding measureText afterMeasuring
       not-measured k e g = rw (← answers, e) g
 
-module _ (s : Settings) (palette : List Float) (xs ys : List ℤ) (raw : List Float) (cxs cys : List ℕ) (craw references : List Float) (o : Modelled) (left scratch : List Float)
-    (p : fitting.final o left ≡ fitting.fitOf (fitting.flatRequest references (s .side) (s .version) scratch)) (z : scratch ≡ scratchOf references) where
-  gives : o ≡ fitting.fitOf (fitting.flatRequest references (s .side) (s .version) (scratchOf references)) .answer
-  gives = ap (λ (f : fitting.Final). f .answer) (rw z at p)
+module _ (s : Settings) (palette : List Float) (xs ys : List ℤ) (raw : List Float) (cxs cys : List ℕ) (craw references : List Float) (o : Modelled) (marked kept : List ℕ) (left scratch : List Float)
+    (p : fitting.final o marked left ≡ fitting.fitOf (fitting.flatRequest references (s .side) (s .version) kept scratch)) (k : kept ≡ marksOf references) (z : scratch ≡ scratchOf references) where
+  gives : o ≡ fitting.fitOf (fitting.flatRequest references (s .side) (s .version) (marksOf references) (scratchOf references)) .answer
+  gives = ap (λ (f : fitting.Final). f .answer) (rw (k, z) at p)
 
   pub typed : Typed o → Typed (fitted (sheet s palette xs ys raw cxs cys craw) references)
   typed h = rw (← gives) h

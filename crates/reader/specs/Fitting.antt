@@ -3,7 +3,7 @@ use mathlib.Core.Path.{_≡_}
 use mathlib.Core.List.{List}
 use mathlib.Core.Option.{Option, none, some}
 use Prim.Native.Nat.{ℕ, _*_, _/_, _^_, _<_}
-use lib.ListN.{length}
+use lib.ListN.{length, replicate}
 use lib.Ieee.{Float}
 use Rattle.sentences.specs.Sentences.{decided}
 use Rattle.listing.specs.Text.{text, written}
@@ -35,8 +35,12 @@ measureText c references m =
     let said = measureOf (toMeasure c references m) .said in
     afterMeasuring c m (said .number) (said .value)
 
+-- a mark a reference
+abbrev pub marksOf : List Float → List ℕ
+marksOf references = replicate (length references / 8) 0
+
 abbrev pub toFit : Sheet → List Float → fitting.Request
-toFit c references = fitting.flatRequest references (c .settings .side) (c .settings .version) (scratchOf references)
+toFit c references = fitting.flatRequest references (c .settings .side) (c .settings .version) (marksOf references) (scratchOf references)
 
 abbrev pub fitted : Sheet → List Float → Modelled
 fitted c references = fitOf (toFit c references) .answer

@@ -84,12 +84,14 @@ fn fit_card(
     requires { ⌜ (Few settings (length (now xs)) (length (now cxs))) × (length (now ys) ≡ length (now xs)) × (length (now references) ≤ 4080) ⌝ }
     ensures { λ r. ⌜ spec.Listed (sheet settings (now (palette .entry)) (now (xs .entry)) (now (ys .entry)) (now (raw .entry)) (now (cxs .entry)) (now (cys .entry)) (now (craw .entry))) (now (references .entry)) r (now (out .entry)) (now (out .exit)) ⌝ }
 {
+    let mut kept = [0u8; 510];
     let mut scratch = [0.0f32; 2040];
     let n = references.len() / 8;
     let fitted = fit::fit_flat(
         references,
         settings.side,
         settings.version,
+        &mut kept[..n],
         &mut scratch[..4 * n],
     );
     if fitted.number != 0 {

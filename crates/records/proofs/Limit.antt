@@ -13,10 +13,10 @@ use Rattle.sentences.specs.Sentences.{Sentence, _when_, refusal, decided}
 use Rattle.limits.specs.Limits.{badSide, badHues}
 use Rattle.illum.specs.declared.IlluminationModel.{IlluminationModel}
 use Rattle.illum.specs.Refusals.{badModel}
-use Rattle.references.specs.References.{badPositions, badColours, shortScratch, tooMany, referencePlacement}
+use Rattle.references.specs.References.{badPositions, badColours, tooMany, referencePlacement}
 use Rattle.references.proofs.Laws.{few-in}
 use Rattle.fit.specs.Fit as fitting
-use Rattle.fit.specs.Fit.{fitOf, fitSentences}
+use Rattle.fit.specs.Fit.{fitOf, fitSentences, short}
 use Rattle.measure.specs.Measure as measuring
 use Rattle.measure.specs.Measure.{measureOf, sentencesFor, tooShort}
 use Rattle.records.specs.declared.Reference.{Reference}
@@ -102,22 +102,22 @@ as-flat ps f = ap (λ (b : Bool). f b (length ps)) (sym (none-cut ps)) ∙ ap (f
 
 -- ---- `fit`
 
-module _ (n side version : ℕ) (scratch : List Float) where
+module _ (n side version : ℕ) (kept : List ℕ) (scratch : List Float) where
   abbrev toFit : List Float → fitting.Request
-  toFit flat = fitting.request flat false n side version scratch
+  toFit flat = fitting.request flat false n side version kept scratch
 
   fit-unread : tooMany n ≡ true → (a b : List Float) → fitOf (toFit a) ≡ fitOf (toFit b)
   unfolding fitOf fitSentences referencePlacement
   fit-unread h a b =
       rw h
-      (early (fitting.turnedAway (toFit a)) (fitting.done (toFit a)) (fitting.done (toFit b)) ((2 when badSide side) ∷ (5 when (false || shortScratch (length scratch) n)) ∷ [])
+      (early (fitting.turnedAway (toFit a)) (fitting.done (toFit a)) (fitting.done (toFit b)) ((2 when badSide side) ∷ (5 when (false || short (length kept) (length scratch) n)) ∷ [])
       ((7 when badPositions side a n) ∷ (8 when badColours a n) ∷ []) ((7 when badPositions side b n) ∷ (8 when badColours b n) ∷ []) 6 (omega arith, (omega arith, tt)) (omega arith))
 
 module _ (ps : List Reference) (zs : List Float) (laid : take (8 * copied (length ps)) zs ≡ flattened (take (copied (length ps)) ps)) where
-  pub fit-laid : (side version : ℕ) (scratch : List Float) → fitOf (fitting.request (take (8 * copied (length ps)) zs) false (length ps) side version scratch) ≡ fitOf (fitting.flatRequest (flattened ps) side version scratch)
-  fit-laid side version scratch =
-      same ps zs laid (λ (fl : List Float). fitOf (fitting.request fl false (length ps) side version scratch)) (fit-unread (length ps) side version scratch)
-      ∙ as-flat ps (λ (cut : Bool) (n : ℕ). fitOf (fitting.request (flattened ps) cut n side version scratch))
+  pub fit-laid : (side version : ℕ) (kept : List ℕ) (scratch : List Float) → fitOf (fitting.request (take (8 * copied (length ps)) zs) false (length ps) side version kept scratch) ≡ fitOf (fitting.flatRequest (flattened ps) side version kept scratch)
+  fit-laid side version kept scratch =
+      same ps zs laid (λ (fl : List Float). fitOf (fitting.request fl false (length ps) side version kept scratch)) (fit-unread (length ps) side version kept scratch)
+      ∙ as-flat ps (λ (cut : Bool) (n : ℕ). fitOf (fitting.request (flattened ps) cut n side version kept scratch))
 
 -- ---- `measure`
 

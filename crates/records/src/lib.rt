@@ -1,7 +1,8 @@
 // References as a lent slice of records: `fit` and `measure` over `&[Reference]`, thin functions over those on flat floats.
 //
+//     let mut kept = [0u8; 256];
 //     let mut scratch = [0.0f32; 1024];
-//     let fitted = records::fit(&references, 21, 1, &mut scratch);      // up to 256 references of a card of side 21, version 1
+//     let fitted = records::fit(&references, 21, 1, &mut kept, &mut scratch);      // up to 256 references of a card of side 21, version 1
 //
 // `fit` and `measure` copy the records into a local array of 8 × 16,384 floats, 512 KB of stack. A caller with less calls
 // `fit::fit_flat` and `measure::measure_flat`, which take the same floats and give the same answers.
@@ -71,12 +72,19 @@ fn gather(refs: &[Reference], m: usize, flat: &mut [f32])
 // ---- the calls
 
 // `fit` of n references, of which those that are copied stand at the start of flat.
-fn fit_copied(flat: &mut [f32], n: usize, side: usize, version: u8, scratch: &mut [f32]) -> Modelled
+fn fit_copied(
+    flat: &mut [f32],
+    n: usize,
+    side: usize,
+    version: u8,
+    kept: &mut [u8],
+    scratch: &mut [f32],
+) -> Modelled
     requires { ⌜ length (now flat) ≡ 131072 ⌝ }
-    ensures { λ r. ⌜ fitting.final r (now (scratch .exit)) ≡ fitting.fitOf (fitting.request (take (8 * spec.copied n) (now (flat .entry))) false n side version (now (scratch .entry))) ⌝ }
+    ensures { λ r. ⌜ fitting.final r (now (kept .exit)) (now (scratch .exit)) ≡ fitting.fitOf (fitting.request (take (8 * spec.copied n) (now (flat .entry))) false n side version (now (kept .entry)) (now (scratch .entry))) ⌝ }
 {
     let m = copied(n);
-    fit::fit_counted(&flat[..8 * m], n, side, version, scratch)
+    fit::fit_counted(&flat[..8 * m], n, side, version, kept, scratch)
 }
 
 // `measure` of n references, of which those that are copied stand at the start of flat.
@@ -96,17 +104,23 @@ fn measure_copied(
     measure::measure_counted(&flat[..8 * m], n, side, model, palette, hues, scratch)
 }
 
-// Fits the model to references for a card of this side and version: what `fit::fit_flat` gives of the same floats. Scratch of
-// 4 × references is all zero afterwards, and its tail stays. Refused by 2, 5 (scratch too short), 6, 7, 8 and 11; scratch is
-// untouched then, save that 11 leaves it zero.
-pub fn fit(refs: &[Reference], side: usize, version: u8, scratch: &mut [f32]) -> Modelled
-    ensures { λ r. ⌜ fitting.final r (now (scratch .exit)) ≡ fitting.fitOf (fitting.flatRequest (spec.flattened (now (refs .entry))) side version (now (scratch .entry))) ⌝ }
+// Fits the model to references for a card of this side and version, and marks those that were kept: what `fit::fit_flat` gives of
+// the same floats. Kept has a byte a reference. Scratch of 4 × references is all zero afterwards. The tails of both stay. Refused by
+// 2, 5 (kept or scratch too short), 6, 7, 8 and 11; both are untouched then, save that 11 leaves scratch zero.
+pub fn fit(
+    refs: &[Reference],
+    side: usize,
+    version: u8,
+    kept: &mut [u8],
+    scratch: &mut [f32],
+) -> Modelled
+    ensures { λ r. ⌜ fitting.final r (now (kept .exit)) (now (scratch .exit)) ≡ fitting.fitOf (fitting.flatRequest (spec.flattened (now (refs .entry))) side version (now (kept .entry)) (now (scratch .entry))) ⌝ }
 {
     let n = refs.len();
     let m = copied(n);
     let mut flat = [0.0f32; 131072];
     gather(refs, m, &mut flat);
-    fit_copied(&mut flat, n, side, version, scratch)
+    fit_copied(&mut flat, n, side, version, kept, scratch)
 }
 
 // Measures the noise record from references, for a card of this side, corrected by the model: what `measure::measure_flat`

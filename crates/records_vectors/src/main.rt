@@ -24,12 +24,13 @@ fn fit_first(
     n: usize,
     side: usize,
     version: u8,
+    kept: &mut [u8],
     scratch: &mut [f32],
 ) -> Modelled
     requires { ⌜ n ≤ 64 ⌝ }
-    ensures { λ r. ⌜ fitting.final r (now (scratch .exit)) ≡ fitting.fitOf (fitting.flatRequest (flattened (take n rs)) side version (now (scratch .entry))) ⌝ }
+    ensures { λ r. ⌜ fitting.final r (now (kept .exit)) (now (scratch .exit)) ≡ fitting.fitOf (fitting.flatRequest (flattened (take n rs)) side version (now (kept .entry)) (now (scratch .entry))) ⌝ }
 {
-    records::fit(&rs[..n], side, version, scratch)
+    records::fit(&rs[..n], side, version, kept, scratch)
 }
 
 // `records::measure` of the first n references.
@@ -112,7 +113,8 @@ fn fit_in(row: &[u64], at: usize, v: f32, scratch: &mut [f32], got: &mut [u64]) 
     let side = stage_words::count(row, at, 1);
     let version = vectors::u8_of(vectors::word_at(row, at, 2));
     let n = references_in(row, at);
-    let fitted = fit_first(references(row), n, side, version, scratch);
+    let mut kept = [0u8; 64];
+    let fitted = fit_first(references(row), n, side, version, &mut kept, scratch);
     let to_zeros = put_modelled(got, fitted);
     stage_words::put_scratch(got, to_zeros, scratch, v)
 }

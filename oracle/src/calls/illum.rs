@@ -1,7 +1,7 @@
 //! illum.rs: the illumination model, correction and the fit.
 use crate::refusals::*;
 use lcr_core::color::Linear;
-use lcr_core::hook::passes_were_finite;
+use lcr_core::hook::{kept, passes_were_finite};
 use lcr_decode::illum::{IlluminationModel, Reference, shim};
 
 /// The model with fixed arrays; coefficients from `terms` on are no numbers of it.
@@ -87,18 +87,32 @@ pub fn identity(side: usize) -> Result<Model, u32> {
 }
 
 pub fn fit(flat: &[f32], n: usize, side: usize, version: u8, scratch: &mut [f32]) -> Result<Model, u32> {
+    fit_kept(flat, n, side, version, n, scratch).map(|(model, _)| model)
+}
+
+/// The fit, and which of the references it kept, with room for `marks` marks; none where the model's kept is 0.
+pub fn fit_kept(
+    flat: &[f32],
+    n: usize,
+    side: usize,
+    version: u8,
+    marks: usize,
+    scratch: &mut [f32],
+) -> Result<(Model, Vec<bool>), u32> {
     first(&[
         (2, bad_side(side)),
-        (5, short(flat.len(), n, 8) || short(scratch.len(), n, 4)),
+        (5, short(flat.len(), n, 8) || short(marks, n, 1) || short(scratch.len(), n, 4)),
         (6, many_references(n)),
         (7, misplaced_references(flat, n, side)),
         (8, not_finite(&reference_colours(flat, n))),
     ])?;
     scratch[..4 * n].fill(0.0);
     passes_were_finite();
+    kept();
     let model = IlluminationModel::fit(&references(flat, n), side as u16, version);
     first(&[(11, !passes_were_finite())])?;
-    Ok(Model::of(&model))
+    let kept = if model.kept == 0 { vec![false; n] } else { kept() };
+    Ok((Model::of(&model), kept))
 }
 
 pub fn correct(model: &Model, x: f32, y: f32, c: [f32; 3]) -> Result<[f32; 3], u32> {

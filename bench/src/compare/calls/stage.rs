@@ -12,6 +12,8 @@ pub fn replay(t: &mut Record) -> bool {
         }
         "correct" => correct(t),
         "fit" => fit(t),
+        "kept" => kept(t),
+        "nearest" | "within" | "cut_off" => near(t),
         "nominal" => {
             let palette = Lent::new(t.inputs.singles());
             let r = unsafe { purdolve_nominal(palette.ptr(), palette.len(), t.inputs.count()) };
@@ -130,19 +132,59 @@ fn fit(t: &mut Record) {
     let flat = references(t);
     let (side, version) = (t.inputs.count(), t.inputs.byte());
     let mut work = scratch(t);
-    let r = unsafe { purdolve_fit_flat(flat.ptr(), flat.len(), side, version, work.ptr_mut(), work.len()) };
-    let mut same = modelled(t, r) && flat.untouched();
+    let mut marks = Lent::new(vec![9u8; flat.len() / 8]);
+    let (kept, len) = (marks.ptr_mut(), marks.len());
+    let r = unsafe { purdolve_fit_flat(flat.ptr(), flat.len(), side, version, kept, len, work.ptr_mut(), work.len()) };
+    let mut same = modelled(t, r) && flat.untouched() && (r.number == 0 || marks.untouched());
     if r.number != 0 && r.number != 11 {
         same &= work.untouched();
     }
     same = same && work.zeroed(t.answer.count());
     t.add(r.number, same);
     if let Some(refs) = records(&flat) {
-        let mut other = work.again();
-        let q = unsafe { purdolve_fit(refs, flat.len() / 8, side, version, other.ptr_mut(), other.len()) };
+        let (mut other, mut again) = (work.again(), marks.again());
+        let (kept, n) = (again.ptr_mut(), flat.len() / 8);
+        let q = unsafe { purdolve_fit(refs, n, side, version, kept, len, other.ptr_mut(), other.len()) };
         let alike = q.number == r.number && same_model(&q.model, &r.model);
-        t.add(q.number, alike && other.left(&work) && flat.untouched());
+        t.add(q.number, alike && other.left(&work) && again.left(&marks) && flat.untouched());
     }
+}
+
+/// Which references a fit kept, in marks of any length.
+fn kept(t: &mut Record) {
+    let flat = Lent::new(t.inputs.singles());
+    let (side, version, len) = (t.inputs.count(), t.inputs.byte(), t.inputs.count());
+    let mut marks = Lent::new(vec![t.inputs.byte(); len]);
+    let mut work = Lent::new(vec![0.0; flat.len() / 2]);
+    let (kept, w) = (marks.ptr_mut(), work.len());
+    let r = unsafe { purdolve_fit_flat(flat.ptr(), flat.len(), side, version, kept, len, work.ptr_mut(), w) };
+    let mut same = r.number as u64 == t.answer.word() && flat.untouched();
+    if same && r.number == 0 {
+        same = r.model.rejected as u64 == t.answer.word() && r.model.kept as u64 == t.answer.word();
+    }
+    same = same && marks.is(&t.answer.bytes(), len) && (r.number == 0 || marks.untouched());
+    t.add(r.number, same);
+}
+
+/// The references near a module, by each of the three queries.
+fn near(t: &mut Record) {
+    let (xy, kept) = (Lent::new(t.inputs.singles()), Lent::new(t.inputs.bytes()));
+    let (side, x, y) = (t.inputs.count(), t.inputs.word() as i32, t.inputs.word() as i32);
+    let asked = if t.name == "nearest" { 0 } else { t.inputs.word() as u32 };
+    let len = t.inputs.count();
+    let mut room = Lent::new(vec![t.inputs.word() as u32; len]);
+    let (p, n, k, m, o) = (xy.ptr(), xy.len(), kept.ptr(), kept.len(), room.ptr_mut());
+    let r = match t.name {
+        "nearest" => unsafe { purdolve_nearest(p, n, k, m, side, x, y, o, len) },
+        "within" => unsafe { purdolve_within(p, n, k, m, side, x, y, f32::from_bits(asked), o, len) },
+        _ => unsafe { purdolve_cut_off(p, n, k, m, side, x, y, asked as i32, o, len) },
+    };
+    let mut same = r.number as u64 == t.answer.word() && xy.untouched() && kept.untouched();
+    if same && r.number == 0 {
+        same = r.value as u64 == t.answer.word();
+    }
+    let want = t.answer.slice(|words| words.word() as u32);
+    t.add(r.number, same && room.is(&want, len) && (r.number == 0 || room.untouched()));
 }
 
 fn figures(t: &mut Record, call: impl Fn(Stats, f32) -> FloatAnswer) {

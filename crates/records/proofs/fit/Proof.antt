@@ -1,5 +1,5 @@
 -- `records::fit` meets its contract: a walk of its MIR, by hand. All that it knows of `copied`, `gather` and `fit_copied` is that each meets its contract.
--- The local array is made by one statement, and its list hidden at once (`LocalArray.antt`); it is lent as a `&mut [f32]` for a lifetime of each call and comes back. `scratch` goes to the last call for good (`gave-slice`), at its own lifetime, share and name.
+-- The local array is made by one statement, and its list hidden at once (`LocalArray.antt`); it is lent as a `&mut [f32]` for a lifetime of each call and comes back. `kept` and `scratch` go to the last call for good (`gave-slice`), each at its own lifetime, share and name.
 -- Assumes nothing.
 use mathlib.Core.Path.{_≡_, refl, sym, _∙_, ap, subst}
 use mathlib.Core.Bool.{false}
@@ -20,7 +20,7 @@ use prog.Wp.{Heap, Calls, Loops, WpFn, Tables}
 use ghost.Atoms.{Atoms, sem}
 use contract.Monad.{Fun, fact}
 use contract.Running.{givenOf, tables, tablesOf}
-use types.Kit.{Given, ‵, raw, some, given, later, _⊛_, ⋆, _$_, _∵_, !, qed, by, move, keep, drop, use0, use1, use2, use3, split, join, pick, learn, rewrite, fsplit, fjoin, feqL, suffices, frame, await, done}
+use types.Kit.{Given, Item, ‵, raw, some, given, later, _⊛_, ⋆, _$_, _∵_, !, qed, by, move, keep, drop, use0, use1, use2, use3, split, join, pick, learn, rewrite, fsplit, fjoin, feqL, suffices, frame, await, done}
 use types.Part.{agg, rep, whole, sub, look-in}
 use types.Run.{look, init, forget, stop, hop, fld, from, load, float-lit, of-opd, addr, and-then, no-more, assigns, land, returns, enter, alloc1, alloc0, params1, pass1, pass0, free1, free0}
 use types.SemTy.{cells, Arr}
@@ -76,14 +76,14 @@ use Rattle.records.proofs.fit.Statement as stated
 use Rattle.records.proofs.fit.Code as code
 
 abbrev stayed : Stays (fit.ended .signature .params) (fit.ended .kept)
-stayed = (stay-none-slice (0 ∷ []) tt (plain (λ _. R.the-row)) yes, (stay-none (λ _. usize) yes, (stay-none (λ _. u8) yes, (gave-slice (1 ∷ []) tt (plain (λ _. f32)), tt))))
+stayed = (stay-none-slice (0 ∷ []) tt (plain (λ _. R.the-row)) yes, (stay-none (λ _. usize) yes, (stay-none (λ _. u8) yes, (gave-slice (1 ∷ []) tt (plain (λ _. u8)), (gave-slice (2 ∷ []) tt (plain (λ _. f32)), tt)))))
 
 -- the contract of `fit_copied`
 abbrev Handed : {M : Type 1} (𝓤 : URA M) (H : Heap 𝓤) (A : Atoms 𝓤) (mem′ : Memory → SProp 𝓤) (run : Routine → Fun 𝓤) → Contract 𝓤
 Handed 𝓤 H A mem′ run = tripleOf 𝓤 H A called.signature (called.spec 𝓤 H A mem′ run)
 
-module _ {M : Type 1} (𝓤 : URA M) (H : Heap 𝓤) (A : Atoms 𝓤) (W : Given 𝓤 H A) (mem′ : Memory → SProp 𝓤) (run : Routine → Fun 𝓤) (κ₀ κ₁ : Lft) (q₀ q₁ : Share)
-    (b o : ℕ) (γ : GName) (ys : List Reference) (side version : ℕ) (sb so : ℕ) (σ : GName) (ss : List Float) where
+module _ {M : Type 1} (𝓤 : URA M) (H : Heap 𝓤) (A : Atoms 𝓤) (W : Given 𝓤 H A) (mem′ : Memory → SProp 𝓤) (run : Routine → Fun 𝓤) (κ₀ κ₁ κ₂ : Lft) (q₀ q₁ q₂ : Share)
+    (b o : ℕ) (γ : GName) (ys : List Reference) (side version : ℕ) (kb ko : ℕ) (χ : GName) (ks : List ℕ) (sb so : ℕ) (σ : GName) (ss : List Float) where
   abbrev n : ℕ
   n = length ys
 
@@ -96,6 +96,15 @@ module _ {M : Type 1} (𝓤 : URA M) (H : Heap 𝓤) (A : Atoms 𝓤) (W : Given
   abbrev Own : Fml
   Own = ShrSlice (named 0) κ₀ R.the-row .own s (v ∷ [])
 
+  abbrev x : RefT (List ℕ)
+  x = slice-at kb ko χ ks
+
+  abbrev kv : Val
+  kv = sliceVal (kb, ko) (length ks)
+
+  abbrev Kept : Fml
+  Kept = MutSlice (named 1) κ₁ u8 .own x (kv ∷ [])
+
   abbrev y : RefT (List Float)
   y = slice-at sb so σ ss
 
@@ -103,19 +112,19 @@ module _ {M : Type 1} (𝓤 : URA M) (H : Heap 𝓤) (A : Atoms 𝓤) (W : Given
   w = sliceVal (sb, so) (length ss)
 
   abbrev Scratch : Fml
-  Scratch = MutSlice (named 1) κ₁ f32 .own y (w ∷ [])
+  Scratch = MutSlice (named 2) κ₂ f32 .own y (w ∷ [])
 
   abbrev Arg : Type 0
-  Arg = RefT (List Reference) × (ℕ × (ℕ × (RefT (List Float) × Unit {0})))
+  Arg = RefT (List Reference) × (ℕ × (ℕ × (RefT (List ℕ) × (RefT (List Float) × Unit {0}))))
 
   abbrev a : Arg
-  a = (s, (side, (version, (y, tt))))
+  a = (s, (side, (version, (x, (y, tt)))))
 
-  abbrev vals : List Val × (List Val × (List Val × (List Val × Unit {0})))
-  vals = (v ∷ [], (vint w64 side ∷ [], (vint w8 version ∷ [], (w ∷ [], tt))))
+  abbrev vals : List Val × (List Val × (List Val × (List Val × (List Val × Unit {0}))))
+  vals = (v ∷ [], (vint w64 side ∷ [], (vint w8 version ∷ [], (kv ∷ [], (w ∷ [], tt)))))
 
   abbrev Post : Val → SProp 𝓤
-  Post = walkOf 𝓤 H A fit.ended stayed (fit.clauses 𝓤 H A mem′ run) .post (((κ₀, (κ₁, tt)), (q₀, (q₁, tt)), tt, a, vals), tt)
+  Post = walkOf 𝓤 H A fit.ended stayed (fit.clauses 𝓤 H A mem′ run) .post (((κ₀, (κ₁, (κ₂, tt))), (q₀, (q₁, (q₂, tt))), tt, a, vals), tt)
 
   -- the contracts that the proof cites
   abbrev Copied : Contract 𝓤
@@ -134,111 +143,124 @@ module _ {M : Type 1} (𝓤 : URA M) (H : Heap 𝓤) (A : Atoms 𝓤) (W : Given
   to-gather = E.to-gather 𝓤 H A mem′ run W κ₀ q₀ b o γ ys
 
   -- what `fit_copied` says of the floats zs, and what the contract says of the records
-  abbrev Says : Modelled → List Float → List Float → Type 0
-  Says r ss′ zs = fitting.final r ss′ ≡ fitOf (fitting.request (take (8 * copied n) zs) false n side version ss)
+  abbrev Says : Modelled → List ℕ → List Float → List Float → Type 0
+  Says r ks′ ss′ zs = fitting.final r ks′ ss′ ≡ fitOf (fitting.request (take (8 * copied n) zs) false n side version ks ss)
 
-  concluded : (m : ℕ) (zs ss′ : List Float) (r : Modelled) → m ≡ copied n → take (8 * m) zs ≡ flattened (take m ys) → Says r ss′ zs → fitting.final r ss′ ≡ fitOf (fitting.flatRequest (flattened ys) side version ss)
-  concluded m zs ss′ r em e c = c ∙ fit-laid ys zs (subst (λ (k : ℕ). take (8 * k) zs ≡ flattened (take k ys)) em e) side version ss
+  concluded : (m : ℕ) (zs : List Float) (ks′ : List ℕ) (ss′ : List Float) (r : Modelled) → m ≡ copied n → take (8 * m) zs ≡ flattened (take m ys) → Says r ks′ ss′ zs
+      → fitting.final r ks′ ss′ ≡ fitOf (fitting.flatRequest (flattened ys) side version ks ss)
+  concluded m zs ks′ ss′ r em e c = c ∙ fit-laid ys zs (subst (λ (k : ℕ). take (8 * k) zs ≡ flattened (take k ys)) em e) side version ks ss
 
-  module _ (room : Room R.the-row (length ys)) (side-fits : side < 2 ^ 64) (version-fits : version < 2 ^ 8) (s-room : Room f32 (length ss)) where
-    exits : (r : Modelled) (u : Val) (ss′ : List Float) → fitting.final r ss′ ≡ fitOf (fitting.flatRequest (flattened ys) side version ss) → length ss′ ≡ length ss → ent 𝓤 (⋆ 𝓤 H A (‵ (flft κ₀ q₀) ∷ (‵ (flft κ₁ q₁) ⊛ ‵ ftrue) ∷ ‵ Own ∷ ‵ (finally f32 σ ss′) ∷ ‵ (S.the-row .own r (u ∷ [])) ∷ [])) (Post u)
-    exits r u ss′ e l =
-        qed W (‵ (flft κ₀ q₀) ∷ (‵ (flft κ₁ q₁) ⊛ ‵ ftrue) ∷ ‵ Own ∷ ‵ (finally f32 σ ss′) ∷ ‵ (S.the-row .own r (u ∷ [])) ∷ []) ∵
-        suffices ! _ (ends-at 𝓤 H A fit.ended stayed (fit.clauses 𝓤 H A mem′ run) W (((κ₀, (κ₁, tt)), (q₀, (q₁, tt)), tt, a, vals), tt) u r (tt, (tt, (tt, (ss′, tt)))) (tt, (tt, (tt, (l, tt))))) $ says ! e $ join ! $ frame ! $
-        nothing ! $ move ! (2 ∷ 0 ∷ []) $ fjoin ! $ owned ! u8 (Is u8) (uint-makes 𝓤 H A W w8) version _ (refl, version-fits) $ fjoin ! $ owned ! usize (Is usize) (uint-makes 𝓤 H A W w64) side _ (refl, side-fits) $ fjoin ! $ move ! (1 ∷ 0 ∷ []) $ fjoin ! $ done !
+  -- the tokens of what is given for good
+  abbrev Given-on : Item 𝓤
+  Given-on = ‵ (flft κ₁ q₁) ⊛ (‵ (flft κ₂ q₂) ⊛ ‵ ftrue)
+
+  module _ (room : Room R.the-row (length ys)) (side-fits : side < 2 ^ 64) (version-fits : version < 2 ^ 8) (k-room : Room u8 (length ks)) (s-room : Room f32 (length ss)) where
+    exits : (r : Modelled) (u : Val) (ks′ : List ℕ) (ss′ : List Float) → fitting.final r ks′ ss′ ≡ fitOf (fitting.flatRequest (flattened ys) side version ks ss) → length ks′ ≡ length ks → length ss′ ≡ length ss
+        → ent 𝓤 (⋆ 𝓤 H A (‵ (flft κ₀ q₀) ∷ Given-on ∷ ‵ Own ∷ ‵ (finally u8 χ ks′) ∷ ‵ (finally f32 σ ss′) ∷ ‵ (S.the-row .own r (u ∷ [])) ∷ [])) (Post u)
+    exits r u ks′ ss′ e lk l =
+        qed W (‵ (flft κ₀ q₀) ∷ Given-on ∷ ‵ Own ∷ ‵ (finally u8 χ ks′) ∷ ‵ (finally f32 σ ss′) ∷ ‵ (S.the-row .own r (u ∷ [])) ∷ []) ∵
+        suffices ! _ (ends-at 𝓤 H A fit.ended stayed (fit.clauses 𝓤 H A mem′ run) W (((κ₀, (κ₁, (κ₂, tt))), (q₀, (q₁, (q₂, tt))), tt, a, vals), tt) u r (tt, (tt, (tt, (ks′, (ss′, tt))))) (tt, (tt, (tt, (lk, (l, tt)))))) $ says ! e $ join ! $ frame ! $
+        nothing ! $ move ! (3 ∷ 0 ∷ []) $ fjoin ! $ move ! (2 ∷ 0 ∷ []) $ fjoin ! $ owned ! u8 (Is u8) (uint-makes 𝓤 H A W w8) version _ (refl, version-fits) $ fjoin ! $ owned ! usize (Is usize) (uint-makes 𝓤 H A W w64) side _ (refl, side-fits) $ fjoin ! $ move ! (1 ∷ 0 ∷ []) $ fjoin ! $ done !
 
     -- ---- the call of `fit_copied`, with the array at l, for a lifetime ν, under the name δ: what its triple binds outside, and that the caller has what it asks
+    abbrev handed : ℕ → GName → List Float → RefT (List Float) × (ℕ × (ℕ × (ℕ × (RefT (List ℕ) × (RefT (List Float) × Unit {0})))))
+    handed l δ zs = (slice-at l 0 δ zs, (n, (side, (version, (x, (y, tt))))))
+
     abbrev to-called : ℕ → ℕ → GName → List Float → Called .Ghost
-    to-called l ν δ zs = (((ν ∷ [], (κ₁, tt)), (fullShare, (q₁, tt)), tt, (slice-at l 0 δ zs, (n, (side, (version, (y, tt))))), (sliceVal (l, 0) (length zs) ∷ [], (vint w64 n ∷ [], (vint w64 side ∷ [], (vint w8 version ∷ [], (w ∷ [], tt)))))), tt)
+    to-called l ν δ zs = (((ν ∷ [], (κ₁, (κ₂, tt))), (fullShare, (q₁, (q₂, tt))), tt, handed l δ zs, (sliceVal (l, 0) (length zs) ∷ [], (vint w64 n ∷ [], (vint w64 side ∷ [], (vint w8 version ∷ [], (kv ∷ [], (w ∷ [], tt))))))), tt)
 
     goes-called : (l ν : ℕ) (δ : GName) (zs : List Float) → length zs ≡ 131072
-        → ent 𝓤 (sep 𝓤 (sep 𝓤 (A .lft (ν ∷ []) fullShare) (A .lft κ₁ q₁)) (sep 𝓤 (sem 𝓤 H A (MutSlice (named 0) (ν ∷ []) f32 .own (slice-at l 0 δ zs) (sliceVal (l, 0) (length zs) ∷ []))) (sem 𝓤 H A Scratch))) (Called .pre (to-called l ν δ zs))
+        → ent 𝓤 (sep 𝓤 (sep 𝓤 (A .lft (ν ∷ []) fullShare) (sep 𝓤 (A .lft κ₁ q₁) (sep 𝓤 (A .lft κ₂ q₂) (sem 𝓤 H A ftrue)))) (sep 𝓤 (sem 𝓤 H A (MutSlice (named 0) (ν ∷ []) f32 .own (slice-at l 0 δ zs) (sliceVal (l, 0) (length zs) ∷ []))) (sep 𝓤 (sem 𝓤 H A Kept) (sem 𝓤 H A Scratch)))) (Called .pre (to-called l ν δ zs))
     goes-called l ν δ zs e =
-        qed W ((‵ (flft (ν ∷ []) fullShare) ⊛ ‵ (flft κ₁ q₁)) ∷ ‵ (MutSlice (named 0) (ν ∷ []) f32 .own (slice-at l 0 δ zs) (sliceVal (l, 0) (length zs) ∷ [])) ∷ ‵ Scratch ∷ []) ∵ says ! e $ split ! $
-        nothing ! $ move ! (2 ∷ 0 ∷ []) $ join ! $ move ! (1 ∷ 0 ∷ []) $ join ! $ frame ! $
-        -- [flat; scratch]
-        nothing ! $ move ! (2 ∷ 0 ∷ []) $ fjoin ! $ owned ! u8 (Is u8) (uint-makes 𝓤 H A W w8) version _ (refl, version-fits) $ fjoin ! $ owned ! usize (Is usize) (uint-makes 𝓤 H A W w64) side _ (refl, side-fits) $ fjoin ! $
+        qed W ((‵ (flft (ν ∷ []) fullShare) ⊛ Given-on) ∷ ‵ (MutSlice (named 0) (ν ∷ []) f32 .own (slice-at l 0 δ zs) (sliceVal (l, 0) (length zs) ∷ [])) ∷ (‵ Kept ⊛ ‵ Scratch) ∷ []) ∵ says ! e $ frame ! $
+        -- [flat; kept and scratch]
+        move ! (1 ∷ []) $ split ! $ nothing ! $ move ! (2 ∷ 0 ∷ []) $ fjoin ! $ move ! (1 ∷ 0 ∷ []) $ fjoin ! $ owned ! u8 (Is u8) (uint-makes 𝓤 H A W w8) version _ (refl, version-fits) $ fjoin ! $ owned ! usize (Is usize) (uint-makes 𝓤 H A W w64) side _ (refl, side-fits) $ fjoin ! $
         owned ! usize (Is usize) (uint-makes 𝓤 H A W w64) n _ (refl, room .0) $ fjoin ! $ move ! (1 ∷ 0 ∷ []) $ fjoin ! $ done !
 
     module _ (C : Calls 𝓤 H) (Λ : Loops 𝓤 H) (fm : FmC 𝓤 H (W .laws) C) (known-copied : Triple 𝓤 (C #records·copied) Copied) (known-gather : Triple 𝓤 (C #records·gather) Gather) (known-called : Triple 𝓤 (C #records·fit-copied) Called) where
-      walk : ent 𝓤 (onEntry 𝓤 H A fit.signature (κ₀, (κ₁, tt)) (q₀, (q₁, tt)) a vals) (WpFn 𝓤 H C Λ code.function (v ∷ vint w64 side ∷ vint w8 version ∷ w ∷ []) Post)
+      walk : ent 𝓤 (onEntry 𝓤 H A fit.signature (κ₀, (κ₁, (κ₂, tt))) (q₀, (q₁, (q₂, tt))) a vals) (WpFn 𝓤 H C Λ code.function (v ∷ vint w64 side ∷ vint w8 version ∷ kv ∷ w ∷ []) Post)
       walk =
-          qed W ((‵ (flft κ₀ q₀) ⊛ (‵ (flft κ₁ q₁) ⊛ ‵ ftrue)) ∷ ‵ (owns (ShrSlice (named 0) κ₀ R.the-row ∷ usize ∷ u8 ∷ MutSlice (named 1) κ₁ f32 ∷ []) a vals) ∷ []) ∵ enter ! C Λ code.function (v ∷ vint w64 side ∷ vint w8 version ∷ w ∷ []) _ $
-          alloc1 ! (λ l₀. alloc1 ! (λ l₁. alloc1 ! (λ l₂. alloc1 ! (λ l₃. alloc1 ! (λ l₄. alloc1 ! (λ l₅. alloc1 ! (λ l₆. alloc1 ! (λ l₇. alloc1 ! (λ l₈. alloc1 ! (λ l₉. alloc1 ! (λ l₁₀. alloc1 ! (λ l₁₁. alloc1 ! (λ l₁₂. alloc1 ! (λ l₁₃. alloc1 ! (λ l₁₄. alloc0 ! $ params1 ! $
-          pass1 ! (init ! 26 refl (tt, (tt, (record { fits = room .0 }, tt)))) $ pass1 ! (init ! 24 refl (tt, record { fits = side-fits })) $ pass1 ! (init ! 22 refl (tt, record { fits = version-fits })) $ pass1 ! (init ! 20 refl (tt, (tt, (record { fits = s-room .0 }, tt)))) $ pass0 ! $
-          -- [_14; …; _13; …; _12; …; _11; …; _10; …; _9; …; _8; …; _7; …; _6; …; _5; …; _4; …; _3; …; _2; …; _1; …; room for _0; …; the tokens; what the parameters own]
-          assigns ! (of-opd ! (load ! (from ! (fld ! refl (stop !))) (look-in ! 26 (sub ! 1 refl (whole !))))) (from ! (stop !)) (init ! 18 refl (tt, record { fits = room .0 })) $
+          qed W ((‵ (flft κ₀ q₀) ⊛ Given-on) ∷ ‵ (owns (ShrSlice (named 0) κ₀ R.the-row ∷ usize ∷ u8 ∷ MutSlice (named 1) κ₁ u8 ∷ MutSlice (named 2) κ₂ f32 ∷ []) a vals) ∷ []) ∵ enter ! C Λ code.function (v ∷ vint w64 side ∷ vint w8 version ∷ kv ∷ w ∷ []) _ $
+          alloc1 ! (λ l₀. alloc1 ! (λ l₁. alloc1 ! (λ l₂. alloc1 ! (λ l₃. alloc1 ! (λ l₄. alloc1 ! (λ l₅. alloc1 ! (λ l₆. alloc1 ! (λ l₇. alloc1 ! (λ l₈. alloc1 ! (λ l₉. alloc1 ! (λ l₁₀. alloc1 ! (λ l₁₁. alloc1 ! (λ l₁₂. alloc1 ! (λ l₁₃. alloc1 ! (λ l₁₄. alloc1 ! (λ l₁₅. alloc1 ! (λ l₁₆. alloc1 ! (λ l₁₇. alloc0 ! $ params1 ! $
+          pass1 ! (init ! 32 refl (tt, (tt, (record { fits = room .0 }, tt)))) $ pass1 ! (init ! 30 refl (tt, record { fits = side-fits })) $ pass1 ! (init ! 28 refl (tt, record { fits = version-fits })) $ pass1 ! (init ! 26 refl (tt, (tt, (record { fits = k-room .0 }, tt)))) $ pass1 ! (init ! 24 refl (tt, (tt, (record { fits = s-room .0 }, tt)))) $ pass0 ! $
+          -- [_17; …; _16; …; ..; _1; …; room for _0; …; the tokens; what the parameters own]
+          assigns ! (of-opd ! (load ! (from ! (fld ! refl (stop !))) (look-in ! 32 (sub ! 1 refl (whole !))))) (from ! (stop !)) (init ! 22 refl (tt, record { fits = room .0 })) $
           -- `copied`
           use0 W (raw (Copied .pre (to-copied n))) (E.goes-copied 𝓤 H A mem′ run W n (room .0)) $
-          calls-at ! fm Copied known-copied (to-copied n) (and-then ! (load ! (from ! (stop !)) (look ! 19 refl)) (no-more !)) (λ u₀.
+          calls-at ! fm Copied known-copied (to-copied n) (and-then ! (load ! (from ! (stop !)) (look ! 23 refl)) (no-more !)) (λ u₀.
           use1 W (later (some (λ (r : ℕ). (‵ ftrue ⊛ ‵ (usize .own r (u₀ ∷ []))) ⊛ raw (E.said-copied 𝓤 H A mem′ run n r)))) (id⊢ 𝓤 _) $ await ! tt $ pick ! (λ m.
           split ! $ move ! (1 ∷ []) $ use1 W (raw (fact 𝓤 (m ≡ copied n))) (E.copied-said 𝓤 H A mem′ run n m) $ heard ! (m ≡ copied n) (λ em. split ! $ move ! (1 ∷ []) $
-          peeks ! usize (Is usize) (shows 𝓤 H A usize) m (u₀ ∷ []) (λ is₀. land ! (from ! (stop !)) (init ! 18 refl (uint-lawful 𝓤 H A W w64 .typed m _ is₀ .0)) $ rewrite ! 18 (λ (y : Val). ‵ (fat fullShare word l₆ 0 y)) (ap only (is₀ .0)) refl $ drop ! $ drop ! $
+          peeks ! usize (Is usize) (shows 𝓤 H A usize) m (u₀ ∷ []) (λ is₀. land ! (from ! (stop !)) (init ! 22 refl (uint-lawful 𝓤 H A W w64 .typed m _ is₀ .0)) $ rewrite ! 22 (λ (y : Val). ‵ (fat fullShare word l₇ 0 y)) (ap only (is₀ .0)) refl $ drop ! $ drop ! $
           -- the array
           owned ! f32 (Is f32) (float-makes 𝓤 H A W binary32) z (vfloat binary32 z ∷ []) (refl, z-fits) $
           use1 W (‵ (Array f32 131072 .own (replicate 131072 z) (arrayVal (replicate 131072 (vfloat binary32 z)) ∷ []))) (array-repeat 𝓤 H A W f32 (float-copy 𝓤 H A W binary32) 131072 z (vfloat binary32 z)) $
           peeks ! (Array f32 131072) (Is (Array f32 131072)) (shows 𝓤 H A (Array f32 131072)) (replicate 131072 z) (arrayVal (replicate 131072 (vfloat binary32 z)) ∷ []) (λ isa.
-          assigns ! (rep ! 131072 (float-lit ! tt)) (from ! (stop !)) (init ! 15 refl (array-lawful 𝓤 H A W f32 (float-lawful 𝓤 H A W binary32) 131072 .typed (replicate 131072 z) (arrayVal (replicate 131072 (vfloat binary32 z)) ∷ []) isa .0)) $
-          move ! (15 ∷ 0 ∷ []) $ use2 W (some (λ (zs : List Float). given (length zs ≡ 131072) (‵ (cells (mem f32) zs l₇ 0)))) (array-some 𝓤 H A W f32 131072 l₇ tt (replicate 131072 z) (arrayVal (replicate 131072 (vfloat binary32 z)))) $ pick ! (λ zs. learn ! (λ lz.
+          assigns ! (rep ! 131072 (float-lit ! tt)) (from ! (stop !)) (init ! 19 refl (array-lawful 𝓤 H A W f32 (float-lawful 𝓤 H A W binary32) 131072 .typed (replicate 131072 z) (arrayVal (replicate 131072 (vfloat binary32 z)) ∷ []) isa .0)) $
+          move ! (19 ∷ 0 ∷ []) $ use2 W (some (λ (zs : List Float). given (length zs ≡ 131072) (‵ (cells (mem f32) zs l₈ 0)))) (array-some 𝓤 H A W f32 131072 l₈ tt (replicate 131072 z) (arrayVal (replicate 131072 (vfloat binary32 z)))) $ pick ! (λ zs. learn ! (λ lz.
           -- [the array's elements; the locals, with only that the array dies at its place; the tokens; what the parameters own]
-          assigns ! (addr ! (from ! (stop !))) (from ! (stop !)) (init ! 11 refl (tt, tt)) $
-          assigns ! (agg ! (and-then ! (load ! (from ! (stop !)) (look ! 11 refl)) (and-then ! (big-lit ! (record { fits = lit< tt })) (no-more !)))) (from ! (stop !)) (init ! 9 refl (tt, (tt, (record { fits = lit< tt }, tt)))) $
-          rewrite ! 9 (λ (k : ℕ). ‵ (fat fullShare E.lent-ty l₁₀ 0 (sliceVal (l₇, 0) k))) (sym lz) refl $
-          move ! (31 ∷ []) $ fsplit ! $ move ! (1 ∷ []) $ fsplit ! $ drop ! $ fsplit ! $ drop ! $ fsplit ! $ move ! (2 ∷ []) $ use1 W (‵ Own ⊛ ‵ Own) (shr-slice-copy 𝓤 H A W (named 0) κ₀ R.the-row .twice s (v ∷ [])) $ split ! $
-          move ! (34 ∷ []) $ split ! $ move ! (1 ∷ []) $ split ! $
-          -- the array is lent for a lifetime ν of the call of `gather`
-          lft-new ! tt (λ ν. move ! (8 ∷ []) $
-          use1 W (later (some (λ (δ : GName). ‵ (MutSlice (named 1) (ν ∷ []) f32 .own (slice-at l₇ 0 δ zs) (sliceVal (l₇, 0) (length zs) ∷ [])) ⊛ ‵ (E.Lent (ν ∷ []) l₇ δ zs)))) (lends-slice 𝓤 H A W f32 (named 1) (ν ∷ []) zs l₇ 0 (E.array-fits zs lz)) $ await ! tt $ pick ! (λ δ. split ! $
-          move ! (5 ∷ 2 ∷ 7 ∷ 0 ∷ []) $ join ! $ use3 W (raw (Gather .pre (to-gather m l₇ ν δ zs))) (E.goes-gather 𝓤 H A mem′ run W κ₀ q₀ b o γ ys m l₇ ν δ zs (is₀ .1) (E.asked n m zs em lz)) $
-          calls-at ! fm Gather known-gather (to-gather m l₇ ν δ zs) (and-then ! (load ! (from ! (stop !)) (look ! 32 refl)) (and-then ! (load ! (from ! (stop !)) (look ! 22 refl)) (and-then ! (load ! (from ! (stop !)) (look ! 15 refl)) (no-more !)))) (λ u₁.
-          use1 W (later (some (λ (r : Unit {0}). ((‵ (flft κ₀ q₀) ⊛ (‵ (flft (ν ∷ []) fullShare) ⊛ ‵ ftrue)) ⊛ ‵ (unit .own r (u₁ ∷ []))) ⊛ raw (ensured 𝓤 H A gather.ended (gather.clauses 𝓤 H A mem′ run) (κ₀, (ν ∷ [], tt)) (s, (m, (slice-at l₇ 0 δ zs, tt))) tt r)))) (id⊢ 𝓤 _) $ await ! tt $ pick ! (λ r₁.
-          split ! $ move ! (1 ∷ []) $ use1 W (some (λ (us : Unit {0} × (Unit {0} × (List Float × Unit {0}))). ‵ (lasts gather.ended (κ₀, (ν ∷ [], tt)) (s, (m, (slice-at l₇ 0 δ zs, tt))) us) ⊛ raw (fact 𝓤 (take (8 * m) (us .1 .1 .0) ≡ flattened (take m ys))))) (id⊢ 𝓤 _) $ pick ! (λ us.
-          split ! $ move ! (1 ∷ []) $ heard ! (take (8 * m) (us .1 .1 .0) ≡ flattened (take m ys)) (λ e. fsplit ! $ drop ! $ fsplit ! $ drop ! $ fsplit ! $ fsplit ! $ move ! (1 ∷ []) $ feqL ! (λ l.
-          -- [the last list; true; the tokens and the result; what is kept of the array; …]
-          move ! (2 ∷ []) $ split ! $ move ! (1 ∷ []) $ feqL ! (λ is₁. land ! (from ! (stop !)) (init ! 21 refl (subst (λ (y : Val). T (hasTy tyUnit y) × WT y) (sym (ap only is₁)) (tt, tt))) $
-          split ! $ move ! (1 ∷ []) $ split ! $ lft-end ! tt $ move ! (0 ∷ 5 ∷ 3 ∷ []) $
-          use3 W (later (‵ (Arr (mem f32) (length zs) .lies (us .1 .1 .0) l₇ 0))) (slice-back 𝓤 H A W f32 (ν ∷ []) δ (us .1 .1 .0) (length zs) l₇ 0) $ await ! tt $ fsplit ! $ drop ! $
-          -- [the array's elements; true; the token κ₀; true; the token of scratch; true; refs; scratch; true; _14; …]
           assigns ! (addr ! (from ! (stop !))) (from ! (stop !)) (init ! 15 refl (tt, tt)) $
           assigns ! (agg ! (and-then ! (load ! (from ! (stop !)) (look ! 15 refl)) (and-then ! (big-lit ! (record { fits = lit< tt })) (no-more !)))) (from ! (stop !)) (init ! 13 refl (tt, (tt, (record { fits = lit< tt }, tt)))) $
-          rewrite ! 13 (λ (k : ℕ). ‵ (fat fullShare E.lent-ty l₁₂ 0 (sliceVal (l₇, 0) k))) (sym (l ∙ lz)) refl $
-          assigns ! (addr ! (from ! (fld ! refl (hop ! (look-in ! 28 (sub ! 0 refl (whole !))) (stop !))))) (from ! (stop !)) (init ! 11 refl (tt, tt)) $
-          assigns ! (agg ! (and-then ! (load ! (from ! (stop !)) (look ! 11 refl)) (and-then ! (load ! (from ! (fld ! refl (stop !))) (look-in ! 28 (sub ! 1 refl (whole !)))) (no-more !)))) (from ! (stop !)) (init ! 9 refl (tt, (tt, (record { fits = s-room .0 }, tt)))) $
+          rewrite ! 13 (λ (k : ℕ). ‵ (fat fullShare E.lent-ty l₁₁ 0 (sliceVal (l₈, 0) k))) (sym lz) refl $
+          move ! (37 ∷ []) $ fsplit ! $ move ! (1 ∷ []) $ fsplit ! $ drop ! $ fsplit ! $ drop ! $ fsplit ! $ move ! (1 ∷ []) $ fsplit ! $ move ! (3 ∷ []) $ use1 W (‵ Own ⊛ ‵ Own) (shr-slice-copy 𝓤 H A W (named 0) κ₀ R.the-row .twice s (v ∷ [])) $ split ! $
+          move ! (41 ∷ []) $ split ! $ move ! (1 ∷ []) $
+          -- [the tokens of kept and scratch; the token κ₀; refs; refs; scratch; true; kept; the array's elements; …]
+          -- the array is lent for a lifetime ν of the call of `gather`
+          lft-new ! tt (λ ν. move ! (8 ∷ []) $
+          use1 W (later (some (λ (δ : GName). ‵ (MutSlice (named 1) (ν ∷ []) f32 .own (slice-at l₈ 0 δ zs) (sliceVal (l₈, 0) (length zs) ∷ [])) ⊛ ‵ (E.Lent (ν ∷ []) l₈ δ zs)))) (lends-slice 𝓤 H A W f32 (named 1) (ν ∷ []) zs l₈ 0 (E.array-fits zs lz)) $ await ! tt $ pick ! (λ δ. split ! $
+          move ! (4 ∷ 2 ∷ 6 ∷ 0 ∷ []) $ join ! $ use3 W (raw (Gather .pre (to-gather m l₈ ν δ zs))) (E.goes-gather 𝓤 H A mem′ run W κ₀ q₀ b o γ ys m l₈ ν δ zs (is₀ .1) (E.asked n m zs em lz)) $
+          calls-at ! fm Gather known-gather (to-gather m l₈ ν δ zs) (and-then ! (load ! (from ! (stop !)) (look ! 38 refl)) (and-then ! (load ! (from ! (stop !)) (look ! 26 refl)) (and-then ! (load ! (from ! (stop !)) (look ! 19 refl)) (no-more !)))) (λ u₁.
+          use1 W (later (some (λ (r : Unit {0}). ((‵ (flft κ₀ q₀) ⊛ (‵ (flft (ν ∷ []) fullShare) ⊛ ‵ ftrue)) ⊛ ‵ (unit .own r (u₁ ∷ []))) ⊛ raw (ensured 𝓤 H A gather.ended (gather.clauses 𝓤 H A mem′ run) (κ₀, (ν ∷ [], tt)) (s, (m, (slice-at l₈ 0 δ zs, tt))) tt r)))) (id⊢ 𝓤 _) $ await ! tt $ pick ! (λ r₁.
+          split ! $ move ! (1 ∷ []) $ use1 W (some (λ (us : Unit {0} × (Unit {0} × (List Float × Unit {0}))). ‵ (lasts gather.ended (κ₀, (ν ∷ [], tt)) (s, (m, (slice-at l₈ 0 δ zs, tt))) us) ⊛ raw (fact 𝓤 (take (8 * m) (us .1 .1 .0) ≡ flattened (take m ys))))) (id⊢ 𝓤 _) $ pick ! (λ us.
+          split ! $ move ! (1 ∷ []) $ heard ! (take (8 * m) (us .1 .1 .0) ≡ flattened (take m ys)) (λ e. fsplit ! $ drop ! $ fsplit ! $ drop ! $ fsplit ! $ fsplit ! $ move ! (1 ∷ []) $ feqL ! (λ l.
+          -- [the last list; true; the tokens and the result; what is kept of the array; …]
+          move ! (2 ∷ []) $ split ! $ move ! (1 ∷ []) $ feqL ! (λ is₁. land ! (from ! (stop !)) (init ! 25 refl (subst (λ (y : Val). T (hasTy tyUnit y) × WT y) (sym (ap only is₁)) (tt, tt))) $
+          split ! $ move ! (1 ∷ []) $ split ! $ lft-end ! tt $ move ! (0 ∷ 5 ∷ 3 ∷ []) $
+          use3 W (later (‵ (Arr (mem f32) (length zs) .lies (us .1 .1 .0) l₈ 0))) (slice-back 𝓤 H A W f32 (ν ∷ []) δ (us .1 .1 .0) (length zs) l₈ 0) $ await ! tt $ fsplit ! $ drop ! $
+          -- [the array's elements; true; the token κ₀; true; the other tokens; refs; scratch; true; kept; _17; …]
+          assigns ! (addr ! (from ! (stop !))) (from ! (stop !)) (init ! 19 refl (tt, tt)) $
+          assigns ! (agg ! (and-then ! (load ! (from ! (stop !)) (look ! 19 refl)) (and-then ! (big-lit ! (record { fits = lit< tt })) (no-more !)))) (from ! (stop !)) (init ! 17 refl (tt, (tt, (record { fits = lit< tt }, tt)))) $
+          rewrite ! 17 (λ (k : ℕ). ‵ (fat fullShare E.lent-ty l₁₃ 0 (sliceVal (l₈, 0) k))) (sym (l ∙ lz)) refl $
+          assigns ! (addr ! (from ! (fld ! refl (hop ! (look-in ! 34 (sub ! 0 refl (whole !))) (stop !))))) (from ! (stop !)) (init ! 15 refl (tt, tt)) $
+          assigns ! (agg ! (and-then ! (load ! (from ! (stop !)) (look ! 15 refl)) (and-then ! (load ! (from ! (fld ! refl (stop !))) (look-in ! 34 (sub ! 1 refl (whole !)))) (no-more !)))) (from ! (stop !)) (init ! 13 refl (tt, (tt, (record { fits = k-room .0 }, tt)))) $
+          assigns ! (addr ! (from ! (fld ! refl (hop ! (look-in ! 32 (sub ! 0 refl (whole !))) (stop !))))) (from ! (stop !)) (init ! 11 refl (tt, tt)) $
+          assigns ! (agg ! (and-then ! (load ! (from ! (stop !)) (look ! 11 refl)) (and-then ! (load ! (from ! (fld ! refl (stop !))) (look-in ! 32 (sub ! 1 refl (whole !)))) (no-more !)))) (from ! (stop !)) (init ! 9 refl (tt, (tt, (record { fits = s-room .0 }, tt)))) $
           -- and for a lifetime ν′ of the call of `fit_copied`
           lft-new ! tt (λ ν′. move ! (1 ∷ []) $
-          use1 W (later (some (λ (δ′ : GName). ‵ (MutSlice (named 0) (ν′ ∷ []) f32 .own (slice-at l₇ 0 δ′ (us .1 .1 .0)) (sliceVal (l₇, 0) (length (us .1 .1 .0)) ∷ [])) ⊛ ‵ (E.Lent (ν′ ∷ []) l₇ δ′ (us .1 .1 .0))))) (lends-slice 𝓤 H A W f32 (named 0) (ν′ ∷ []) (us .1 .1 .0) l₇ 0 (E.array-fits (us .1 .1 .0) (l ∙ lz))) $ await ! tt $ pick ! (λ δ′. split ! $
-          move ! (2 ∷ 6 ∷ 0 ∷ 9 ∷ []) $ join ! $
-          use3 W (raw (Called .pre (to-called l₇ ν′ δ′ (us .1 .1 .0)))) (goes-called l₇ ν′ δ′ (us .1 .1 .0) (l ∙ lz)) $
-          calls-at ! fm Called known-called (to-called l₇ ν′ δ′ (us .1 .1 .0)) (and-then ! (load ! (from ! (stop !)) (look ! 12 refl)) (and-then ! (load ! (from ! (stop !)) (look ! 25 refl)) (and-then ! (load ! (from ! (stop !)) (look ! 31 refl)) (and-then ! (load ! (from ! (stop !)) (look ! 29 refl)) (and-then ! (load ! (from ! (stop !)) (look ! 8 refl)) (no-more !)))))) (λ u.
-          use1 W (later (some (λ (r : Modelled). ((‵ (flft (ν′ ∷ []) fullShare) ⊛ (‵ (flft κ₁ q₁) ⊛ ‵ ftrue)) ⊛ ‵ (S.the-row .own r (u ∷ []))) ⊛ raw (ensured 𝓤 H A called.ended (called.clauses 𝓤 H A mem′ run) (ν′ ∷ [], (κ₁, tt)) (slice-at l₇ 0 δ′ (us .1 .1 .0), (n, (side, (version, (y, tt))))) tt r)))) (id⊢ 𝓤 _) $ await ! tt $ pick ! (λ r.
-          split ! $ move ! (1 ∷ []) $ use1 W (some (λ (ts : List Float × (Unit {0} × (Unit {0} × (Unit {0} × (List Float × Unit {0}))))). ‵ (lasts called.ended (ν′ ∷ [], (κ₁, tt)) (slice-at l₇ 0 δ′ (us .1 .1 .0), (n, (side, (version, (y, tt))))) ts) ⊛ raw (fact 𝓤 (Says r (ts .1 .1 .1 .1 .0) (us .1 .1 .0))))) (id⊢ 𝓤 _) $ pick ! (λ ts.
-          split ! $ move ! (1 ∷ []) $ heard ! (Says r (ts .1 .1 .1 .1 .0) (us .1 .1 .0)) (λ c. fsplit ! $ fsplit ! $ move ! (1 ∷ []) $ feqL ! (λ l′. move ! (1 ∷ []) $ fsplit ! $ drop ! $ fsplit ! $ drop ! $ fsplit ! $ drop ! $ fsplit ! $ fsplit ! $ move ! (1 ∷ []) $ feqL ! (λ l″.
-          -- [scratch's last list; true; the array's; the tokens and the result; what is kept of the array; …]
-          move ! (3 ∷ []) $ split ! $ move ! (1 ∷ []) $ peeks ! S.the-row (Is S.the-row) (shows 𝓤 H A S.the-row) r (u ∷ []) (λ is.
-          land ! (from ! (stop !)) (init ! 39 refl (LL.lawful S.the-type S′.the-laws 𝓤 H A W .typed r _ is .0)) $
-          move ! (1 ∷ []) $ split ! $ lft-end ! tt $ move ! (0 ∷ 6 ∷ 5 ∷ []) $
-          use3 W (later (‵ (Arr (mem f32) (length (us .1 .1 .0)) .lies (ts .0) l₇ 0))) (slice-back 𝓤 H A W f32 (ν′ ∷ []) δ′ (ts .0) (length (us .1 .1 .0)) l₇ 0) $ await ! tt $ fsplit ! $ drop ! $
-          use1 W (‵ (froom (tyArray E.float 131072) l₇ 0)) (array-room 𝓤 H A W f32 131072 l₇ (ts .0) (l′ ∙ l ∙ lz)) $
-          -- [room for the array; the other tokens; the result; scratch's last list; true; true; the token κ₀; true; true; refs; true; _14; …]
-          returns ! (look ! 38 refl) $ forget ! 11 refl $ forget ! 13 refl $ forget ! 15 refl $ forget ! 17 refl $ forget ! 19 refl $ forget ! 21 refl $ forget ! 23 refl $ forget ! 26 refl $ forget ! 28 refl $ forget ! 30 refl $ forget ! 32 refl $ forget ! 34 refl $ forget ! 36 refl $ forget ! 38 refl $
-          move ! (38 ∷ 39 ∷ []) $ free1 ! $ move ! (36 ∷ 37 ∷ []) $ free1 ! $ move ! (34 ∷ 35 ∷ []) $ free1 ! $ move ! (32 ∷ 33 ∷ []) $ free1 ! $ move ! (30 ∷ 31 ∷ []) $ free1 ! $ move ! (28 ∷ 29 ∷ []) $ free1 ! $ move ! (26 ∷ 27 ∷ []) $ free1 ! $
-          move ! (0 ∷ 25 ∷ []) $ free1 ! $ move ! (22 ∷ 23 ∷ []) $ free1 ! $ move ! (20 ∷ 21 ∷ []) $ free1 ! $ move ! (18 ∷ 19 ∷ []) $ free1 ! $ move ! (16 ∷ 17 ∷ []) $ free1 ! $ move ! (14 ∷ 15 ∷ []) $ free1 ! $ move ! (12 ∷ 13 ∷ []) $ free1 ! $ move ! (10 ∷ 11 ∷ []) $ free1 ! $ free0 ! $
-          keep ! (5 ∷ 0 ∷ 8 ∷ 2 ∷ 1 ∷ []) $ by ! (exits r u (ts .1 .1 .1 .1 .0) (concluded m (us .1 .1 .0) (ts .1 .1 .1 .1 .0) r em e c) l″))))))))))))))))))))))))))))))))))))))))
+          use1 W (later (some (λ (δ′ : GName). ‵ (MutSlice (named 0) (ν′ ∷ []) f32 .own (slice-at l₈ 0 δ′ (us .1 .1 .0)) (sliceVal (l₈, 0) (length (us .1 .1 .0)) ∷ [])) ⊛ ‵ (E.Lent (ν′ ∷ []) l₈ δ′ (us .1 .1 .0))))) (lends-slice 𝓤 H A W f32 (named 0) (ν′ ∷ []) (us .1 .1 .0) l₈ 0 (E.array-fits (us .1 .1 .0) (l ∙ lz))) $ await ! tt $ pick ! (λ δ′. split ! $
+          move ! (10 ∷ 8 ∷ []) $ join ! $ move ! (3 ∷ 7 ∷ 1 ∷ 0 ∷ []) $ join ! $
+          use3 W (raw (Called .pre (to-called l₈ ν′ δ′ (us .1 .1 .0)))) (goes-called l₈ ν′ δ′ (us .1 .1 .0) (l ∙ lz)) $
+          calls-at ! fm Called known-called (to-called l₈ ν′ δ′ (us .1 .1 .0)) (and-then ! (load ! (from ! (stop !)) (look ! 15 refl)) (and-then ! (load ! (from ! (stop !)) (look ! 28 refl)) (and-then ! (load ! (from ! (stop !)) (look ! 36 refl)) (and-then ! (load ! (from ! (stop !)) (look ! 34 refl)) (and-then ! (load ! (from ! (stop !)) (look ! 11 refl)) (and-then ! (load ! (from ! (stop !)) (look ! 7 refl)) (no-more !))))))) (λ u.
+          use1 W (later (some (λ (r : Modelled). ((‵ (flft (ν′ ∷ []) fullShare) ⊛ Given-on) ⊛ ‵ (S.the-row .own r (u ∷ []))) ⊛ raw (ensured 𝓤 H A called.ended (called.clauses 𝓤 H A mem′ run) (ν′ ∷ [], (κ₁, (κ₂, tt))) (handed l₈ δ′ (us .1 .1 .0)) tt r)))) (id⊢ 𝓤 _) $ await ! tt $ pick ! (λ r.
+          split ! $ move ! (1 ∷ []) $ use1 W (some (λ (ts : List Float × (Unit {0} × (Unit {0} × (Unit {0} × (List ℕ × (List Float × Unit {0})))))). ‵ (lasts called.ended (ν′ ∷ [], (κ₁, (κ₂, tt))) (handed l₈ δ′ (us .1 .1 .0)) ts) ⊛ raw (fact 𝓤 (Says r (ts .1 .1 .1 .1 .0) (ts .1 .1 .1 .1 .1 .0) (us .1 .1 .0))))) (id⊢ 𝓤 _) $ pick ! (λ ts.
+          split ! $ move ! (1 ∷ []) $ heard ! (Says r (ts .1 .1 .1 .1 .0) (ts .1 .1 .1 .1 .1 .0) (us .1 .1 .0)) (λ c. fsplit ! $ fsplit ! $ move ! (1 ∷ []) $ feqL ! (λ l′. move ! (1 ∷ []) $ fsplit ! $ drop ! $ fsplit ! $ drop ! $ fsplit ! $ drop ! $
+          fsplit ! $ fsplit ! $ move ! (1 ∷ []) $ feqL ! (λ lk. move ! (1 ∷ []) $ fsplit ! $ fsplit ! $ move ! (1 ∷ []) $ feqL ! (λ l″.
+          -- [scratch's last list; true; kept's last list; the array's; the tokens and the result; what is kept of the array; …]
+          move ! (4 ∷ []) $ split ! $ move ! (1 ∷ []) $ peeks ! S.the-row (Is S.the-row) (shows 𝓤 H A S.the-row) r (u ∷ []) (λ is.
+          land ! (from ! (stop !)) (init ! 45 refl (LL.lawful S.the-type S′.the-laws 𝓤 H A W .typed r _ is .0)) $
+          move ! (1 ∷ []) $ split ! $ lft-end ! tt $ move ! (0 ∷ 7 ∷ 6 ∷ []) $
+          use3 W (later (‵ (Arr (mem f32) (length (us .1 .1 .0)) .lies (ts .0) l₈ 0))) (slice-back 𝓤 H A W f32 (ν′ ∷ []) δ′ (ts .0) (length (us .1 .1 .0)) l₈ 0) $ await ! tt $ fsplit ! $ drop ! $
+          use1 W (‵ (froom (tyArray E.float 131072) l₈ 0)) (array-room 𝓤 H A W f32 131072 l₈ (ts .0) (l′ ∙ l ∙ lz)) $
+          -- [room for the array; the other tokens; the result; scratch's last list; true; kept's last list; true; the token κ₀; true; refs; true; _17; …]
+          returns ! (look ! 44 refl) $ forget ! 11 refl $ forget ! 13 refl $ forget ! 15 refl $ forget ! 17 refl $ forget ! 19 refl $ forget ! 21 refl $ forget ! 23 refl $ forget ! 25 refl $ forget ! 27 refl $ forget ! 30 refl $ forget ! 32 refl $ forget ! 34 refl $ forget ! 36 refl $ forget ! 38 refl $ forget ! 40 refl $ forget ! 42 refl $ forget ! 44 refl $
+          move ! (44 ∷ 45 ∷ []) $ free1 ! $ move ! (42 ∷ 43 ∷ []) $ free1 ! $ move ! (40 ∷ 41 ∷ []) $ free1 ! $ move ! (38 ∷ 39 ∷ []) $ free1 ! $ move ! (36 ∷ 37 ∷ []) $ free1 ! $ move ! (34 ∷ 35 ∷ []) $ free1 ! $ move ! (32 ∷ 33 ∷ []) $ free1 ! $ move ! (30 ∷ 31 ∷ []) $ free1 ! $
+          move ! (0 ∷ 29 ∷ []) $ free1 ! $ move ! (26 ∷ 27 ∷ []) $ free1 ! $ move ! (24 ∷ 25 ∷ []) $ free1 ! $ move ! (22 ∷ 23 ∷ []) $ free1 ! $ move ! (20 ∷ 21 ∷ []) $ free1 ! $ move ! (18 ∷ 19 ∷ []) $ free1 ! $ move ! (16 ∷ 17 ∷ []) $ free1 ! $ move ! (14 ∷ 15 ∷ []) $ free1 ! $ move ! (12 ∷ 13 ∷ []) $ free1 ! $ move ! (10 ∷ 11 ∷ []) $ free1 ! $ free0 ! $
+          keep ! (6 ∷ 0 ∷ 8 ∷ 4 ∷ 2 ∷ 1 ∷ []) $ by ! (exits r u (ts .1 .1 .1 .1 .0) (ts .1 .1 .1 .1 .1 .0) (concluded m (us .1 .1 .0) (ts .1 .1 .1 .1 .0) (ts .1 .1 .1 .1 .1 .0) r em e c) lk l″))))))))))))))))))))))))))))))))))))))))))))
 
 module _ {M : Type 1} (𝓤 : URA M) (H : Heap 𝓤) (A : Atoms 𝓤) (W : Given 𝓤 H A) (mem′ : Memory → SProp 𝓤) (run : Routine → Fun 𝓤) where
   fit-walks : (C : Calls 𝓤 H) (Λ : Loops 𝓤 H) → FmC 𝓤 H (W .laws) C → Triple 𝓤 (C #records·copied) (E.Copied 𝓤 H A mem′ run) → Triple 𝓤 (C #records·gather) (E.Gather 𝓤 H A mem′ run) → Triple 𝓤 (C #records·fit-copied) (Handed 𝓤 H A mem′ run)
       → Walks 𝓤 H A fit.ended stayed (WpFn 𝓤 H C Λ code.function) (fit.clauses 𝓤 H A mem′ run)
   fit-walks C Λ fm known-copied known-gather known-called =
-      walked 𝓤 H A fit.ended stayed (fit.clauses 𝓤 H A mem′ run) (WpFn 𝓤 H C Λ code.function) (λ κs. (slice-vals, (uint-vals w64, (uint-vals w8, (slice-vals, tt)))))
-      (λ κs. (shr-slice-tells (named 0) (κs .0) R.the-row, (uint-tells w64, (uint-tells w8, (mut-slice-tells (named 1) (κs .1 .0) f32, tt)))))
-      (λ κs qs bounds a g are. via 𝓤 _ (fst∗ 𝓤 _ (emp 𝓤)) (walk 𝓤 H A W mem′ run (κs .0) (κs .1 .0) (qs .0) (qs .1 .0) (a .0 .ptr .0) (a .0 .ptr .1) (a .0 .name) (a .0 .now) (a .1 .0) (a .1 .1 .0) (a .1 .1 .1 .0 .ptr .0) (a .1 .1 .1 .0 .ptr .1) (a .1 .1 .1 .0 .name) (a .1 .1 .1 .0 .now)
-      (are .0 .0 .1) (are .1 .0 .1) (are .1 .1 .0 .1) (are .1 .1 .1 .0 .0 .1) C Λ fm known-copied known-gather known-called))
+      walked 𝓤 H A fit.ended stayed (fit.clauses 𝓤 H A mem′ run) (WpFn 𝓤 H C Λ code.function) (λ κs. (slice-vals, (uint-vals w64, (uint-vals w8, (slice-vals, (slice-vals, tt))))))
+      (λ κs. (shr-slice-tells (named 0) (κs .0) R.the-row, (uint-tells w64, (uint-tells w8, (mut-slice-tells (named 1) (κs .1 .0) u8, (mut-slice-tells (named 2) (κs .1 .1 .0) f32, tt))))))
+      (λ κs qs bounds a g are. via 𝓤 _ (fst∗ 𝓤 _ (emp 𝓤)) (walk 𝓤 H A W mem′ run (κs .0) (κs .1 .0) (κs .1 .1 .0) (qs .0) (qs .1 .0) (qs .1 .1 .0) (a .0 .ptr .0) (a .0 .ptr .1) (a .0 .name) (a .0 .now) (a .1 .0) (a .1 .1 .0) (a .1 .1 .1 .0 .ptr .0) (a .1 .1 .1 .0 .ptr .1) (a .1 .1 .1 .0 .name) (a .1 .1 .1 .0 .now)
+      (a .1 .1 .1 .1 .0 .ptr .0) (a .1 .1 .1 .1 .0 .ptr .1) (a .1 .1 .1 .1 .0 .name) (a .1 .1 .1 .1 .0 .now)
+      (are .0 .0 .1) (are .1 .0 .1) (are .1 .1 .0 .1) (are .1 .1 .1 .0 .0 .1) (are .1 .1 .1 .1 .0 .0 .1) C Λ fm known-copied known-gather known-called))
 
 fit-meets : {M : Type 1} (𝓤 : URA M) (H : Heap 𝓤) (A : Atoms 𝓤) (W : Given 𝓤 H A) (mem′ : Memory → SProp 𝓤) (run : Routine → Fun 𝓤) (𝓣 : Tables 𝓤 H)
     → Triple 𝓤 (𝓣 .C #records·copied) (E.Copied 𝓤 H A mem′ run) → Triple 𝓤 (𝓣 .C #records·gather) (E.Gather 𝓤 H A mem′ run) → Triple 𝓤 (𝓣 .C #records·fit-copied) (Handed 𝓤 H A mem′ run)
     → Meets 𝓤 H A fit.signature (WpFn 𝓤 H (𝓣 .C) (𝓣 .Λ) code.function) (fit.spec 𝓤 H A mem′ run)
 fit-meets 𝓤 H A W mem′ run 𝓣 known-copied known-gather known-called =
-    walk-meets 𝓤 H A fit.ended stayed W (goes-none-slice 𝓤 H A W 2 (0 ∷ []) tt (plain (λ _. R.the-row)) yes, (goes-none 𝓤 H A W 2 (λ _. usize) yes (λ κs x f. refl), (goes-none 𝓤 H A W 2 (λ _. u8) yes (λ κs x f. refl), (goes-gave-slice 𝓤 H A W 2 1 tt (plain (λ _. f32)), tt)))) (fit.clauses 𝓤 H A mem′ run)
+    walk-meets 𝓤 H A fit.ended stayed W (goes-none-slice 𝓤 H A W 3 (0 ∷ []) tt (plain (λ _. R.the-row)) yes, (goes-none 𝓤 H A W 3 (λ _. usize) yes (λ κs x f. refl), (goes-none 𝓤 H A W 3 (λ _. u8) yes (λ κs x f. refl), (goes-gave-slice 𝓤 H A W 3 1 tt (plain (λ _. u8)), (goes-gave-slice 𝓤 H A W 3 2 tt (plain (λ _. f32)), tt))))) (fit.clauses 𝓤 H A mem′ run)
     (WpFn 𝓤 H (𝓣 .C) (𝓣 .Λ) code.function) (WpFn-mono 𝓤 H (W .laws) 𝓣 code.function) (fit-walks 𝓤 H A W mem′ run (𝓣 .C) (𝓣 .Λ) (fmOf 𝓤 H (W .laws) 𝓣) known-copied known-gather known-called)
 
 pub fit-spec : {M : Type 1} → stated.statement M

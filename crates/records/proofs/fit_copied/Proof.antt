@@ -12,4 +12,4 @@ pub fit-copied-spec : {M : Type 1} → statement M
 fit-copied-spec =
     tie.close
     (tie.spec (λ c κs. search needs) (λ c. search (eight-fit, needs)) (λ c. search (room)) (λ c. search (lent)) (λ c κs. search (all-lent))
-    (λ c. search needs) (λ c. search needs) returns)
+    (λ c. search needs) (λ c. search needs) (λ c. search needs) returns)

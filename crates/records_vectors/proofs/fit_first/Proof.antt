@@ -18,7 +18,7 @@ use prog.Wp.{Heap, Calls, Loops, WpFn, Tables}
 use ghost.Atoms.{Atoms, sem}
 use contract.Monad.{Fun, fact}
 use contract.Running.{givenOf, tables, tablesOf}
-use types.Kit.{Given, ‵, raw, some, later, _⊛_, ⋆, _$_, _∵_, !, qed, by, move, keep, drop, use1, use2, use3, split, join, pick, rewrite, fsplit, fjoin, feqL, feqI, suffices, frame, await, done}
+use types.Kit.{Given, Item, ‵, raw, some, later, _⊛_, ⋆, _$_, _∵_, !, qed, by, move, keep, drop, use1, use2, use3, split, join, pick, rewrite, fsplit, fjoin, feqL, feqI, suffices, frame, await, done}
 use types.Part.{agg, whole, sub, look-in}
 use types.Run.{look, init, forget, stop, hop, fld, from, load, of-opd, addr, and-then, no-more, assigns, land, returns, enter, alloc1, alloc0, params1, pass1, pass0, free1, free0}
 use types.Share.{arr-parts}
@@ -64,13 +64,13 @@ use Rattle.records_vectors.proofs.fit_first.Statement as stated
 use Rattle.records_vectors.proofs.fit_first.Code as code
 
 abbrev stayed : Stays (first.ended .signature .params) (first.ended .kept)
-stayed = (stay-none (λ _. All) yes, (stay-none (λ _. usize) yes, (stay-none (λ _. usize) yes, (stay-none (λ _. u8) yes, (gave-slice (0 ∷ []) tt (plain (λ _. f32)), tt)))))
+stayed = (stay-none (λ _. All) yes, (stay-none (λ _. usize) yes, (stay-none (λ _. usize) yes, (stay-none (λ _. u8) yes, (gave-slice (0 ∷ []) tt (plain (λ _. u8)), (gave-slice (1 ∷ []) tt (plain (λ _. f32)), tt))))))
 
 abbrev Record : {M : Type 1} (𝓤 : URA M) (H : Heap 𝓤) (A : Atoms 𝓤) (mem : Memory → SProp 𝓤) (run : Routine → Fun 𝓤) → Contract 𝓤
 Record 𝓤 H A mem run = tripleOf 𝓤 H A called.signature (called.spec 𝓤 H A mem run)
 
-module _ {M : Type 1} (𝓤 : URA M) (H : Heap 𝓤) (A : Atoms 𝓤) (W : Given 𝓤 H A) (mem : Memory → SProp 𝓤) (run : Routine → Fun 𝓤) (κ₀ : Lft) (q₀ : Share)
-    (xs : List Reference) (n side version : ℕ) (sb so : ℕ) (σ : GName) (ss : List Float) where
+module _ {M : Type 1} (𝓤 : URA M) (H : Heap 𝓤) (A : Atoms 𝓤) (W : Given 𝓤 H A) (mem : Memory → SProp 𝓤) (run : Routine → Fun 𝓤) (κ₀ κ₁ : Lft) (q₀ q₁ : Share)
+    (xs : List Reference) (n side version : ℕ) (kb ko : ℕ) (χ : GName) (ks : List ℕ) (sb so : ℕ) (σ : GName) (ss : List Float) where
   -- the array's machine value
   abbrev v : Val
   v = only (array-vals (LL.vals R.the-type R′.the-laws) xs)
@@ -79,6 +79,15 @@ module _ {M : Type 1} (𝓤 : URA M) (H : Heap 𝓤) (A : Atoms 𝓤) (W : Given
   abbrev ys : List Reference
   ys = take n xs
 
+  abbrev x : RefT (List ℕ)
+  x = slice-at kb ko χ ks
+
+  abbrev kv : Val
+  kv = sliceVal (kb, ko) (length ks)
+
+  abbrev Kept : Fml
+  Kept = MutSlice (named 0) κ₀ u8 .own x (kv ∷ [])
+
   abbrev y : RefT (List Float)
   y = slice-at sb so σ ss
 
@@ -86,93 +95,103 @@ module _ {M : Type 1} (𝓤 : URA M) (H : Heap 𝓤) (A : Atoms 𝓤) (W : Given
   w = sliceVal (sb, so) (length ss)
 
   abbrev Scratch : Fml
-  Scratch = MutSlice (named 0) κ₀ f32 .own y (w ∷ [])
+  Scratch = MutSlice (named 1) κ₁ f32 .own y (w ∷ [])
+
+  -- the tokens
+  abbrev Tokens : Item 𝓤
+  Tokens = ‵ (flft κ₀ q₀) ⊛ (‵ (flft κ₁ q₁) ⊛ ‵ ftrue)
 
   abbrev Arg : Type 0
-  Arg = List Reference × (ℕ × (ℕ × (ℕ × (RefT (List Float) × Unit {0}))))
+  Arg = List Reference × (ℕ × (ℕ × (ℕ × (RefT (List ℕ) × (RefT (List Float) × Unit {0})))))
 
   abbrev a : Arg
-  a = (xs, (n, (side, (version, (y, tt)))))
+  a = (xs, (n, (side, (version, (x, (y, tt))))))
 
-  abbrev vals : List Val × (List Val × (List Val × (List Val × (List Val × Unit {0}))))
-  vals = (v ∷ [], (vint w64 n ∷ [], (vint w64 side ∷ [], (vint w8 version ∷ [], (w ∷ [], tt)))))
+  abbrev vals : List Val × (List Val × (List Val × (List Val × (List Val × (List Val × Unit {0})))))
+  vals = (v ∷ [], (vint w64 n ∷ [], (vint w64 side ∷ [], (vint w8 version ∷ [], (kv ∷ [], (w ∷ [], tt))))))
 
   abbrev Post : Val → SProp 𝓤
-  Post = walkOf 𝓤 H A first.ended stayed (first.clauses 𝓤 H A mem run) .post (((κ₀, tt), (q₀, tt), tt, a, vals), tt)
+  Post = walkOf 𝓤 H A first.ended stayed (first.clauses 𝓤 H A mem run) .post (((κ₀, (κ₁, tt)), (q₀, (q₁, tt)), tt, a, vals), tt)
 
   abbrev Called : Contract 𝓤
   Called = Record 𝓤 H A mem run
 
-  abbrev Says : Modelled → List Float → Type 0
-  Says r ss′ = fitting.final r ss′ ≡ fitOf (fitting.flatRequest (flattened ys) side version ss)
+  abbrev Says : Modelled → List ℕ → List Float → Type 0
+  Says r ks′ ss′ = fitting.final r ks′ ss′ ≡ fitOf (fitting.flatRequest (flattened ys) side version ks ss)
 
-  module _ (g : Is All xs (v ∷ [])) (n-fits : n < 2 ^ 64) (side-fits : side < 2 ^ 64) (version-fits : version < 2 ^ 8) (s-room : Room f32 (length ss)) (n≤ : n ≤ 64) where
-    exits : (r : Modelled) (u : Val) (ss′ : List Float) → Says r ss′ → length ss′ ≡ length ss → ent 𝓤 (⋆ 𝓤 H A ((‵ (flft κ₀ q₀) ⊛ ‵ ftrue) ∷ ‵ (finally f32 σ ss′) ∷ ‵ (S.the-row .own r (u ∷ [])) ∷ [])) (Post u)
-    exits r u ss′ e l =
-        qed W ((‵ (flft κ₀ q₀) ⊛ ‵ ftrue) ∷ ‵ (finally f32 σ ss′) ∷ ‵ (S.the-row .own r (u ∷ [])) ∷ []) ∵
-        suffices ! _ (ends-at 𝓤 H A first.ended stayed (first.clauses 𝓤 H A mem run) W (((κ₀, tt), (q₀, tt), tt, a, vals), tt) u r (tt, (tt, (tt, (tt, (ss′, tt))))) (tt, (tt, (tt, (tt, (l, tt)))))) $ says ! e $ frame ! $
-        nothing ! $ move ! (1 ∷ 0 ∷ []) $ fjoin ! $ owned ! u8 (Is u8) (uint-makes 𝓤 H A W w8) version _ (refl, version-fits) $ fjoin ! $ owned ! usize (Is usize) (uint-makes 𝓤 H A W w64) side _ (refl, side-fits) $ fjoin ! $ owned ! usize (Is usize) (uint-makes 𝓤 H A W w64) n _ (refl, n-fits) $ fjoin ! $ owned ! All (Is All) (array-makes 𝓤 H A W R.the-row (LL.makes R.the-type R′.the-plain 𝓤 H A) 64) xs _ g $ fjoin ! $ done !
+  module _ (g : Is All xs (v ∷ [])) (n-fits : n < 2 ^ 64) (side-fits : side < 2 ^ 64) (version-fits : version < 2 ^ 8) (k-room : Room u8 (length ks)) (s-room : Room f32 (length ss)) (n≤ : n ≤ 64) where
+    exits : (r : Modelled) (u : Val) (ks′ : List ℕ) (ss′ : List Float) → Says r ks′ ss′ → length ks′ ≡ length ks → length ss′ ≡ length ss
+        → ent 𝓤 (⋆ 𝓤 H A (Tokens ∷ ‵ (finally u8 χ ks′) ∷ ‵ (finally f32 σ ss′) ∷ ‵ (S.the-row .own r (u ∷ [])) ∷ [])) (Post u)
+    exits r u ks′ ss′ e lk l =
+        qed W (Tokens ∷ ‵ (finally u8 χ ks′) ∷ ‵ (finally f32 σ ss′) ∷ ‵ (S.the-row .own r (u ∷ [])) ∷ []) ∵
+        suffices ! _ (ends-at 𝓤 H A first.ended stayed (first.clauses 𝓤 H A mem run) W (((κ₀, (κ₁, tt)), (q₀, (q₁, tt)), tt, a, vals), tt) u r (tt, (tt, (tt, (tt, (ks′, (ss′, tt)))))) (tt, (tt, (tt, (tt, (lk, (l, tt))))))) $ says ! e $ frame ! $
+        nothing ! $ move ! (2 ∷ 0 ∷ []) $ fjoin ! $ move ! (1 ∷ 0 ∷ []) $ fjoin ! $ owned ! u8 (Is u8) (uint-makes 𝓤 H A W w8) version _ (refl, version-fits) $ fjoin ! $ owned ! usize (Is usize) (uint-makes 𝓤 H A W w64) side _ (refl, side-fits) $ fjoin ! $ owned ! usize (Is usize) (uint-makes 𝓤 H A W w64) n _ (refl, n-fits) $ fjoin ! $ owned ! All (Is All) (array-makes 𝓤 H A W R.the-row (LL.makes R.the-type R′.the-plain 𝓤 H A) 64) xs _ g $ fjoin ! $ done !
 
     abbrev Parts : ℕ → Fml
     Parts l = arr-parts (shares R.the-row) (length xs) .part fullShare xs l 0
 
     -- `records::fit` of the records at l, for a lifetime ν, under the name δ: what its triple binds outside, and that the caller has what it asks. It has the lifetime of the records first, so each other is one further on: what is owned is the same
-    abbrev to-called : ℕ → ℕ → GName → Called .Ghost
-    to-called l ν δ = (((ν ∷ [], (κ₀, tt)), (fullShare, (q₀, tt)), tt, (slice-at l 0 δ ys, (side, (version, (y, tt)))), (sliceVal (l, 0) (length ys) ∷ [], (vint w64 side ∷ [], (vint w8 version ∷ [], (w ∷ [], tt))))), tt)
+    abbrev handed : ℕ → GName → RefT (List Reference) × (ℕ × (ℕ × (RefT (List ℕ) × (RefT (List Float) × Unit {0}))))
+    handed l δ = (slice-at l 0 δ ys, (side, (version, (x, (y, tt)))))
 
-    goes-called : (l ν : ℕ) (δ : GName) → ent 𝓤 (sep 𝓤 (sep 𝓤 (A .lft (ν ∷ []) fullShare) (A .lft κ₀ q₀)) (sep 𝓤 (sem 𝓤 H A (ShrSlice (named 0) (ν ∷ []) R.the-row .own (slice-at l 0 δ ys) (sliceVal (l, 0) (length ys) ∷ []))) (sem 𝓤 H A Scratch))) (Called .pre (to-called l ν δ))
+    abbrev to-called : ℕ → ℕ → GName → Called .Ghost
+    to-called l ν δ = (((ν ∷ [], (κ₀, (κ₁, tt))), (fullShare, (q₀, (q₁, tt))), tt, handed l δ, (sliceVal (l, 0) (length ys) ∷ [], (vint w64 side ∷ [], (vint w8 version ∷ [], (kv ∷ [], (w ∷ [], tt)))))), tt)
+
+    goes-called : (l ν : ℕ) (δ : GName) → ent 𝓤 (sep 𝓤 (sep 𝓤 (A .lft (ν ∷ []) fullShare) (sep 𝓤 (A .lft κ₀ q₀) (sep 𝓤 (A .lft κ₁ q₁) (sem 𝓤 H A ftrue)))) (sep 𝓤 (sem 𝓤 H A (ShrSlice (named 0) (ν ∷ []) R.the-row .own (slice-at l 0 δ ys) (sliceVal (l, 0) (length ys) ∷ []))) (sep 𝓤 (sem 𝓤 H A Kept) (sem 𝓤 H A Scratch)))) (Called .pre (to-called l ν δ))
     goes-called l ν δ =
-        qed W ((‵ (flft (ν ∷ []) fullShare) ⊛ ‵ (flft κ₀ q₀)) ∷ ‵ (ShrSlice (named 0) (ν ∷ []) R.the-row .own (slice-at l 0 δ ys) (sliceVal (l, 0) (length ys) ∷ [])) ∷ ‵ Scratch ∷ []) ∵ split ! $
-        nothing ! $ move ! (2 ∷ 0 ∷ []) $ join ! $ move ! (1 ∷ 0 ∷ []) $ join ! $
-        -- [the tokens; refs; scratch]
-        nothing ! $ move ! (3 ∷ 0 ∷ []) $ fjoin ! $ owned ! u8 (Is u8) (uint-makes 𝓤 H A W w8) version _ (refl, version-fits) $ fjoin ! $ owned ! usize (Is usize) (uint-makes 𝓤 H A W w64) side _ (refl, side-fits) $ fjoin ! $ move ! (2 ∷ 0 ∷ []) $ fjoin ! $ move ! (1 ∷ 0 ∷ []) $ join ! $ frame ! $ done !
+        qed W ((‵ (flft (ν ∷ []) fullShare) ⊛ Tokens) ∷ ‵ (ShrSlice (named 0) (ν ∷ []) R.the-row .own (slice-at l 0 δ ys) (sliceVal (l, 0) (length ys) ∷ [])) ∷ (‵ Kept ⊛ ‵ Scratch) ∷ []) ∵
+        move ! (2 ∷ []) $ split ! $ nothing ! $ move ! (2 ∷ 0 ∷ []) $ fjoin ! $ move ! (1 ∷ 0 ∷ []) $ fjoin ! $ owned ! u8 (Is u8) (uint-makes 𝓤 H A W w8) version _ (refl, version-fits) $ fjoin ! $ owned ! usize (Is usize) (uint-makes 𝓤 H A W w64) side _ (refl, side-fits) $ fjoin ! $ move ! (2 ∷ 0 ∷ []) $ fjoin ! $ move ! (1 ∷ 0 ∷ []) $ join ! $ frame ! $ done !
 
     module _ (C : Calls 𝓤 H) (Λ : Loops 𝓤 H) (fm : FmC 𝓤 H (W .laws) C) (known : Triple 𝓤 (C #records·fit) Called) where
-      walk : ent 𝓤 (onEntry 𝓤 H A first.signature (κ₀, tt) (q₀, tt) a vals) (WpFn 𝓤 H C Λ code.function (v ∷ vint w64 n ∷ vint w64 side ∷ vint w8 version ∷ w ∷ []) Post)
+      walk : ent 𝓤 (onEntry 𝓤 H A first.signature (κ₀, (κ₁, tt)) (q₀, (q₁, tt)) a vals) (WpFn 𝓤 H C Λ code.function (v ∷ vint w64 n ∷ vint w64 side ∷ vint w8 version ∷ kv ∷ w ∷ []) Post)
       walk =
-          qed W ((‵ (flft κ₀ q₀) ⊛ ‵ ftrue) ∷ ‵ (owns (All ∷ usize ∷ usize ∷ u8 ∷ MutSlice (named 0) κ₀ f32 ∷ []) a vals) ∷ []) ∵ enter ! C Λ code.function (v ∷ vint w64 n ∷ vint w64 side ∷ vint w8 version ∷ w ∷ []) _ $
-          alloc1 ! (λ l₀. alloc1 ! (λ l₁. alloc1 ! (λ l₂. alloc1 ! (λ l₃. alloc1 ! (λ l₄. alloc1 ! (λ l₅. alloc1 ! (λ l₆. alloc1 ! (λ l₇. alloc1 ! (λ l₈. alloc1 ! (λ l₉. alloc1 ! (λ l₁₀. alloc0 ! $ params1 ! $
-          pass1 ! (init ! 18 refl (array-lawful 𝓤 H A W R.the-row (LL.lawful R.the-type R′.the-laws 𝓤 H A W) 64 .typed xs _ g .0)) $ pass1 ! (init ! 16 refl (tt, record { fits = n-fits })) $ pass1 ! (init ! 14 refl (tt, record { fits = side-fits })) $ pass1 ! (init ! 12 refl (tt, record { fits = version-fits })) $ pass1 ! (init ! 10 refl (tt, (tt, (record { fits = s-room .0 }, tt)))) $ pass0 ! $
-          -- [_10; …; _9; …; _8; …; _7; …; _6; …; _5; …; _4; …; _3; …; _2; …; _1; …; room for _0; …; the tokens; what the parameters own]
-          assigns ! (of-opd ! (load ! (from ! (stop !)) (look ! 18 refl))) (from ! (stop !)) (init ! 8 refl (array-lawful 𝓤 H A W R.the-row (LL.lawful R.the-type R′.the-laws 𝓤 H A W) 64 .typed xs _ g .0)) $
-          owned ! All (Is All) (array-makes 𝓤 H A W R.the-row (LL.makes R.the-type R′.the-plain 𝓤 H A) 64) xs _ g $ move ! (9 ∷ 0 ∷ []) $
-          use2 W (‵ (arr-parts (shares R.the-row) 64 .part fullShare xs l₆ 0)) (array-parts 𝓤 H A W R.the-row 64 l₆ tt xs v) $ fsplit ! $ feqL ! (λ e. feqI ! ℕ (length xs) (length xs) refl $ fjoin ! $
+          qed W (Tokens ∷ ‵ (owns (All ∷ usize ∷ usize ∷ u8 ∷ MutSlice (named 0) κ₀ u8 ∷ MutSlice (named 1) κ₁ f32 ∷ []) a vals) ∷ []) ∵ enter ! C Λ code.function (v ∷ vint w64 n ∷ vint w64 side ∷ vint w8 version ∷ kv ∷ w ∷ []) _ $
+          alloc1 ! (λ l₀. alloc1 ! (λ l₁. alloc1 ! (λ l₂. alloc1 ! (λ l₃. alloc1 ! (λ l₄. alloc1 ! (λ l₅. alloc1 ! (λ l₆. alloc1 ! (λ l₇. alloc1 ! (λ l₈. alloc1 ! (λ l₉. alloc1 ! (λ l₁₀. alloc1 ! (λ l₁₁. alloc1 ! (λ l₁₂. alloc1 ! (λ l₁₃. alloc0 ! $ params1 ! $
+          pass1 ! (init ! 24 refl (array-lawful 𝓤 H A W R.the-row (LL.lawful R.the-type R′.the-laws 𝓤 H A W) 64 .typed xs _ g .0)) $ pass1 ! (init ! 22 refl (tt, record { fits = n-fits })) $ pass1 ! (init ! 20 refl (tt, record { fits = side-fits })) $ pass1 ! (init ! 18 refl (tt, record { fits = version-fits })) $ pass1 ! (init ! 16 refl (tt, (tt, (record { fits = k-room .0 }, tt)))) $ pass1 ! (init ! 14 refl (tt, (tt, (record { fits = s-room .0 }, tt)))) $ pass0 ! $
+          -- [_13; …; _12; …; ..; _1; …; room for _0; …; the tokens; what the parameters own]
+          assigns ! (of-opd ! (load ! (from ! (stop !)) (look ! 24 refl))) (from ! (stop !)) (init ! 12 refl (array-lawful 𝓤 H A W R.the-row (LL.lawful R.the-type R′.the-laws 𝓤 H A W) 64 .typed xs _ g .0)) $
+          owned ! All (Is All) (array-makes 𝓤 H A W R.the-row (LL.makes R.the-type R′.the-plain 𝓤 H A) 64) xs _ g $ move ! (13 ∷ 0 ∷ []) $
+          use2 W (‵ (arr-parts (shares R.the-row) 64 .part fullShare xs l₇ 0)) (array-parts 𝓤 H A W R.the-row 64 l₇ tt xs v) $ fsplit ! $ feqL ! (λ e. feqI ! ℕ (length xs) (length xs) refl $ fjoin ! $
           -- [the records; the locals, with only that the array dies at its place; the tokens; what the parameters own]
-          assigns ! (addr ! (from ! (stop !))) (from ! (stop !)) (init ! 7 refl (tt, tt)) $
-          assigns ! (agg ! (and-then ! (load ! (from ! (stop !)) (look ! 7 refl)) (and-then ! (load ! (from ! (stop !)) (look ! 16 refl)) (no-more !)))) (from ! (stop !)) (init ! 5 refl (tt, (tt, (record { fits = n-fits }, tt)))) $
-          rewrite ! 5 (λ (k : ℕ). ‵ (fat fullShare lent-ty l₈ 0 (sliceVal (l₆, 0) k))) (sym (lent-count xs n e n≤)) refl $
-          assigns ! (addr ! (from ! (fld ! refl (hop ! (look-in ! 10 (sub ! 0 refl (whole !))) (stop !))))) (from ! (stop !)) (init ! 3 refl (tt, tt)) $
-          assigns ! (agg ! (and-then ! (load ! (from ! (stop !)) (look ! 3 refl)) (and-then ! (load ! (from ! (fld ! refl (stop !))) (look-in ! 10 (sub ! 1 refl (whole !)))) (no-more !)))) (from ! (stop !)) (init ! 1 refl (tt, (tt, (record { fits = s-room .0 }, tt)))) $
-          move ! (23 ∷ []) $ fsplit ! $ drop ! $ fsplit ! $ drop ! $ fsplit ! $ drop ! $ fsplit ! $ drop ! $ fsplit ! $ move ! (24 ∷ []) $ split ! $
+          assigns ! (addr ! (from ! (stop !))) (from ! (stop !)) (init ! 11 refl (tt, tt)) $
+          assigns ! (agg ! (and-then ! (load ! (from ! (stop !)) (look ! 11 refl)) (and-then ! (load ! (from ! (stop !)) (look ! 22 refl)) (no-more !)))) (from ! (stop !)) (init ! 9 refl (tt, (tt, (record { fits = n-fits }, tt)))) $
+          rewrite ! 9 (λ (k : ℕ). ‵ (fat fullShare lent-ty l₉ 0 (sliceVal (l₇, 0) k))) (sym (lent-count xs n e n≤)) refl $
+          assigns ! (addr ! (from ! (fld ! refl (hop ! (look-in ! 16 (sub ! 0 refl (whole !))) (stop !))))) (from ! (stop !)) (init ! 7 refl (tt, tt)) $
+          assigns ! (agg ! (and-then ! (load ! (from ! (stop !)) (look ! 7 refl)) (and-then ! (load ! (from ! (fld ! refl (stop !))) (look-in ! 16 (sub ! 1 refl (whole !)))) (no-more !)))) (from ! (stop !)) (init ! 5 refl (tt, (tt, (record { fits = k-room .0 }, tt)))) $
+          assigns ! (addr ! (from ! (fld ! refl (hop ! (look-in ! 14 (sub ! 0 refl (whole !))) (stop !))))) (from ! (stop !)) (init ! 3 refl (tt, tt)) $
+          assigns ! (agg ! (and-then ! (load ! (from ! (stop !)) (look ! 3 refl)) (and-then ! (load ! (from ! (fld ! refl (stop !))) (look-in ! 14 (sub ! 1 refl (whole !)))) (no-more !)))) (from ! (stop !)) (init ! 1 refl (tt, (tt, (record { fits = s-room .0 }, tt)))) $
+          move ! (29 ∷ []) $ fsplit ! $ drop ! $ fsplit ! $ drop ! $ fsplit ! $ drop ! $ fsplit ! $ drop ! $ fsplit ! $ move ! (1 ∷ []) $ fsplit ! $ move ! (31 ∷ []) $
+          -- [the tokens; scratch; true; kept; the records; …]
           lft-new ! tt (λ ν. move ! (5 ∷ 0 ∷ []) $
-          use2 W (later (some (λ (δ : GName). ‵ (ShrSlice (named 0) (ν ∷ []) R.the-row .own (slice-at l₆ 0 δ ys) (sliceVal (l₆, 0) (length ys) ∷ [])) ⊛ (‵ (flent (ν ∷ []) (Parts l₆)) ⊛ ‵ (flft (ν ∷ []) fullShare))))) (lends-first 𝓤 H A W (ν ∷ []) xs l₆ n e) $ await ! tt $ pick ! (λ δ. split ! $ move ! (1 ∷ []) $ split ! $ move ! (2 ∷ 0 ∷ 1 ∷ []) $
-          move ! (2 ∷ 3 ∷ 0 ∷ 5 ∷ []) $ join ! $
-          use3 W (raw (Called .pre (to-called l₆ ν δ))) (goes-called l₆ ν δ) $
-          calls-at ! fm Called known (to-called l₆ ν δ) (and-then ! (load ! (from ! (stop !)) (look ! 8 refl)) (and-then ! (load ! (from ! (stop !)) (look ! 17 refl)) (and-then ! (load ! (from ! (stop !)) (look ! 15 refl)) (and-then ! (load ! (from ! (stop !)) (look ! 4 refl)) (no-more !))))) (λ u.
-          use1 W (later (some (λ (r : Modelled). ((‵ (flft (ν ∷ []) fullShare) ⊛ (‵ (flft κ₀ q₀) ⊛ ‵ ftrue)) ⊛ ‵ (S.the-row .own r (u ∷ []))) ⊛ raw (ensured 𝓤 H A called.ended (called.clauses 𝓤 H A mem run) (ν ∷ [], (κ₀, tt)) (slice-at l₆ 0 δ ys, (side, (version, (y, tt)))) tt r)))) (id⊢ 𝓤 _) $ await ! tt $ pick ! (λ r.
-          split ! $ move ! (1 ∷ []) $ use1 W (some (λ (ts : Unit {0} × (Unit {0} × (Unit {0} × (List Float × Unit {0})))). ‵ (lasts called.ended (ν ∷ [], (κ₀, tt)) (slice-at l₆ 0 δ ys, (side, (version, (y, tt)))) ts) ⊛ raw (fact 𝓤 (Says r (ts .1 .1 .1 .0))))) (id⊢ 𝓤 _) $ pick ! (λ ts.
-          split ! $ move ! (1 ∷ []) $ heard ! (Says r (ts .1 .1 .1 .0)) (λ c. fsplit ! $ drop ! $ fsplit ! $ drop ! $ fsplit ! $ drop ! $ fsplit ! $ fsplit ! $ move ! (1 ∷ []) $ feqL ! (λ l.
-          -- [scratch's last list; true; the tokens and the result; what is kept of the records; …]
-          move ! (2 ∷ []) $ split ! $ move ! (1 ∷ []) $ peeks ! S.the-row (Is S.the-row) (shows 𝓤 H A S.the-row) r (u ∷ []) (λ is.
-          land ! (from ! (stop !)) (init ! 26 refl (LL.lawful S.the-type S′.the-laws 𝓤 H A W .typed r _ is .0)) $
-          move ! (1 ∷ []) $ split ! $ lft-end ! tt $ move ! (0 ∷ 5 ∷ []) $ lent-back ! tt $ fsplit ! $ drop ! $ use1 W (‵ (froom (tyArray R′.mir 64) l₆ 0)) (row-room 𝓤 H A W R.the-row 64 l₆ xs e) $
-          returns ! (look ! 26 refl) $ forget ! 7 refl $ forget ! 9 refl $ forget ! 11 refl $ forget ! 13 refl $ forget ! 16 refl $ forget ! 18 refl $ forget ! 20 refl $ forget ! 22 refl $ forget ! 24 refl $ forget ! 26 refl $
-          move ! (26 ∷ 27 ∷ []) $ free1 ! $ move ! (24 ∷ 25 ∷ []) $ free1 ! $ move ! (22 ∷ 23 ∷ []) $ free1 ! $ move ! (20 ∷ 21 ∷ []) $ free1 ! $ move ! (18 ∷ 19 ∷ []) $ free1 ! $ move ! (16 ∷ 17 ∷ []) $ free1 ! $
-          move ! (0 ∷ 15 ∷ []) $ free1 ! $ move ! (12 ∷ 13 ∷ []) $ free1 ! $ move ! (10 ∷ 11 ∷ []) $ free1 ! $ move ! (8 ∷ 9 ∷ []) $ free1 ! $ move ! (6 ∷ 7 ∷ []) $ free1 ! $ free0 ! $
-          keep ! (0 ∷ 2 ∷ 1 ∷ []) $ by ! (exits r u (ts .1 .1 .1 .0) c l)))))))))))))))))))))
+          use2 W (later (some (λ (δ : GName). ‵ (ShrSlice (named 0) (ν ∷ []) R.the-row .own (slice-at l₇ 0 δ ys) (sliceVal (l₇, 0) (length ys) ∷ [])) ⊛ (‵ (flent (ν ∷ []) (Parts l₇)) ⊛ ‵ (flft (ν ∷ []) fullShare))))) (lends-first 𝓤 H A W (ν ∷ []) xs l₇ n e) $ await ! tt $ pick ! (λ δ. split ! $ move ! (1 ∷ []) $ split ! $ move ! (2 ∷ 0 ∷ 1 ∷ []) $
+          move ! (6 ∷ 4 ∷ []) $ join ! $ move ! (3 ∷ 4 ∷ 1 ∷ 0 ∷ []) $ join ! $
+          use3 W (raw (Called .pre (to-called l₇ ν δ))) (goes-called l₇ ν δ) $
+          calls-at ! fm Called known (to-called l₇ ν δ) (and-then ! (load ! (from ! (stop !)) (look ! 11 refl)) (and-then ! (load ! (from ! (stop !)) (look ! 22 refl)) (and-then ! (load ! (from ! (stop !)) (look ! 20 refl)) (and-then ! (load ! (from ! (stop !)) (look ! 7 refl)) (and-then ! (load ! (from ! (stop !)) (look ! 3 refl)) (no-more !)))))) (λ u.
+          use1 W (later (some (λ (r : Modelled). ((‵ (flft (ν ∷ []) fullShare) ⊛ Tokens) ⊛ ‵ (S.the-row .own r (u ∷ []))) ⊛ raw (ensured 𝓤 H A called.ended (called.clauses 𝓤 H A mem run) (ν ∷ [], (κ₀, (κ₁, tt))) (handed l₇ δ) tt r)))) (id⊢ 𝓤 _) $ await ! tt $ pick ! (λ r.
+          split ! $ move ! (1 ∷ []) $ use1 W (some (λ (ts : Unit {0} × (Unit {0} × (Unit {0} × (List ℕ × (List Float × Unit {0}))))). ‵ (lasts called.ended (ν ∷ [], (κ₀, (κ₁, tt))) (handed l₇ δ) ts) ⊛ raw (fact 𝓤 (Says r (ts .1 .1 .1 .0) (ts .1 .1 .1 .1 .0))))) (id⊢ 𝓤 _) $ pick ! (λ ts.
+          split ! $ move ! (1 ∷ []) $ heard ! (Says r (ts .1 .1 .1 .0) (ts .1 .1 .1 .1 .0)) (λ c. fsplit ! $ drop ! $ fsplit ! $ drop ! $ fsplit ! $ drop ! $ fsplit ! $ fsplit ! $ move ! (1 ∷ []) $ feqL ! (λ lk. move ! (1 ∷ []) $ fsplit ! $ fsplit ! $ move ! (1 ∷ []) $ feqL ! (λ l.
+          -- [scratch's last list; true; kept's last list; the tokens and the result; what is kept of the records; …]
+          move ! (3 ∷ []) $ split ! $ move ! (1 ∷ []) $ peeks ! S.the-row (Is S.the-row) (shows 𝓤 H A S.the-row) r (u ∷ []) (λ is.
+          land ! (from ! (stop !)) (init ! 32 refl (LL.lawful S.the-type S′.the-laws 𝓤 H A W .typed r _ is .0)) $
+          move ! (1 ∷ []) $ split ! $ lft-end ! tt $ move ! (0 ∷ 6 ∷ []) $ lent-back ! tt $ fsplit ! $ drop ! $ use1 W (‵ (froom (tyArray R′.mir 64) l₇ 0)) (row-room 𝓤 H A W R.the-row 64 l₇ xs e) $
+          returns ! (look ! 32 refl) $ forget ! 7 refl $ forget ! 9 refl $ forget ! 11 refl $ forget ! 13 refl $ forget ! 15 refl $ forget ! 17 refl $ forget ! 20 refl $ forget ! 22 refl $ forget ! 24 refl $ forget ! 26 refl $ forget ! 28 refl $ forget ! 30 refl $ forget ! 32 refl $
+          move ! (32 ∷ 33 ∷ []) $ free1 ! $ move ! (30 ∷ 31 ∷ []) $ free1 ! $ move ! (28 ∷ 29 ∷ []) $ free1 ! $ move ! (26 ∷ 27 ∷ []) $ free1 ! $ move ! (24 ∷ 25 ∷ []) $ free1 ! $ move ! (22 ∷ 23 ∷ []) $ free1 ! $ move ! (20 ∷ 21 ∷ []) $ free1 ! $
+          move ! (0 ∷ 19 ∷ []) $ free1 ! $ move ! (16 ∷ 17 ∷ []) $ free1 ! $ move ! (14 ∷ 15 ∷ []) $ free1 ! $ move ! (12 ∷ 13 ∷ []) $ free1 ! $ move ! (10 ∷ 11 ∷ []) $ free1 ! $ move ! (8 ∷ 9 ∷ []) $ free1 ! $ move ! (6 ∷ 7 ∷ []) $ free1 ! $ free0 ! $
+          keep ! (0 ∷ 4 ∷ 2 ∷ 1 ∷ []) $ by ! (exits r u (ts .1 .1 .1 .0) (ts .1 .1 .1 .1 .0) c lk l)))))))))))))))))))))))))
 
 module _ {M : Type 1} (𝓤 : URA M) (H : Heap 𝓤) (A : Atoms 𝓤) (W : Given 𝓤 H A) (mem : Memory → SProp 𝓤) (run : Routine → Fun 𝓤) where
   first-walks : (C : Calls 𝓤 H) (Λ : Loops 𝓤 H) → FmC 𝓤 H (W .laws) C → Triple 𝓤 (C #records·fit) (Record 𝓤 H A mem run) → Walks 𝓤 H A first.ended stayed (WpFn 𝓤 H C Λ code.function) (first.clauses 𝓤 H A mem run)
   first-walks C Λ fm known =
-      walked 𝓤 H A first.ended stayed (first.clauses 𝓤 H A mem run) (WpFn 𝓤 H C Λ code.function) (λ κs. (array-vals (LL.vals R.the-type R′.the-laws), (uint-vals w64, (uint-vals w64, (uint-vals w8, (slice-vals, tt))))))
-      (λ κs. (array-tells R.the-row (LL.vals R.the-type R′.the-laws) (LL.tells R.the-type R′.the-laws) 64, (uint-tells w64, (uint-tells w64, (uint-tells w8, (mut-slice-tells (named 0) (κs .0) f32, tt))))))
-      (λ κs qs bounds a g are. needs 𝓤 (a .1 .0 ≤ 64) _ (λ n≤. walk 𝓤 H A W mem run (κs .0) (qs .0) (a .0) (a .1 .0) (a .1 .1 .0) (a .1 .1 .1 .0) (a .1 .1 .1 .1 .0 .ptr .0) (a .1 .1 .1 .1 .0 .ptr .1) (a .1 .1 .1 .1 .0 .name) (a .1 .1 .1 .1 .0 .now)
-      (are .0) (are .1 .0 .1) (are .1 .1 .0 .1) (are .1 .1 .1 .0 .1) (are .1 .1 .1 .1 .0 .0 .1) n≤ C Λ fm known))
+      walked 𝓤 H A first.ended stayed (first.clauses 𝓤 H A mem run) (WpFn 𝓤 H C Λ code.function) (λ κs. (array-vals (LL.vals R.the-type R′.the-laws), (uint-vals w64, (uint-vals w64, (uint-vals w8, (slice-vals, (slice-vals, tt)))))))
+      (λ κs. (array-tells R.the-row (LL.vals R.the-type R′.the-laws) (LL.tells R.the-type R′.the-laws) 64, (uint-tells w64, (uint-tells w64, (uint-tells w8, (mut-slice-tells (named 0) (κs .0) u8, (mut-slice-tells (named 1) (κs .1 .0) f32, tt)))))))
+      (λ κs qs bounds a g are. needs 𝓤 (a .1 .0 ≤ 64) _ (λ n≤. walk 𝓤 H A W mem run (κs .0) (κs .1 .0) (qs .0) (qs .1 .0) (a .0) (a .1 .0) (a .1 .1 .0) (a .1 .1 .1 .0) (a .1 .1 .1 .1 .0 .ptr .0) (a .1 .1 .1 .1 .0 .ptr .1) (a .1 .1 .1 .1 .0 .name) (a .1 .1 .1 .1 .0 .now)
+      (a .1 .1 .1 .1 .1 .0 .ptr .0) (a .1 .1 .1 .1 .1 .0 .ptr .1) (a .1 .1 .1 .1 .1 .0 .name) (a .1 .1 .1 .1 .1 .0 .now)
+      (are .0) (are .1 .0 .1) (are .1 .1 .0 .1) (are .1 .1 .1 .0 .1) (are .1 .1 .1 .1 .0 .0 .1) (are .1 .1 .1 .1 .1 .0 .0 .1) n≤ C Λ fm known))
 
 first-meets : {M : Type 1} (𝓤 : URA M) (H : Heap 𝓤) (A : Atoms 𝓤) (W : Given 𝓤 H A) (mem : Memory → SProp 𝓤) (run : Routine → Fun 𝓤) (𝓣 : Tables 𝓤 H) → Triple 𝓤 (𝓣 .C #records·fit) (Record 𝓤 H A mem run)
     → Meets 𝓤 H A first.signature (WpFn 𝓤 H (𝓣 .C) (𝓣 .Λ) code.function) (first.spec 𝓤 H A mem run)
 first-meets 𝓤 H A W mem run 𝓣 known =
-    walk-meets 𝓤 H A first.ended stayed W (goes-none 𝓤 H A W 1 (λ _. All) yes (λ κs x f. refl), (goes-none 𝓤 H A W 1 (λ _. usize) yes (λ κs x f. refl), (goes-none 𝓤 H A W 1 (λ _. usize) yes (λ κs x f. refl), (goes-none 𝓤 H A W 1 (λ _. u8) yes (λ κs x f. refl), (goes-gave-slice 𝓤 H A W 1 0 tt (plain (λ _. f32)), tt))))) (first.clauses 𝓤 H A mem run)
+    walk-meets 𝓤 H A first.ended stayed W (goes-none 𝓤 H A W 2 (λ _. All) yes (λ κs x f. refl), (goes-none 𝓤 H A W 2 (λ _. usize) yes (λ κs x f. refl), (goes-none 𝓤 H A W 2 (λ _. usize) yes (λ κs x f. refl), (goes-none 𝓤 H A W 2 (λ _. u8) yes (λ κs x f. refl), (goes-gave-slice 𝓤 H A W 2 0 tt (plain (λ _. u8)), (goes-gave-slice 𝓤 H A W 2 1 tt (plain (λ _. f32)), tt)))))) (first.clauses 𝓤 H A mem run)
     (WpFn 𝓤 H (𝓣 .C) (𝓣 .Λ) code.function) (WpFn-mono 𝓤 H (W .laws) 𝓣 code.function) (first-walks 𝓤 H A W mem run (𝓣 .C) (𝓣 .Λ) (fmOf 𝓤 H (W .laws) 𝓣) known)
 
 pub fit-first-spec : {M : Type 1} → stated.statement M
