@@ -108,6 +108,7 @@ pub struct SolveAnswer {
 pub struct LinearAnswer {
     pub number: u32,
     pub colour: Linear,
+    pub held: [bool; 3],
 }
 
 #[repr(C)]
@@ -137,6 +138,21 @@ pub struct RatioAnswer {
     pub number: u32,
     pub numerator: u64,
     pub denominator: u64,
+}
+
+#[repr(C)]
+#[derive(Clone, Copy, Debug)]
+pub struct MeasureAnswer {
+    pub number: u32,
+    pub noise: Stats,
+    pub held: usize,
+}
+
+#[repr(C)]
+#[derive(Clone, Copy, Debug)]
+pub struct ScoreAnswer {
+    pub number: u32,
+    pub held: [usize; 2],
 }
 
 #[repr(C)]
@@ -254,7 +270,7 @@ unsafe extern "C" {
         hues: usize,
         scratch: *mut f32,
         scratch_len: usize,
-    ) -> NoiseAnswer;
+    ) -> MeasureAnswer;
     pub fn purdolve_measure_flat(
         flat: *const f32,
         flat_len: usize,
@@ -265,7 +281,7 @@ unsafe extern "C" {
         hues: usize,
         scratch: *mut f32,
         scratch_len: usize,
-    ) -> NoiseAnswer;
+    ) -> MeasureAnswer;
     pub fn purdolve_score(
         side: usize,
         hues: usize,
@@ -293,7 +309,7 @@ unsafe extern "C" {
         colours_len: usize,
         chroma: *mut f32,
         chroma_len: usize,
-    ) -> u32;
+    ) -> ScoreAnswer;
     pub fn purdolve_read_bits(
         side: usize,
         hues: usize,
@@ -328,7 +344,7 @@ unsafe extern "C" {
         bits_len: usize,
         symbols: *mut u8,
         symbols_len: usize,
-    ) -> u32;
+    ) -> ScoreAnswer;
     pub fn purdolve_add_local_luma(
         luma: *mut f32,
         luma_len: usize,
@@ -443,6 +459,7 @@ unsafe extern "C" {
         terms: usize,
         kept: u32,
         rejected: u32,
+        held: usize,
         xs: *const i32,
         xs_len: usize,
         ys: *const i32,

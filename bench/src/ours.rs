@@ -88,7 +88,7 @@ mod linked {
 
         fn score(&mut self, model: Model, noise: Stats) {
             let (raw, p) = (&self.card.raw, &self.card.flat_palette);
-            let number = unsafe {
+            let r = unsafe {
                 purdolve_score(
                     self.card.side,
                     self.card.k,
@@ -118,7 +118,7 @@ mod linked {
                     self.chroma.len(),
                 )
             };
-            assert_eq!(number, 0);
+            assert_eq!(r.number, 0);
         }
 
         /// Refines the scores by these colours, or by those that scoring left.

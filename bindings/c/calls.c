@@ -126,8 +126,11 @@ static void rotations(void) {
             for (uint16_t c = 0; c < 1024; c += 93) {
                 size_t drawn = purdolve_chroma_mask_apply(h, c, 5, hues).value;
                 CHECK(purdolve_chroma_mask_remove(drawn, c, 5, hues).value == h);
-                CHECK(purdolve_chroma_mask_apply(purdolve_chroma_mask_remove(h, c, 5, hues).value, c, 5, hues).value == h);
-                CHECK(purdolve_chroma_mask_apply(drawn, 0, 7, hues).value == purdolve_chroma_mask_apply(h, c, 12, hues).value);
+                CHECK(purdolve_chroma_mask_apply(purdolve_chroma_mask_remove(h, c, 5, hues).value,
+                                                 c, 5, hues)
+                          .value == h);
+                CHECK(purdolve_chroma_mask_apply(drawn, 0, 7, hues).value ==
+                      purdolve_chroma_mask_apply(h, c, 12, hues).value);
             }
 }
 
@@ -162,7 +165,8 @@ static void symbols(void) {
     CHECK(purdolve_ring_hue(3, 4).value == 2);
     CHECK(purdolve_grid_level(1, 0, 0, 0) == 0 && purdolve_grid_level(1, 0, 1, 0) == 1);
     CHECK(purdolve_ring_level(7) == 1 && purdolve_ring_level(0) == 0);
-    CHECK(purdolve_read(-1) == 1 && purdolve_read(1) == 0 && purdolve_read(NAN) == 2 && purdolve_read(-0.0f) == 2);
+    CHECK(purdolve_read(-1) == 1 && purdolve_read(1) == 0 && purdolve_read(NAN) == 2 &&
+          purdolve_read(-0.0f) == 2);
 }
 
 /* Document 01's case: side 21, one hue, a black and a white module, mask 0. */
@@ -239,12 +243,14 @@ static void models(void) {
     purdolve_linear_answer corrected = purdolve_correct(&m.model, 3.5f, 4.5f, c);
     CHECK(corrected.number == 0 && corrected.colour.r == 0.5f && corrected.colour.g == 0.25f);
     CHECK(corrected.colour.b == 0.125f);
+    CHECK(!corrected.held_r && !corrected.held_g && !corrected.held_b);
     c.g = 2e6f;
     CHECK(purdolve_correct(&m.model, 3.5f, 4.5f, c).number == PURDOLVE_REFUSED_NUMBER);
     c.g = 0;
     m.model.terms = 5;
     corrected = purdolve_correct(&m.model, 3.5f, 4.5f, c);
     CHECK(corrected.number == PURDOLVE_REFUSED_MODEL && corrected.colour.r == 0);
+    CHECK(!corrected.held_r && !corrected.held_g && !corrected.held_b);
 
     float flat[8] = {0}, scratch[5] = {9, 9, 9, 9, 9};
     uint8_t kept[2] = {7, 7};
@@ -263,11 +269,34 @@ static void models(void) {
     CHECK(purdolve_fit_flat(flat, 8, 21, 1, kept, 2, scratch, 4).number == PURDOLVE_REFUSED_NUMBER);
     CHECK(kept[0] == 7);
 
-    purdolve_noise_answer n =
+    purdolve_measure_answer n =
         purdolve_measure_flat(flat, 0, 21, m.model, PALETTE, 10, 1, scratch, 4);
     CHECK(n.number == 0 && n.noise.l1 == 100 && n.noise.sigma_ab == 6 && n.noise.samples == 0);
+    CHECK(n.held == 0);
     CHECK(purdolve_measure_flat(flat, 8, 21, m.model, PALETTE, 10, 1, scratch, 4).number ==
           PURDOLVE_REFUSED_NUMBER);
+}
+
+/* The worked values: white at the first module's corner, by a gain of red. */
+static void marks(void) {
+    const double gains[] = {0, -0.0, 0x1.9999999999999p-5, 0.05, -0x1.9999999999999p-5, -0.05, 1};
+    const uint32_t reds[] = {0x41A00000, 0x41A00000, 0x41A00000, 0x41A00000,
+                             0xC1A00000, 0xC1A00000, 0x3F800000};
+    const bool held[] = {true, true, true, false, true, false, false};
+    purdolve_linear white = {1, 1, 1};
+    for (int i = 0; i < 7; i++) {
+        purdolve_illumination_model model = purdolve_identity(21).model;
+        model.gain_r[0] = gains[i];
+        purdolve_linear_answer a = purdolve_correct(&model, 0, 0, white);
+        CHECK(a.number == 0 && bits_of(a.colour.r) == reds[i] && a.held_r == held[i]);
+        CHECK(a.colour.g == 1 && a.colour.b == 1 && !a.held_g && !a.held_b);
+    }
+    purdolve_illumination_model dark = purdolve_identity(21).model;
+    dark.gain_r[0] = dark.gain_g[0] = dark.gain_b[0] = 0.01;
+    purdolve_linear_answer a = purdolve_correct(&dark, NAN, 0, white);
+    CHECK(a.number == 0 && isnan(a.colour.r) && !a.held_r && !a.held_g && !a.held_b);
+    a = purdolve_correct(&dark, 1e38f, 0, white);
+    CHECK(bits_of(a.colour.r) == 0x41A00000 && a.held_r && a.held_g && a.held_b);
 }
 
 /* Eight references whose nominal colours are too far off for a finite residual. */
@@ -372,10 +401,23 @@ static void records(void) {
     purdolve_modelled f = purdolve_fit_flat(flat, 96, 21, 1, marks, 13, scratch, 49);
     CHECK(memcmp(&m.model, &f.model, sizeof m.model) == 0);
     CHECK(memcmp(kept, marks, sizeof kept) == 0);
-    purdolve_noise_answer r = purdolve_measure(refs, 12, 21, m.model, PALETTE, 10, 1, scratch, 49);
-    purdolve_noise_answer n =
+    purdolve_measure_answer r =
+        purdolve_measure(refs, 12, 21, m.model, PALETTE, 10, 1, scratch, 49);
+    purdolve_measure_answer n =
         purdolve_measure_flat(flat, 96, 21, m.model, PALETTE, 10, 1, scratch, 49);
     CHECK(r.number == 0 && n.number == 0 && memcmp(&r.noise, &n.noise, sizeof r.noise) == 0);
+    CHECK(r.held == 0 && n.held == 0);
+    m.model.gain_g[0] = m.model.gain_b[0] = 0.01; /* a gradient is left: some are held, not all */
+    r = purdolve_measure(refs, 12, 21, m.model, PALETTE, 10, 1, scratch, 49);
+    n = purdolve_measure_flat(flat, 96, 21, m.model, PALETTE, 10, 1, scratch, 49);
+    size_t held = 0;
+    for (int i = 0; i < 12; i++) {
+        purdolve_linear_answer a =
+            purdolve_correct(&m.model, refs[i].x, refs[i].y, refs[i].observed);
+        held += a.held_r || a.held_g || a.held_b;
+    }
+    CHECK(r.number == 0 && r.held == held && n.held == held);
+    CHECK(purdolve_measure(refs, 7, 21, m.model, PALETTE, 10, 1, scratch, 49).held == 0);
     refs[11].observed.b = NAN;
     CHECK(purdolve_fit(refs, 12, 21, 1, kept, 13, scratch, 49).number == PURDOLVE_REFUSED_NUMBER);
 }
@@ -427,21 +469,25 @@ typedef struct {
     float luma[3], colours[7], chroma[1];
 } outputs;
 
+static purdolve_score_answer report;
+
 static uint32_t score(size_t side, size_t hues, size_t size, size_t grid, const float *raw,
                       size_t raw_len, purdolve_illumination_model model,
                       purdolve_channel_stats noise, outputs *out) {
-    return purdolve_score(side, hues, size, XS, 2, YS, 2, grid, raw, raw_len, CELL, 0, CELL, 0, RAW,
-                          0, PALETTE, 10, model, noise, out->luma, 3, out->colours, 7, out->chroma,
-                          1);
+    report =
+        purdolve_score(side, hues, size, XS, 2, YS, 2, grid, raw, raw_len, CELL, 0, CELL, 0, RAW, 0,
+                       PALETTE, 10, model, noise, out->luma, 3, out->colours, 7, out->chroma, 1);
+    return report.number;
 }
 
 /* The two modules in one call, by mask 0, with room for bits_len bits. */
 static uint32_t read_bits(size_t side, size_t bits_len, purdolve_illumination_model model,
                           purdolve_channel_stats noise, outputs *out, float *window,
                           size_t window_len, uint8_t *bits) {
-    return purdolve_read_bits(side, 1, 1, XS, 2, YS, 2, 2, RAW, 6, CELL, 0, CELL, 0, RAW, 0,
-                              PALETTE, 10, 0, model, noise, out->luma, 2, out->colours, 7,
-                              out->chroma, 0, window, window_len, bits, bits_len, bits + 2, 0);
+    report = purdolve_read_bits(side, 1, 1, XS, 2, YS, 2, 2, RAW, 6, CELL, 0, CELL, 0, RAW, 0,
+                                PALETTE, 10, 0, model, noise, out->luma, 2, out->colours, 7,
+                                out->chroma, 0, window, window_len, bits, bits_len, bits + 2, 0);
+    return report.number;
 }
 
 static void stage(void) {
@@ -468,9 +514,14 @@ static void stage(void) {
     bad = model;
     bad.affine_g[1] = 1e7;
     CHECK(score(21, 1, 1, 2, RAW, 6, bad, noise, &out) == PURDOLVE_REFUSED_CORRECTED);
-    CHECK(memcmp(&out, &before, sizeof out) == 0);
+    CHECK(memcmp(&out, &before, sizeof out) == 0 && report.held_modules == 0);
 
-    CHECK(score(21, 1, 1, 2, RAW, 6, model, noise, &out) == 0);
+    bad = model;
+    bad.gain_r[0] = 0.5; /* the gain is 0.024 at the first module and 0.071 at the second */
+    bad.gain_r[1] = 0.5;
+    CHECK(score(21, 1, 1, 2, RAW, 6, bad, noise, &out) == 0);
+    CHECK(report.held_modules == 1 && report.held_cells == 0);
+    CHECK(score(21, 1, 1, 2, RAW, 6, model, noise, &out) == 0 && report.held_modules == 0);
     CHECK(bits_of(out.luma[0]) == 0x41A00000 && bits_of(out.luma[1]) == 0xC1A00000);
     CHECK(out.luma[2] == before.luma[2] && out.colours[6] == before.colours[6]);
     CHECK(out.colours[0] == 0 && out.colours[3] == 1 && out.chroma[0] == before.chroma[0]);
@@ -505,6 +556,7 @@ static void stage(void) {
     CHECK(out.luma[0] == -20 && out.luma[1] == -20 && bits[0] == 7);
     CHECK(read_bits(21, 2, model, noise, &out, window, 33 * 33, bits) == 0);
     CHECK(bits[0] == 1 && bits[1] == 1 && bits[2] == 7 && window[0] == 0);
+    CHECK(report.held_modules == 0 && report.held_cells == 0);
     CHECK(out.luma[0] == -20 && out.luma[2] == before.luma[2] && out.colours[3] == 1);
 
     uint8_t levels[3] = {7, 7, 7};
@@ -517,44 +569,46 @@ static void stage(void) {
     CHECK(levels[0] == 0 && levels[1] == 1 && levels[2] == 7 && drawn[0] == 7);
 }
 
-static uint32_t page(size_t side, size_t terms, uint32_t kept, uint32_t rejected, size_t grid,
-                     const float *luma, uint8_t *out, size_t out_len) {
+static uint32_t page(size_t side, size_t terms, uint32_t kept, uint32_t rejected, size_t held,
+                     size_t grid, const float *luma, uint8_t *out, size_t out_len) {
     static const int32_t xs[] = {0, 1, 2, -6, 9, 1}, ys[] = {0, 2, 1, 0, 9, 2};
-    return purdolve_page(side, terms, kept, rejected, xs, 6, ys, 6, grid, luma, 6, out, out_len);
+    return purdolve_page(side, terms, kept, rejected, held, xs, 6, ys, 6, grid, luma, 6, out,
+                         out_len);
 }
 
 static void door(void) {
-#define BLANK "            "
-    static const char wanted[] = "         4         9     16384        12\n"
-                                 "1..." BLANK BLANK BLANK "\n"
-                                 "..0." BLANK BLANK BLANK "\n"
-                                 ".2.." BLANK BLANK BLANK "\n"
-                                 "...." BLANK BLANK BLANK "\n";
+#define BLANK "                       "
+    static const char wanted[] = "         4         9     16384        12   1048576\n"
+                                 "1..." BLANK BLANK "\n"
+                                 "..0." BLANK BLANK "\n"
+                                 ".2.." BLANK BLANK "\n"
+                                 "...." BLANK BLANK "\n";
     const float luma[6] = {-20, 20, 20, 1, 1, NAN};
     static uint8_t out[PURDOLVE_PAGE_LENGTH(1024)];
     memset(out, 7, sizeof out);
     CHECK(PURDOLVE_PAGE_LENGTH(4) == sizeof wanted - 1);
     CHECK(PURDOLVE_PAGE_LENGTH(40) == PURDOLVE_PAGE_ROOM);
-    CHECK(page(0, 9, 0, 0, 1, luma, out, 300) == PURDOLVE_REFUSED_SIDE);
-    CHECK(page(4, 9, 0, 0, 1, luma, out, 204) == PURDOLVE_REFUSED_LENGTH);
-    CHECK(page(4, 9, 0, 0, 7, luma, out, 300) == PURDOLVE_REFUSED_COUNT);
-    CHECK(page(4, 9, 16385, 0, 1, luma, out, 300) == PURDOLVE_REFUSED_COUNT);
-    CHECK(page(4, 9, 0, 16385, 6, luma, out, 300) == PURDOLVE_REFUSED_COUNT);
-    CHECK(page(4, 5, 0, 0, 4, luma, out, 300) == PURDOLVE_REFUSED_PLACE);
-    CHECK(page(41, 5, 0, 0, 1, luma, out, 1722) == PURDOLVE_REFUSED_MODEL);
-    CHECK(page(41, 9, 0, 0, 1, luma, out, 1721) == PURDOLVE_REFUSED_LENGTH);
-    CHECK(page(41, 9, 0, 0, 1, luma, out, 1722) == PURDOLVE_REFUSED_PAGE);
-    CHECK(page(1024, 9, 0, 0, 1, luma, out, sizeof out) == PURDOLVE_REFUSED_PAGE);
+    CHECK(page(0, 9, 0, 0, 0, 1, luma, out, 300) == PURDOLVE_REFUSED_SIDE);
+    CHECK(page(4, 9, 0, 0, 0, 1, luma, out, 254) == PURDOLVE_REFUSED_LENGTH);
+    CHECK(page(4, 9, 0, 0, 0, 7, luma, out, 300) == PURDOLVE_REFUSED_COUNT);
+    CHECK(page(4, 9, 16385, 0, 0, 1, luma, out, 300) == PURDOLVE_REFUSED_COUNT);
+    CHECK(page(4, 9, 0, 16385, 0, 6, luma, out, 300) == PURDOLVE_REFUSED_COUNT);
+    CHECK(page(4, 9, 0, 0, 1048577, 6, luma, out, 300) == PURDOLVE_REFUSED_COUNT);
+    CHECK(page(4, 5, 0, 0, 0, 4, luma, out, 300) == PURDOLVE_REFUSED_PLACE);
+    CHECK(page(41, 5, 0, 0, 0, 1, luma, out, 2142) == PURDOLVE_REFUSED_MODEL);
+    CHECK(page(41, 9, 0, 0, 0, 1, luma, out, 2141) == PURDOLVE_REFUSED_LENGTH);
+    CHECK(page(41, 9, 0, 0, 0, 1, luma, out, 2142) == PURDOLVE_REFUSED_PAGE);
+    CHECK(page(1024, 9, 0, 0, 0, 1, luma, out, sizeof out) == PURDOLVE_REFUSED_PAGE);
     size_t untouched = 0;
     while (untouched < sizeof out && out[untouched] == 7) {
         untouched++;
     }
     CHECK(untouched == sizeof out);
-    CHECK(page(4, 9, 16384, 12, 1, luma, out, 300) == 0);
+    CHECK(page(4, 9, 16384, 12, 1048576, 1, luma, out, 300) == 0);
     CHECK(memcmp(out, wanted, sizeof wanted - 1) == 0);
     CHECK(out[sizeof wanted - 1] == 7 && out[299] == 7);
-    CHECK(page(40, 4, 0, 0, 1, luma, out, PURDOLVE_PAGE_ROOM) == 0 && out[1680] == '\n');
-    CHECK(out[1681] == 7);
+    CHECK(page(40, 4, 0, 0, 0, 1, luma, out, PURDOLVE_PAGE_ROOM) == 0 && out[2090] == '\n');
+    CHECK(out[2091] == 7);
 }
 
 static bool same_totals(purdolve_totals t, uint64_t cards, uint64_t modules, uint64_t undecided,
@@ -608,6 +662,7 @@ int main(void) {
     figures();
     counts();
     models();
+    marks();
     no_finite_fit();
     near_module();
     near_many();

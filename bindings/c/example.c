@@ -120,7 +120,7 @@ static purdolve_illumination_model fit(void) {
 }
 
 static purdolve_channel_stats measure(purdolve_illumination_model model) {
-    purdolve_noise_answer measured = purdolve_measure_flat(
+    purdolve_measure_answer measured = purdolve_measure_flat(
         flat, 8 * REFERENCES, SIDE, model, palette, PALETTE, HUES, fit_scratch, 4 * REFERENCES);
     accept("measure", measured.number);
     purdolve_flag_answer margin = purdolve_margin(measured.noise, palette, PALETTE, HUES);
@@ -131,19 +131,21 @@ static purdolve_channel_stats measure(purdolve_illumination_model model) {
 
 /* Reads the card in one call. */
 static void read_card(purdolve_illumination_model model, purdolve_channel_stats noise) {
-    accept("read",
-           purdolve_read_bits(SIDE, HUES, SIZE, xs, MODULES, ys, MODULES, GRID, raw, 3 * MODULES,
-                              cxs, CELLS, cys, CELLS, craw, 3 * CELLS, palette, PALETTE, MASK,
-                              model, noise, luma, MODULES, colours, 3 * MODULES, chroma, SCORES,
-                              window, WINDOW, luma_bits, MODULES, chroma_bits, SCORES));
+    purdolve_score_answer answer = purdolve_read_bits(
+        SIDE, HUES, SIZE, xs, MODULES, ys, MODULES, GRID, raw, 3 * MODULES, cxs, CELLS, cys, CELLS,
+        craw, 3 * CELLS, palette, PALETTE, MASK, model, noise, luma, MODULES, colours, 3 * MODULES,
+        chroma, SCORES, window, WINDOW, luma_bits, MODULES, chroma_bits, SCORES);
+    accept("read", answer.number);
+    printf("too dark to correct: %zu modules, %zu cells\n", answer.held_modules, answer.held_cells);
 }
 
 /* The same call by call, as a reader that hands the scores to an error corrector makes them. */
 static void score_card(purdolve_illumination_model model, purdolve_channel_stats noise) {
-    accept("score",
-           purdolve_score(SIDE, HUES, SIZE, xs, MODULES, ys, MODULES, GRID, raw, 3 * MODULES, cxs,
-                          CELLS, cys, CELLS, craw, 3 * CELLS, palette, PALETTE, model, noise, luma,
-                          MODULES, colours, 3 * MODULES, chroma, SCORES));
+    accept("score", purdolve_score(SIDE, HUES, SIZE, xs, MODULES, ys, MODULES, GRID, raw,
+                                   3 * MODULES, cxs, CELLS, cys, CELLS, craw, 3 * CELLS, palette,
+                                   PALETTE, model, noise, luma, MODULES, colours, 3 * MODULES,
+                                   chroma, SCORES)
+                        .number);
     accept("refine",
            purdolve_add_local_luma(luma, MODULES, SIDE, HUES, xs, MODULES, ys, MODULES, GRID,
                                    colours, 3 * MODULES, palette, PALETTE, noise, window, WINDOW));

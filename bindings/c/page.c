@@ -1,54 +1,105 @@
 /*
  * Prints the page of a card file for the panel door:
  *     page < CARD
- * The listing has each module's position and the bit read from it after unmasking; a score of that
- * reading is what the page takes. Exits with 1 where the card or its page is refused.
+ * purdolve_read_card says whether the card can be read, but its listing does not say how many
+ * modules were too dark to correct. So the calls are made here too, on what the file holds: the fit,
+ * the measurement, and the reading, which counts those modules and leaves the unmasked scores. Exits
+ * with 1 where the card or its page is refused.
  */
 #include "purdolve.h"
 
 #include <stdio.h>
 #include <string.h>
 
-enum { FILE_ROOM = 16385, MODULES = 1020 /* as many as a card file has room for */ };
+enum {
+    FILE_ROOM = 16385,
+    REFERENCES = FILE_ROOM / 32,
+    ENTRIES = FILE_ROOM / 16, /* modules and cells together */
+    SCORES = 4 * ENTRIES,
+    SCRATCH = (64 + 12) * (64 + 12)
+};
 
-static uint8_t file[FILE_ROOM];
-static char listing[PURDOLVE_LISTING_ROOM + 1];
-static uint8_t page[PURDOLVE_PAGE_ROOM];
-static int32_t xs[MODULES], ys[MODULES];
-static float luma[MODULES];
+static uint8_t file[FILE_ROOM], listing[PURDOLVE_LISTING_ROOM], page[PURDOLVE_PAGE_ROOM];
+static float palette[FILE_ROOM / 4], flat[8 * REFERENCES], raw[3 * ENTRIES], craw[3 * ENTRIES];
+static int32_t xs[ENTRIES], ys[ENTRIES];
+static uint16_t cxs[ENTRIES], cys[ENTRIES];
+static float luma[ENTRIES], colours[3 * ENTRIES], chroma[SCORES], scratch[SCRATCH];
+static uint8_t kept[REFERENCES], bits[ENTRIES], symbols[SCORES];
 
-/* The little-endian u16 of the card file's settings at this place. */
-static size_t setting(size_t at) {
-    return file[40 + at] + 256u * file[41 + at];
+/* Little-endian numbers of the file. */
+static uint16_t half(size_t at) {
+    return (uint16_t)(file[at] + 256 * file[at + 1]);
 }
 
-/* The modules of the listing, and a score for each: above zero for 0, below it for 1, zero for 2. */
-static size_t modules(const char *line) {
-    size_t count = 0;
-    int x, y, bit;
-    while (count < MODULES && sscanf(line, "L %d %d %*8s %d\n", &x, &y, &bit) == 3) {
-        xs[count] = x;
-        ys[count] = y;
-        luma[count] = bit == 0 ? 1.0f : bit == 1 ? -1.0f : 0.0f;
-        count++;
-        line = strchr(line, '\n') + 1;
+static uint32_t word(size_t at) {
+    return half(at) + 65536 * (uint32_t)half(at + 2);
+}
+
+/* n f32 numbers, from a place of the file on. */
+static void numbers(size_t at, size_t n, float *out) {
+    for (size_t i = 0; i < n; i++) {
+        uint32_t pattern = word(at + 4 * i);
+        memcpy(out + i, &pattern, sizeof pattern);
     }
-    return count;
+}
+
+/* Where section k begins, and its length: settings, palette, references, modules, cells. */
+static size_t section(size_t k, size_t *length) {
+    *length = word(8 * k + 4);
+    return word(8 * k);
+}
+
+static size_t modules(void) {
+    size_t length, at = section(3, &length);
+    for (size_t i = 0; i < length / 16; i++, at += 16) {
+        xs[i] = (int16_t)half(at);
+        ys[i] = (int16_t)half(at + 2);
+        numbers(at + 4, 3, raw + 3 * i);
+    }
+    return length / 16;
+}
+
+static size_t cells(void) {
+    size_t length, at = section(4, &length);
+    for (size_t i = 0; i < length / 16; i++, at += 16) {
+        cxs[i] = half(at);
+        cys[i] = half(at + 2);
+        numbers(at + 4, 3, craw + 3 * i);
+    }
+    return length / 16;
+}
+
+/* Lays the page out. The card was read, so none of the calls before it is refused. */
+static uint32_t lay_out(size_t *side) {
+    size_t length, at = section(0, &length), inks, floats;
+    size_t hues = file[at + 3], size = file[at + 4], grid = half(at + 6);
+    uint8_t version = file[at + 2], mask = file[at + 5];
+    *side = half(at);
+    size_t inks_at = section(1, &inks), floats_at = section(2, &floats);
+    numbers(inks_at, inks /= 4, palette);
+    numbers(floats_at, floats /= 4, flat);
+    size_t m = modules(), c = cells();
+    purdolve_illumination_model model =
+        purdolve_fit_flat(flat, floats, *side, version, kept, floats / 8, scratch, SCRATCH).model;
+    purdolve_channel_stats noise =
+        purdolve_measure_flat(flat, floats, *side, model, palette, inks, hues, scratch, SCRATCH)
+            .noise;
+    purdolve_score_answer read =
+        purdolve_read_bits(*side, hues, size, xs, m, ys, m, grid, raw, 3 * m, cxs, c, cys, c, craw,
+                           3 * c, palette, inks, mask, model, noise, luma, m, colours, 3 * m,
+                           chroma, SCORES, scratch, SCRATCH, bits, m, symbols, SCORES);
+    return purdolve_page(*side, model.terms, model.kept, model.rejected, read.held_modules, xs, m,
+                         ys, m, grid, luma, m, page, PURDOLVE_PAGE_ROOM);
 }
 
 int main(void) {
-    size_t file_len = fread(file, 1, FILE_ROOM, stdin);
-    size_t text = purdolve_read_card(file, file_len, (uint8_t *)listing, PURDOLVE_LISTING_ROOM);
-    unsigned terms, kept, rejected;
-    listing[text] = 0;
-    if (sscanf(listing, "fit %u %u %u", &terms, &kept, &rejected) != 3) {
-        fputs(listing, stderr);
+    size_t file_len = fread(file, 1, FILE_ROOM, stdin), side;
+    size_t text = purdolve_read_card(file, file_len, listing, PURDOLVE_LISTING_ROOM);
+    if (memcmp(listing, "refused", 7) == 0) {
+        fwrite(listing, 1, text, stderr);
         return 1;
     }
-    size_t count = modules(strchr(listing, '\n') + 1);
-    size_t side = setting(0), grid = setting(6);
-    uint32_t number = purdolve_page(side, terms, kept, rejected, xs, count, ys, count, grid, luma,
-                                    count, page, PURDOLVE_PAGE_ROOM);
+    uint32_t number = lay_out(&side);
     if (number != PURDOLVE_ACCEPTED) {
         fprintf(stderr, "refused %u\n", (unsigned)number);
         return 1;

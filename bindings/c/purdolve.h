@@ -158,9 +158,14 @@ typedef struct {
     float value;
 } purdolve_float_answer;
 
+/*
+ * A corrected colour, and a mark a channel: whether the gain of the model at the position was under
+ * 0.05 in magnitude, and so was held at 0.05.
+ */
 typedef struct {
     uint32_t number;
     purdolve_linear colour;
+    bool held_r, held_g, held_b;
 } purdolve_linear_answer;
 
 typedef struct {
@@ -172,6 +177,19 @@ typedef struct {
     uint32_t number;
     purdolve_channel_stats noise;
 } purdolve_noise_answer;
+
+typedef struct {
+    uint32_t number;
+    purdolve_channel_stats noise;
+    size_t held; /* references that have a mark; 0 under 8 references, of which none is corrected */
+} purdolve_measure_answer;
+
+/* A module or a cell with two or three marks counts one. */
+typedef struct {
+    uint32_t number;
+    size_t held_modules; /* modules that have a mark, ring modules among them */
+    size_t held_cells;   /* cells that have one; 0 with chroma off, where none is corrected */
+} purdolve_score_answer;
 
 /* What a batch of cards adds up to. */
 typedef struct {
@@ -212,10 +230,15 @@ PURDOLVE_ASSERT(sizeof(purdolve_solve_answer) == 8);
 PURDOLVE_ASSERT(sizeof(purdolve_number_answer) == 16);
 PURDOLVE_ASSERT(sizeof(purdolve_flag_answer) == 8);
 PURDOLVE_ASSERT(sizeof(purdolve_float_answer) == 8);
-PURDOLVE_ASSERT(sizeof(purdolve_linear_answer) == 16);
+PURDOLVE_ASSERT(sizeof(purdolve_linear_answer) == 20);
+PURDOLVE_ASSERT(offsetof(purdolve_linear_answer, held_r) == 16);
 PURDOLVE_ASSERT(sizeof(purdolve_modelled) == 560);
 PURDOLVE_ASSERT(offsetof(purdolve_modelled, model) == 8);
 PURDOLVE_ASSERT(sizeof(purdolve_noise_answer) == 32);
+PURDOLVE_ASSERT(sizeof(purdolve_measure_answer) == 40);
+PURDOLVE_ASSERT(offsetof(purdolve_measure_answer, held) == 32);
+PURDOLVE_ASSERT(sizeof(purdolve_score_answer) == 24);
+PURDOLVE_ASSERT(offsetof(purdolve_score_answer, held_modules) == 8);
 PURDOLVE_ASSERT(sizeof(purdolve_totals) == 40);
 PURDOLVE_ASSERT(sizeof(purdolve_ratio) == 16);
 PURDOLVE_ASSERT(sizeof(purdolve_totals_answer) == 48);
@@ -276,9 +299,10 @@ purdolve_number_answer purdolve_cut_off(const float *xy, size_t xy_len, const ui
 purdolve_modelled purdolve_identity(size_t side);
 
 /*
- * A colour observed at (x, y), as it would be under even light. The position is any float, and the
- * answer may be any colour. The model is lent part by part, so that none of it is copied: each row
- * of the affine part points to 4 doubles, each gain and each flare to 9.
+ * A colour observed at (x, y), as it would be under even light, with the channels' marks. The
+ * position is any float, and the answer may be any colour; the marks do not depend on the colour.
+ * The model is lent part by part, so that none of it is copied: each row of the affine part points
+ * to 4 doubles, each gain and each flare to 9.
  * refused: 8, 10
  */
 purdolve_linear_answer purdolve_correct_lent(size_t terms, float side, float residual_rms,
@@ -299,15 +323,15 @@ static inline purdolve_linear_answer purdolve_correct(const purdolve_illuminatio
 }
 
 /*
- * Measures the noise record from references that the model corrects. With fewer than 8, or fewer
- * than 3 of a level, it is purdolve_nominal's.
+ * Measures the noise record from references that the model corrects, and counts those that have a
+ * mark. With fewer than 8, or fewer than 3 of a level, the record is purdolve_nominal's.
  * scratch needs 4 * references and is zero to that length afterwards.
  * refused: 2, 3, 5, 6, 7, 8, 10, 12
  */
-purdolve_noise_answer purdolve_measure_flat(const float *flat, size_t flat_len, size_t side,
-                                            purdolve_illumination_model model, const float *palette,
-                                            size_t palette_len, size_t hues, float *scratch,
-                                            size_t scratch_len);
+purdolve_measure_answer purdolve_measure_flat(const float *flat, size_t flat_len, size_t side,
+                                              purdolve_illumination_model model,
+                                              const float *palette, size_t palette_len,
+                                              size_t hues, float *scratch, size_t scratch_len);
 
 /* The record to fall back on: the palette's levels, sigmas 6, samples 0. refused: 3, 5, 8 */
 purdolve_noise_answer purdolve_nominal(const float *palette, size_t palette_len, size_t hues);
@@ -344,15 +368,17 @@ uint32_t purdolve_colour_counts(purdolve_channel_stats noise, const float *palet
  * for each module (needs modules; positive for dark, from -20 to 20), to colours the corrected
  * colour of each (needs 3 * modules), and to chroma log2(hues) scores for each symbol (needs the
  * number of chroma scores). With chroma off chroma is not written, and cells are not corrected.
+ * Answers how many modules and how many cells have a mark.
  * refused: 2, 3, 4, 5, 6, 7, 8, 9, 10, 12
  */
-uint32_t purdolve_score(size_t side, size_t hues, size_t size, const int32_t *xs, size_t xs_len,
-                        const int32_t *ys, size_t ys_len, size_t grid, const float *raw,
-                        size_t raw_len, const uint16_t *cxs, size_t cxs_len, const uint16_t *cys,
-                        size_t cys_len, const float *craw, size_t craw_len, const float *palette,
-                        size_t palette_len, purdolve_illumination_model model,
-                        purdolve_channel_stats noise, float *luma, size_t luma_len, float *colours,
-                        size_t colours_len, float *chroma, size_t chroma_len);
+purdolve_score_answer
+purdolve_score(size_t side, size_t hues, size_t size, const int32_t *xs, size_t xs_len,
+               const int32_t *ys, size_t ys_len, size_t grid, const float *raw, size_t raw_len,
+               const uint16_t *cxs, size_t cxs_len, const uint16_t *cys, size_t cys_len,
+               const float *craw, size_t craw_len, const float *palette, size_t palette_len,
+               purdolve_illumination_model model, purdolve_channel_stats noise, float *luma,
+               size_t luma_len, float *colours, size_t colours_len, float *chroma,
+               size_t chroma_len);
 
 /*
  * Refines luma scores (needs modules) by what the corrected colours around each module show;
@@ -386,18 +412,19 @@ uint32_t purdolve_read_list(const float *scores, size_t scores_len, uint8_t *bit
 
 /*
  * Lays a read card out as a page of text, from its unmasked luma scores (needs modules). Line one
- * gives the side, a model's terms, and how many references it kept and rejected, each right-aligned
- * in ten columns. Below it stands every row of the grid, y from 0 down, one column a module: 0, 1
- * or 2 as purdolve_read reads its score, or a dot where no listed module stands; of several modules
- * at one position the last shows. Each line is padded to 40 columns and ends in one line feed.
- * Nothing ends the text but its length, PURDOLVE_PAGE_LENGTH(side), which page needs;
- * PURDOLVE_PAGE_ROOM bytes are room for every page.
- * terms, kept and rejected as purdolve_fit_flat gives them are never refused.
- * refused: 2, 5, 6 (kept or rejected above 16,384 too), 7, 10 (of terms), 14
+ * gives the side, a model's terms, how many references it kept and rejected, and how many modules
+ * have a mark (held), each right-aligned in ten columns. Below it stands every row of the grid, y
+ * from 0 down, one column a module: 0, 1 or 2 as purdolve_read reads its score, or a dot where no
+ * listed module stands; of several modules at one position the last shows. Each line is padded to 50
+ * columns and ends in one line feed. Nothing ends the text but its length,
+ * PURDOLVE_PAGE_LENGTH(side), which page needs; PURDOLVE_PAGE_ROOM bytes are room for every page.
+ * terms, kept and rejected as purdolve_fit_flat gives them, and held_modules of purdolve_score, are
+ * never refused.
+ * refused: 2, 5, 6 (kept or rejected above 16,384 or held above 1,048,576 too), 7, 10 (terms), 14
  */
-#define PURDOLVE_PAGE_LENGTH(side) (41 * ((size_t)(side) + 1))
-#define PURDOLVE_PAGE_ROOM 1681
-uint32_t purdolve_page(size_t side, size_t terms, uint32_t kept, uint32_t rejected,
+#define PURDOLVE_PAGE_LENGTH(side) (51 * ((size_t)(side) + 1))
+#define PURDOLVE_PAGE_ROOM 2091
+uint32_t purdolve_page(size_t side, size_t terms, uint32_t kept, uint32_t rejected, size_t held,
                        const int32_t *xs, size_t xs_len, const int32_t *ys, size_t ys_len,
                        size_t grid, const float *luma, size_t luma_len, uint8_t *page,
                        size_t page_len);
@@ -414,19 +441,19 @@ uint32_t purdolve_page(size_t side, size_t terms, uint32_t kept, uint32_t reject
  * has a bit a module, and symbols those of the symbols, in the order of purdolve_draw; each may be 2,
  * an erasure (purdolve_read).
  * The number is that of the first of the five calls that is refused, and the memory is as that call
- * left it. After an accepted scoring only 5 can come, for scratch, bits or symbols too short; the
- * scores are written then.
+ * left it; where none is, the answer is scoring's. After an accepted scoring only 5 can come, for
+ * scratch, bits or symbols too short; the scores are written then.
  * refused: 2, 3, 4, 5, 6, 7, 8, 9, 10, 12
  */
-uint32_t purdolve_read_bits(size_t side, size_t hues, size_t size, const int32_t *xs, size_t xs_len,
-                            const int32_t *ys, size_t ys_len, size_t grid, const float *raw,
-                            size_t raw_len, const uint16_t *cxs, size_t cxs_len,
-                            const uint16_t *cys, size_t cys_len, const float *craw, size_t craw_len,
-                            const float *palette, size_t palette_len, uint8_t mask,
-                            purdolve_illumination_model model, purdolve_channel_stats noise,
-                            float *luma, size_t luma_len, float *colours, size_t colours_len,
-                            float *chroma, size_t chroma_len, float *scratch, size_t scratch_len,
-                            uint8_t *bits, size_t bits_len, uint8_t *symbols, size_t symbols_len);
+purdolve_score_answer
+purdolve_read_bits(size_t side, size_t hues, size_t size, const int32_t *xs, size_t xs_len,
+                   const int32_t *ys, size_t ys_len, size_t grid, const float *raw, size_t raw_len,
+                   const uint16_t *cxs, size_t cxs_len, const uint16_t *cys, size_t cys_len,
+                   const float *craw, size_t craw_len, const float *palette, size_t palette_len,
+                   uint8_t mask, purdolve_illumination_model model, purdolve_channel_stats noise,
+                   float *luma, size_t luma_len, float *colours, size_t colours_len, float *chroma,
+                   size_t chroma_len, float *scratch, size_t scratch_len, uint8_t *bits,
+                   size_t bits_len, uint8_t *symbols, size_t symbols_len);
 
 /* ---- References as records, and a whole card file ---------------------------------------- */
 
@@ -439,10 +466,10 @@ uint32_t purdolve_read_bits(size_t side, size_t hues, size_t size, const int32_t
 purdolve_modelled purdolve_fit(const purdolve_reference *refs, size_t refs_len, size_t side,
                                uint8_t version, uint8_t *kept, size_t kept_len, float *scratch,
                                size_t scratch_len);
-purdolve_noise_answer purdolve_measure(const purdolve_reference *refs, size_t refs_len, size_t side,
-                                       purdolve_illumination_model model, const float *palette,
-                                       size_t palette_len, size_t hues, float *scratch,
-                                       size_t scratch_len);
+purdolve_measure_answer purdolve_measure(const purdolve_reference *refs, size_t refs_len,
+                                         size_t side, purdolve_illumination_model model,
+                                         const float *palette, size_t palette_len, size_t hues,
+                                         float *scratch, size_t scratch_len);
 
 /*
  * Reads a card file: fits, measures, scores, refines, unmasks and reads. Writes the listing, or the

@@ -119,7 +119,7 @@ impl Card {
 
     /// Fit, measure, score and, where asked, refine, or the number of the first call refused: what scoring took, and
     /// the luma and chroma scores.
-    fn scored(&self, refining: bool) -> Result<(Scoring, Vec<f32>, Vec<f32>), u32> {
+    fn scored(&self, refining: bool) -> Result<(Scoring, Vec<f32>, Vec<f32>, [usize; 2]), u32> {
         let (side, k, n, m) = (self.side as usize, self.hues as usize, self.references.len() / 8, self.xs.len());
         let mut scratch = vec![0.0; (4 * n).max((side + 12) * (side + 12))];
         let model = fit(&self.references, n, side, self.version, &mut scratch)?;
@@ -131,11 +131,11 @@ impl Card {
             palette: self.palette.clone(),
             k,
         };
-        let stats = measure(&measuring, &mut scratch)?;
+        let (stats, _) = measure(&measuring, &mut scratch)?;
         let scoring = self.scoring(model, stats);
         let (mut luma, mut colours) = (vec![0.0; m], vec![0.0; 3 * m]);
         let mut chroma = vec![0.0; bits_a_cell(k) * scoring.entries()];
-        score(&scoring, &mut luma, &mut colours, &mut chroma)?;
+        let held = score(&scoring, &mut luma, &mut colours, &mut chroma)?;
         let refined = Refining {
             side,
             k,
@@ -149,12 +149,12 @@ impl Card {
         if refining {
             refine(&refined, &mut luma, &mut scratch)?;
         }
-        Ok((scoring, luma, chroma))
+        Ok((scoring, luma, chroma, held))
     }
 
     /// Scoring and then refining gives what the Rust's `demodulate` gives with its last call.
     pub fn whole(&self) -> Result<bool, u32> {
-        let (scoring, luma, chroma) = self.scored(true)?;
+        let (scoring, luma, chroma, _) = self.scored(true)?;
         let rust = scoring.demodulated(true);
         let text = |scores: &[f32]| scores.iter().map(|&s| digits(s)).collect::<String>();
         Ok(text(&luma) == text(&rust.luma) && text(&chroma) == text(&rust.chroma))
@@ -181,7 +181,7 @@ impl Card {
 
     /// The listing, or the number of the first call refused; without refining, that of the scores that scoring left.
     pub fn listing(&self, refining: bool) -> Result<String, u32> {
-        let (scoring, luma, chroma) = self.scored(refining)?;
+        let (scoring, luma, chroma, _) = self.scored(refining)?;
         let model = &scoring.model;
         let mut text = format!("fit {} {} {}\n", model.terms, model.kept, model.rejected);
         let mut unmasked = luma.clone();
@@ -197,13 +197,13 @@ impl Card {
 
     /// The page for the panel door, or the number of the first call refused.
     pub fn page(&self) -> Result<String, u32> {
-        let (scoring, mut luma, _) = self.scored(true)?;
+        let (scoring, mut luma, _, [held, _]) = self.scored(true)?;
         let (side, grid, model) = (scoring.side, scoring.grid, &scoring.model);
         unmask_luma(&mut luma, side, &self.xs, &self.ys, grid, self.mask)?;
-        let mut out = vec![0; 41 * (side + 1)];
+        let mut out = vec![0; 51 * (side + 1)];
         let (xs, ys) = (self.xs.clone(), self.ys.clone());
         let (terms, kept, rejected) = (model.terms, model.kept, model.rejected);
-        page::page(&Laying { side, terms, kept, rejected, xs, ys, grid, luma }, &mut out)?;
+        page::page(&Laying { side, terms, kept, rejected, held, xs, ys, grid, luma }, &mut out)?;
         Ok(String::from_utf8_lossy(&out).into_owned())
     }
 

@@ -100,10 +100,30 @@ impl ChannelStats {
 
 /// Measures the noise record from references that the model corrects. Refused: 3, 5, 6, 7, 8, 10, 12.
 pub fn measure(refs: &[Reference], illum: &IlluminationModel, palette: &Palette) -> Result<ChannelStats, Refusal> {
+    measure_held(refs, illum, palette).map(|(stats, _)| stats)
+}
+
+/// The same, with how many of the references have a mark: a channel's gain, where they stand, was held at 0.05. With fewer
+/// than 8 references none is corrected, and none has one. Refused: 3, 5, 6, 7, 8, 10, 12.
+pub fn measure_held(
+    refs: &[Reference],
+    illum: &IlluminationModel,
+    palette: &Palette,
+) -> Result<(ChannelStats, usize), Refusal> {
     let mut scratch = vec![0.0; 4 * refs.len()];
     let palette_numbers = palette.flat();
     let answer = ffi::measure_flat(ffi::flat(refs), illum.side(), *illum, &palette_numbers, palette.hues, &mut scratch);
-    Refusal::check(answer.number).map(|()| answer.noise)
+    Refusal::check(answer.number).map(|()| (answer.noise, answer.held))
+}
+
+/// How many colours of a card have a mark: a channel's gain, where they stand, was held at 0.05.
+#[repr(C)]
+#[derive(Copy, Clone, PartialEq, Eq, Default, Debug)]
+pub struct Held {
+    /// Modules; a ring module that carries chroma is one.
+    pub modules: usize,
+    /// Cells; none with chroma off, where they are not corrected.
+    pub cells: usize,
 }
 
 /// The raw colours of a card, sampled from its picture.
@@ -126,6 +146,8 @@ pub struct Demodulation {
     pub stats: ChannelStats,
     /// The corrected colour of each module.
     pub colours: Vec<Linear>,
+    /// How many modules and cells have a mark.
+    pub held: Held,
 }
 
 /// Scores a card without refining: what [`demodulate`] does before its last call. Refused: 2 to 10 and 12.
@@ -138,7 +160,7 @@ pub fn score(
 ) -> Result<Demodulation, Refusal> {
     let places = layout.places();
     let mut scores = blank(layout, palette, stats);
-    Refusal::check(ffi::score(raw, &places, &palette.flat(), palette.hues, *illum, &mut scores))?;
+    scores.held = ffi::score(raw, &places, &palette.flat(), palette.hues, *illum, &mut scores).checked()?;
     Ok(scores)
 }
 
@@ -150,6 +172,7 @@ fn blank(layout: &Layout, palette: &Palette, stats: &ChannelStats) -> Demodulati
         chroma: vec![0.0; symbol_bits(palette.hues) * layout.symbols()],
         stats: *stats,
         colours: vec![Linear::default(); modules],
+        held: Held::default(),
     }
 }
 
@@ -225,13 +248,25 @@ pub fn read_bits(
     stats: &ChannelStats,
     mask_id: u8,
 ) -> Result<Vec<u8>, Refusal> {
+    read_bits_held(raw, layout, palette, illum, stats, mask_id).map(|(bits, _)| bits)
+}
+
+/// The same, with how many modules and cells have a mark. Refused: 2 to 10 and 12.
+pub fn read_bits_held(
+    raw: RawColours,
+    layout: &Layout,
+    palette: &Palette,
+    illum: &IlluminationModel,
+    stats: &ChannelStats,
+    mask_id: u8,
+) -> Result<(Vec<u8>, Held), Refusal> {
     let places = layout.places();
     let mut scores = blank(layout, palette, stats);
     let mut scratch = window(places.side);
     let mut bits = vec![0; scores.luma.len() + scores.chroma.len()];
     let halves = bits.split_at_mut(scores.luma.len());
     let palette_numbers = palette.flat();
-    Refusal::check(ffi::read_bits(
+    let held = ffi::read_bits(
         raw,
         &places,
         &palette_numbers,
@@ -241,6 +276,7 @@ pub fn read_bits(
         &mut scores,
         &mut scratch,
         halves,
-    ))?;
-    Ok(bits)
+    )
+    .checked()?;
+    Ok((bits, held))
 }

@@ -6,7 +6,7 @@
 //! reference overlaps nothing, so each form on slices is safe.
 use crate::Refusal;
 use crate::color::{Lab, Linear, Srgb8};
-use crate::demod::{ChannelStats, Demodulation, RawColours};
+use crate::demod::{ChannelStats, Demodulation, Held, RawColours};
 use crate::illum::{IlluminationModel, Reference};
 use crate::layout::Places;
 use crate::totals::{Ratio, Totals};
@@ -71,6 +71,7 @@ impl FloatAnswer {
 pub struct LinearAnswer {
     pub number: u32,
     pub colour: Linear,
+    pub held: [bool; 3],
 }
 
 #[repr(C)]
@@ -97,6 +98,25 @@ pub struct RatioAnswer {
     pub ratio: Ratio,
 }
 
+#[repr(C)]
+pub struct MeasureAnswer {
+    pub number: u32,
+    pub noise: ChannelStats,
+    pub held: usize,
+}
+
+#[repr(C)]
+pub struct ScoreAnswer {
+    pub number: u32,
+    pub held: Held,
+}
+
+impl ScoreAnswer {
+    pub fn checked(self) -> Result<Held, Refusal> {
+        Refusal::check(self.number).map(|()| self.held)
+    }
+}
+
 // The sizes that the library was built for.
 const _: () = {
     assert!(size_of::<usize>() == 8);
@@ -105,8 +125,9 @@ const _: () = {
     assert!(size_of::<Reference>() == 32 && align_of::<Reference>() == 4);
     assert!(size_of::<IlluminationModel>() == 552 && size_of::<Modelled>() == 560);
     assert!(size_of::<ChannelStats>() == 28 && size_of::<NoiseAnswer>() == 32);
+    assert!(size_of::<MeasureAnswer>() == 40 && size_of::<ScoreAnswer>() == 24);
     assert!(size_of::<SolveAnswer>() == 8 && size_of::<FlagAnswer>() == 8 && size_of::<FloatAnswer>() == 8);
-    assert!(size_of::<NumberAnswer>() == 16 && size_of::<LinearAnswer>() == 16);
+    assert!(size_of::<NumberAnswer>() == 16 && size_of::<LinearAnswer>() == 20);
     assert!(size_of::<Totals>() == 40 && size_of::<TotalsAnswer>() == 48 && size_of::<RatioAnswer>() == 24);
 };
 
@@ -247,6 +268,7 @@ unsafe extern "C" {
         terms: usize,
         kept: u32,
         rejected: u32,
+        held: usize,
         xs: *const i32,
         xs_len: usize,
         ys: *const i32,
@@ -334,7 +356,7 @@ unsafe extern "C" {
         hues: usize,
         scratch: *mut f32,
         scratch_len: usize,
-    ) -> NoiseAnswer;
+    ) -> MeasureAnswer;
     fn purdolve_nominal(palette: *const f32, palette_len: usize, hues: usize) -> NoiseAnswer;
     fn purdolve_reliability(
         noise: ChannelStats,
@@ -396,7 +418,7 @@ unsafe extern "C" {
         colours_len: usize,
         chroma: *mut f32,
         chroma_len: usize,
-    ) -> u32;
+    ) -> ScoreAnswer;
     fn purdolve_read_bits(
         side: usize,
         hues: usize,
@@ -431,7 +453,7 @@ unsafe extern "C" {
         bits_len: usize,
         symbols: *mut u8,
         symbols_len: usize,
-    ) -> u32;
+    ) -> ScoreAnswer;
     fn purdolve_add_local_luma(
         luma: *mut f32,
         luma_len: usize,
@@ -535,13 +557,14 @@ pub fn read_list(scores: &[f32], bits: &mut [u8]) -> u32 {
     unsafe { purdolve_read_list(scores.as_ptr(), scores.len(), bits.as_mut_ptr(), bits.len()) }
 }
 
-pub fn page(places: &Places, illum: &IlluminationModel, luma: &[f32], page: &mut [u8]) -> u32 {
+pub fn page(places: &Places, illum: &IlluminationModel, held: usize, luma: &[f32], page: &mut [u8]) -> u32 {
     unsafe {
         purdolve_page(
             places.side,
             illum.terms(),
             illum.kept,
             illum.rejected,
+            held,
             places.xs.as_ptr(),
             places.xs.len(),
             places.ys.as_ptr(),
@@ -622,7 +645,7 @@ pub fn measure_flat(
     palette: &[f32],
     hues: usize,
     scratch: &mut [f32],
-) -> NoiseAnswer {
+) -> MeasureAnswer {
     unsafe {
         purdolve_measure_flat(
             flat.as_ptr(),
@@ -675,7 +698,7 @@ pub fn score(
     hues: usize,
     model: IlluminationModel,
     scores: &mut Demodulation,
-) -> u32 {
+) -> ScoreAnswer {
     let (modules, cells) = (components(raw.modules), components(raw.cells));
     let noise = scores.stats;
     let (luma, chroma) = (&mut scores.luma, &mut scores.chroma);
@@ -723,7 +746,7 @@ pub fn read_bits(
     scores: &mut Demodulation,
     scratch: &mut [f32],
     (bits, symbols): (&mut [u8], &mut [u8]),
-) -> u32 {
+) -> ScoreAnswer {
     let (modules, cells) = (components(raw.modules), components(raw.cells));
     let noise = scores.stats;
     let (luma, chroma) = (&mut scores.luma, &mut scores.chroma);

@@ -38,6 +38,15 @@ pub struct IlluminationModel {
     pub kept: u32,
 }
 
+/// A corrected colour, with a mark for each channel.
+#[derive(Copy, Clone, PartialEq, Debug)]
+pub struct Marked {
+    /// The colour, as [`IlluminationModel::correct`] gives it.
+    pub colour: Linear,
+    /// Red, green, blue: whether the channel's gain at the position was under 0.05 in magnitude, and so was held at 0.05.
+    pub held: [bool; 3],
+}
+
 impl IlluminationModel {
     /// The model that corrects nothing. Refused: 2.
     pub fn identity(side: u16) -> Result<IlluminationModel, Refusal> {
@@ -76,6 +85,19 @@ impl IlluminationModel {
 
     /// A colour observed at a position, any float, as it would be under even light. Refused: 8, 10.
     pub fn correct(&self, x: f32, y: f32, observed: Linear) -> Result<Linear, Refusal> {
+        self.correct_marked(x, y, observed).map(|marked| marked.colour)
+    }
+
+    /// The same, with the channels whose gain was held. Refused: 8, 10.
+    ///
+    /// ```
+    /// use purdolve::{color::Linear, illum::IlluminationModel};
+    /// let model = IlluminationModel::identity(21)?;
+    /// let marked = model.correct_marked(0.5, 0.5, Linear { r: 1.0, g: 0.5, b: 0.25 })?;
+    /// assert_eq!((marked.colour.g, marked.held), (0.5, [false; 3]));
+    /// # Ok::<(), purdolve::Refusal>(())
+    /// ```
+    pub fn correct_marked(&self, x: f32, y: f32, observed: Linear) -> Result<Marked, Refusal> {
         let answer = ffi::purdolve_correct_lent(
             self.terms,
             self.side,
@@ -93,7 +115,7 @@ impl IlluminationModel {
             y,
             observed,
         );
-        Refusal::check(answer.number).map(|()| answer.colour)
+        Refusal::check(answer.number).map(|()| Marked { colour: answer.colour, held: answer.held })
     }
 
     /// Terms of its surfaces: 4 or 9.

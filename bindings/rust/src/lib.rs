@@ -19,7 +19,8 @@
 //! | `unmask_luma(llrs, layout, mask)` | the same, a `Result` |
 //! | - | `read_bits(raw, layout, palette, illum, stats, mask)`: all of these calls in one, and the bits read |
 //! | - | `IlluminationModel::fit_kept(refs, side, version)`: the fit with the references that it kept; [`near::near`]: which of them stand near a module |
-//! | - | `page(luma, layout, illum)`: the read card as a page of text |
+//! | - | `page(luma, layout, illum, held)`: the read card as a page of text |
+//! | - | `correct_marked`, `measure_held`, `read_bits_held` and the field `held` of `Demodulation`: which gains were held at 0.05 |
 //! | `lcr_core::palette::Palette`, `lcr_core::layout::Layout` | [`palette::Palette`], [`layout::Layout`]: the fields that the stage reads |
 //! | `solve`, `least_squares`, `chroma_bit_llrs`, rotations, symbols | the same, each a `Result` |
 //! | colours, `median`, `mad_sigma`, `gray`, `luma_mask` | the same |

@@ -187,15 +187,16 @@ fn corrected() {
 fn wide_page() -> Result<(), Refusal> {
     let at = |side| Layout { side, payload: vec![(0, 0), (1, 0), (0, 0)], ..Layout::default() };
     let model = IlluminationModel::identity(40)?;
-    let text = page(&[1.0, f32::NAN, -1.0], &at(40), &model)?;
-    assert_eq!(text.len(), 41 * 41);
-    assert_eq!(text.lines().nth(1), Some("12......................................"));
-    assert_eq!(page(&[1.0; 3], &at(41), &model), Err(Refusal::Page));
-    assert_eq!(page(&[1.0; 2], &at(41), &model), Err(Refusal::Length));
-    assert_eq!(page(&[1.0; 3], &at(1), &model), Err(Refusal::Place));
+    let text = page(&[1.0, f32::NAN, -1.0], &at(40), &model, 0)?;
+    assert_eq!(text.len(), 51 * 41);
+    assert_eq!(text.lines().nth(1), Some("12......................................          "));
+    assert_eq!(page(&[1.0; 3], &at(41), &model, 0), Err(Refusal::Page));
+    assert_eq!(page(&[1.0; 2], &at(41), &model, 0), Err(Refusal::Length));
+    assert_eq!(page(&[1.0; 3], &at(1), &model, 0), Err(Refusal::Place));
+    assert_eq!(page(&[1.0; 3], &at(41), &model, 1_048_577), Err(Refusal::Count));
     let mut many = model;
     many.kept = 16_385;
-    assert_eq!(page(&[1.0; 3], &at(41), &many), Err(Refusal::Count));
+    assert_eq!(page(&[1.0; 3], &at(41), &many, 0), Err(Refusal::Count));
     Ok(())
 }
 

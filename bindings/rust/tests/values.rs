@@ -1,7 +1,10 @@
 //! Known answers: the worked examples of the scope, and others that can be worked out by hand.
 use purdolve::color::{self, Lab, Linear, Srgb8};
-use purdolve::demod::{ChannelStats, Threshold};
+use purdolve::demod::{
+    ChannelStats, Held, RawColours, Threshold, demodulate, measure, measure_held, read_bits, read_bits_held,
+};
 use purdolve::illum::{BIQUADRATIC_FROM_VERSION, IlluminationModel, Reference};
+use purdolve::layout::Layout;
 use purdolve::math::{NormalEquations, least_squares, mad_sigma, median, solve};
 use purdolve::modulate::{
     cell_hue, chroma_bit_llrs, grid_level, read, read_list, ring_hue, ring_level, symbol_of_bits,
@@ -120,6 +123,39 @@ fn noise_figures() {
     assert_eq!(between.margin_at(Threshold::Nine, &palette), Ok(true));
     assert_eq!(between.margin_at(Threshold::Thirteen, &palette), Ok(false));
     assert_eq!(stats(44.0, 56.0, 8.0, [0.0; 2]).margin_at(Threshold::Nine, &palette), Ok(false));
+}
+
+/// References at a part of their light.
+fn references(n: usize, light: f32) -> Vec<Reference> {
+    (0..n)
+        .map(|i| {
+            let v = (i * 5 % 7) as f32 / 8.0;
+            let nominal = Linear::new(v, 0.5 * v + 0.1, (i % 3) as f32 / 4.0);
+            let observed = Linear::new(light * nominal.r, light * nominal.g, light * nominal.b);
+            Reference { x: (i % 4) as f32, y: (i / 4) as f32, observed, nominal }
+        })
+        .collect()
+}
+
+#[test]
+fn marks() {
+    let palette = black_and_white();
+    let colour = Linear::new(0.5, 0.25, 0.125);
+    for (n, light, held) in [(12, 1.0, false), (12, 0.01, true), (7, 0.01, false)] {
+        let seen = references(n, light);
+        let model = IlluminationModel::fit(&seen, 21, 1).unwrap();
+        let marked = model.correct_marked(1.5, 1.5, colour).unwrap();
+        assert_eq!((Ok(marked.colour), marked.held), (model.correct(1.5, 1.5, colour), [held; 3]));
+        let (stats, marks) = measure_held(&seen, &model, &palette).unwrap();
+        assert_eq!((Ok(stats), marks), (measure(&seen, &model, &palette), if held { n } else { 0 }));
+        let raw = RawColours { modules: &[colour; 2], cells: &[] };
+        let layout = Layout { side: 21, chroma_cell: 1, payload: vec![(0, 0), (1, 0)], ..Layout::default() };
+        let wanted = Held { modules: if held { 2 } else { 0 }, cells: 0 };
+        let noise = ChannelStats::nominal(&palette).unwrap();
+        assert_eq!(demodulate(raw, &layout, &palette, &model, &noise).unwrap().held, wanted);
+        let (bits, counts) = read_bits_held(raw, &layout, &palette, &model, &noise, 0).unwrap();
+        assert_eq!((Ok(bits), counts), (read_bits(raw, &layout, &palette, &model, &noise, 0), wanted));
+    }
 }
 
 #[test]

@@ -4,7 +4,8 @@ use mathlib.Core.List.{List}
 use Prim.Native.Nat.{ℕ, zero, suc}
 use native.Mathlib.Omega.{arith}
 use Rattle.sentences.specs.Sentences.{decided}
-use Rattle.guarantee.specs.Card.{Setting, Card, scoredCard, refinedCard, unmaskedCard, lumaRead, chromaRead, Accepted, bitsRead}
+use Rattle.demod.specs.Call.{reportOf}
+use Rattle.guarantee.specs.Card.{Setting, Card, toScore, scoredCard, refinedCard, unmaskedCard, lumaRead, chromaRead, Accepted, bitsRead}
 use Rattle.guarantee.proofs.Guarantee.{read-as-drawn}
 use Rattle.bits.specs.Reading.{Lent, Left, left, stopped, done, afterScoring, afterRefinement, afterUnmasking, afterLuma, afterChroma, readOf, drawnFrom, bitsLeft, ReadAs, Joined}
 
@@ -16,7 +17,7 @@ goes-on (suc n) m next e = absurd (omega arith)
 
 module _ (s : Setting) (c : Card) (e : readOf s c .number ≡ 0) where
   abbrev from-chroma : Left
-  from-chroma = decided (chromaRead s c .number) (stopped (afterChroma s c)) (done (afterChroma s c))
+  from-chroma = decided (chromaRead s c .number) (stopped (afterChroma s c)) (done (reportOf (toScore s c)) (afterChroma s c))
 
   abbrev from-luma : Left
   from-luma = decided (lumaRead s c .number) (stopped (afterLuma s c)) from-chroma
@@ -40,15 +41,15 @@ module _ (s : Setting) (c : Card) (e : readOf s c .number ≡ 0) where
   reads-luma : (lumaRead s c .number ≡ 0) × (from-luma ≡ from-chroma)
   reads-luma = goes-on (lumaRead s c .number) (afterLuma s c) from-chroma (ap (λ f. f .number) (sym (scores .1 ∙ refines .1 ∙ unmasks .1)) ∙ e)
 
-  reads-chroma : (chromaRead s c .number ≡ 0) × (from-chroma ≡ done (afterChroma s c))
-  reads-chroma = goes-on (chromaRead s c .number) (afterChroma s c) (done (afterChroma s c)) (ap (λ f. f .number) (sym (scores .1 ∙ refines .1 ∙ unmasks .1 ∙ reads-luma .1)) ∙ e)
+  reads-chroma : (chromaRead s c .number ≡ 0) × (from-chroma ≡ done (reportOf (toScore s c)) (afterChroma s c))
+  reads-chroma = goes-on (chromaRead s c .number) (afterChroma s c) (done (reportOf (toScore s c)) (afterChroma s c)) (ap (λ f. f .number) (sym (scores .1 ∙ refines .1 ∙ unmasks .1 ∙ reads-luma .1)) ∙ e)
 
   -- none of the calls is refused
   pub all-accepted : Accepted s c
   all-accepted = record { scoring = scores .0; refinement = refines .0; unmasking = unmasks .0; luma = reads-luma .0; chroma = reads-chroma .0 }
 
   -- so the memory is as the last one left it
-  pub all-done : readOf s c ≡ done (afterChroma s c)
+  pub all-done : readOf s c ≡ done (reportOf (toScore s c)) (afterChroma s c)
   all-done = scores .1 ∙ refines .1 ∙ unmasks .1 ∙ reads-luma .1 ∙ reads-chroma .1
 
 -- and where none of the calls is refused, the call is not

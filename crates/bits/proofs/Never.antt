@@ -31,6 +31,8 @@ use Rattle.reading.specs.Read.{readList, readSentences, readListOf}
 use Rattle.lists.proofs.Laws.{reached}
 use Rattle.stats.specs.Calls.{shortPalette, badNumbers, badSigmas}
 use Rattle.stats.proofs.Range.{Held}
+use Rattle.demod.specs.declared.Scored.the-variants as scored
+use Rattle.demod.specs.Call.{reportOf}
 use Rattle.demod.proofs.Outcome.{IsDone, at-done}
 use Rattle.demod.proofs.Range.{luma-in, colour-tame}
 use Rattle.refine.specs.Refine.{squares, levelsOf, gridOf, refined}
@@ -98,7 +100,7 @@ score-tame v p =
 -- ---- after an accepted scoring
 
 module _ (s : Setting) (c : Card) (z : scoredCard s c .number ≡ 0) where
-  is-done : scoredCard s c .answer ≡ outcome.Done
+  is-done : scoredCard s c .answer ≡ scored.Done (reportOf (toScore s c))
   is-done = done-answer (toScore s c) z
 
   pub facts : IsDone (toScore s c)

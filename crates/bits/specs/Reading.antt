@@ -9,11 +9,14 @@ use lib.Ieee.{Float}
 use Rattle.sentences.specs.Sentences.{decided}
 use Rattle.layout.specs.declared.Layout.{Layout}
 use Rattle.answers.specs.declared.Outcome.{Outcome}
-use Rattle.answers.specs.declared.Outcome.the-variants.{Refused, Done}
-use Rattle.answers.specs.Answers.{outcomeNumber}
+use Rattle.answers.specs.declared.Outcome.the-variants as outcome
 use Rattle.illum.specs.declared.IlluminationModel.{IlluminationModel}
 use Rattle.stats.specs.declared.ChannelStats.{ChannelStats}
-use Rattle.guarantee.specs.Card.{Setting, Card, modules, chromaScores, drawnCard, scoredCard, refinedCard, unmaskedCard, lumaRead, chromaRead, Accepted, bitsDrawn, bitsRead}
+use Rattle.demod.specs.declared.ScoreReport.{ScoreReport}
+use Rattle.demod.specs.declared.Scored.{Scored}
+use Rattle.demod.specs.declared.Scored.the-variants.{Refused, Done}
+use Rattle.demod.specs.Call.{scoredSaid, reportOf}
+use Rattle.guarantee.specs.Card.{Setting, Card, modules, chromaScores, drawnCard, toScore, scoredCard, refinedCard, unmaskedCard, lumaRead, chromaRead, Accepted, bitsDrawn, bitsRead}
 use Rattle.guarantee.specs.Guarantee.{Singles, InMargin, Near}
 
 -- ---- what the call is handed
@@ -71,24 +74,30 @@ abbrev pub lent : List Float → List Float → List Float → List Float → Li
 lent luma colours chroma scratch bits symbols =
     record { luma = luma; colours = colours; chroma = chroma; scratch = scratch; bits = bits; symbols = symbols }
 
--- document 01's number, the answer, and these
+-- document 01's number, the answer, which is of the same kind as scoring's, and these
 pub record Left : Type 0 where
   pub number : ℕ
-  pub answer : Outcome
+  pub answer : Scored
   pub lent : Lent
 
-abbrev pub leaving : Outcome → Lent → Left
-leaving r m = record { number = outcomeNumber r; answer = r; lent = m }
+abbrev pub leaving : Scored → Lent → Left
+leaving r m = record { number = scoredSaid r .number; answer = r; lent = m }
 
-abbrev pub left : Outcome → List Float → List Float → List Float → List Float → List ℕ → List ℕ → Left
+abbrev pub left : Scored → List Float → List Float → List Float → List Float → List ℕ → List ℕ → Left
 left r luma colours chroma scratch bits symbols = leaving r (lent luma colours chroma scratch bits symbols)
 
 -- a call that left the memory m is refused by number n
 abbrev pub stopped : Lent → ℕ → Left
 stopped m n = leaving (Refused n) m
 
-abbrev pub done : Lent → Left
-done m = leaving Done m
+-- the last call is done: what is answered is what scoring reported
+abbrev pub done : ScoreReport → Lent → Left
+done report m = leaving (Done report) m
+
+-- the answer of a call after scoring, with that report
+abbrev pub reported : ScoreReport → Outcome → Scored
+reported report (outcome.Refused n) = Refused n
+reported report outcome.Done = Done report
 
 -- ---- the calls in turn
 
@@ -116,7 +125,7 @@ readOf s c =
     (decided (unmaskedCard s c .number) (stopped (afterUnmasking s c))
     (decided (lumaRead s c .number) (stopped (afterLuma s c))
     (decided (chromaRead s c .number) (stopped (afterChroma s c))
-    (done (afterChroma s c))))))
+    (done (reportOf (toScore s c)) (afterChroma s c))))))
 
 -- ---- the read guarantee
 

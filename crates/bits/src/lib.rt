@@ -6,17 +6,20 @@
 ghost use mathlib.Core.Path.{_≡_};
 ghost use mathlib.Core.List.{List};
 ghost use lib.Ieee.{Float};
+ghost use Rattle.demod.specs.declared.ScoreReport.{ScoreReport};
 ghost use Rattle.guarantee.specs.Guarantee.{ReadGuarantee, ReadGuaranteeAtNine};
-ghost use Rattle.bits.specs.Reading.{lent, left, setting, card, readOf, Joined};
+ghost use Rattle.bits.specs.Reading.{lent, left, reported, setting, card, readOf, Joined};
 ghost use Rattle.bits.specs.Onwards as onwards;
 use answers::Outcome;
+use demod::ScoreReport;
+use demod::Scored;
 use illum::IlluminationModel;
 use layout::Layout;
 use stats::ChannelStats;
 
 // Reads the luma scores, and then the chroma scores. Colours and scratch are not lent to it, and stay.
 fn read_scores(luma: &[f32], chroma: &[f32], bits: &mut [u8], symbols: &mut [u8]) -> Outcome
-    ensures { λ r. ⌜ ((colours scratch : List Float) → left r (now (luma .entry)) colours (now (chroma .entry)) scratch (now (bits .exit)) (now (symbols .exit)) ≡ onwards.read (lent (now (luma .entry)) colours (now (chroma .entry)) scratch (now (bits .entry)) (now (symbols .entry)))) ⌝ }
+    ensures { λ r. ⌜ ((report : ScoreReport) (colours scratch : List Float) → left (reported report r) (now (luma .entry)) colours (now (chroma .entry)) scratch (now (bits .exit)) (now (symbols .exit)) ≡ onwards.read report (lent (now (luma .entry)) colours (now (chroma .entry)) scratch (now (bits .entry)) (now (symbols .entry)))) ⌝ }
 {
     match reading::read_list(luma, bits) {
         Outcome::Refused(n) => Outcome::Refused(n),
@@ -36,7 +39,7 @@ fn unmask_scores(
     bits: &mut [u8],
     symbols: &mut [u8],
 ) -> Outcome
-    ensures { λ r. ⌜ ((colours scratch : List Float) → left r (now (luma .exit)) colours (now (chroma .entry)) scratch (now (bits .exit)) (now (symbols .exit)) ≡ onwards.unmask side (now (xs .entry)) (now (ys .entry)) grid mask (lent (now (luma .entry)) colours (now (chroma .entry)) scratch (now (bits .entry)) (now (symbols .entry)))) ⌝ }
+    ensures { λ r. ⌜ ((report : ScoreReport) (colours scratch : List Float) → left (reported report r) (now (luma .exit)) colours (now (chroma .entry)) scratch (now (bits .exit)) (now (symbols .exit)) ≡ onwards.unmask side (now (xs .entry)) (now (ys .entry)) grid mask report (lent (now (luma .entry)) colours (now (chroma .entry)) scratch (now (bits .entry)) (now (symbols .entry)))) ⌝ }
 {
     match modulate::unmask_luma(luma, side, xs, ys, grid, mask) {
         Outcome::Refused(n) => Outcome::Refused(n),
@@ -59,7 +62,7 @@ fn refine_scores(
     bits: &mut [u8],
     symbols: &mut [u8],
 ) -> Outcome
-    ensures { λ r. ⌜ left r (now (luma .exit)) (now (colours .entry)) (now (chroma .entry)) (now (scratch .exit)) (now (bits .exit)) (now (symbols .exit)) ≡ onwards.refine layout (now (xs .entry)) (now (ys .entry)) (now (palette .entry)) mask noise (lent (now (luma .entry)) (now (colours .entry)) (now (chroma .entry)) (now (scratch .entry)) (now (bits .entry)) (now (symbols .entry))) ⌝ }
+    ensures { λ r. ⌜ ((report : ScoreReport) → left (reported report r) (now (luma .exit)) (now (colours .entry)) (now (chroma .entry)) (now (scratch .exit)) (now (bits .exit)) (now (symbols .exit)) ≡ onwards.refine layout (now (xs .entry)) (now (ys .entry)) (now (palette .entry)) mask noise report (lent (now (luma .entry)) (now (colours .entry)) (now (chroma .entry)) (now (scratch .entry)) (now (bits .entry)) (now (symbols .entry)))) ⌝ }
 {
     let side = layout.side;
     let grid = layout.grid;
@@ -80,10 +83,21 @@ fn refine_scores(
     }
 }
 
+// The answer of a call after scoring, with scoring's report where it is done.
+fn with_report(o: Outcome, report: ScoreReport) -> Scored
+    ensures { λ r. ⌜ r ≡ reported report o ⌝ }
+{
+    match o {
+        Outcome::Refused(n) => Scored::Refused(n),
+        Outcome::Done => Scored::Done(report),
+    }
+}
+
 // Reads a card from its raw colours: scores it, refines and unmasks the luma scores in place, and writes a bit for each luma
 // score that is lent, the modules', and for each chroma score, the symbols'. Scratch is that of refinement, (side + 12)² floats.
 // The first of the calls `score`, `add_local_luma`, `unmask_luma`, `read_list` of the luma scores and `read_list` of the chroma
-// scores that is refused gives its number, and the memory is as that call left it. Inside the margin, with each corrected colour
+// scores that is refused gives its number, and the memory is as that call left it; where none is, the answer is scoring's, with how
+// many modules and how many cells have a mark. Inside the margin, with each corrected colour
 // within half a sigma of its drawn colour, the bits read are the bits drawn; inside the margin at 9 in place of 13 so too, where
 // no refined score is a NaN. Refused: 2, 3, 4, 5, 6, 7, 8, 9, 10, 12.
 pub fn read_bits(
@@ -104,7 +118,7 @@ pub fn read_bits(
     scratch: &mut [f32],
     bits: &mut [u8],
     symbols: &mut [u8],
-) -> Outcome
+) -> Scored
     ensures { λ r. ⌜ (
         let s = setting layout (now (xs .entry)) (now (ys .entry)) (now (cxs .entry)) (now (cys .entry)) (now (palette .entry)) mask model noise in
         let c = card (now (raw .entry)) (now (craw .entry)) (now (luma .entry)) (now (colours .entry)) (now (chroma .entry)) (now (scratch .entry)) (now (bits .entry)) (now (symbols .entry)) in
@@ -126,20 +140,23 @@ pub fn read_bits(
         colours,
         chroma,
     ) {
-        Outcome::Refused(n) => Outcome::Refused(n),
-        Outcome::Done => refine_scores(
-            layout,
-            xs,
-            ys,
-            palette,
-            mask,
-            noise,
-            luma,
-            colours,
-            chroma,
-            scratch,
-            bits,
-            symbols,
+        Scored::Refused(n) => Scored::Refused(n),
+        Scored::Done(report) => with_report(
+            refine_scores(
+                layout,
+                xs,
+                ys,
+                palette,
+                mask,
+                noise,
+                luma,
+                colours,
+                chroma,
+                scratch,
+                bits,
+                symbols,
+            ),
+            report,
         ),
     }
 }

@@ -1,7 +1,8 @@
 -- What `score` knows past its sentences: none of them holds, so the slices are long enough, the positions are f32 values, and colours, palette and record are in their ranges. Assumes nothing.
-use mathlib.Core.Path.{_≡_, refl, sym, _∙_}
+use mathlib.Core.Path.{_≡_, refl, sym, ap, _∙_}
 use mathlib.Core.Bool.{true, false, not, cond}
 use mathlib.Core.List.{List, [], _∷_}
+use mathlib.Core.Option.{Option·some-injective}
 use Prim.Native.Nat.{ℕ, zero, suc, _*_, _≤_, _<_}
 use native.Mathlib.Omega.{arith}
 use borrow.Author.Tests.{ltb-false, not-false, eqb-true}
@@ -23,9 +24,9 @@ use Rattle.stats.specs.declared.ChannelStats.{ChannelStats}
 use Rattle.stats.specs.Calls.{shortPalette, badNoiseNumbers, badNumbers, badSigmas}
 use Rattle.stats.proofs.Passed.{palette-long}
 use Rattle.observed.specs.Ready.{Sampled}
-use Rattle.answers.specs.declared.Outcome.the-variants.{Done}
-use Rattle.answers.specs.Answers.{outcomeNumber}
-use Rattle.demod.specs.Call.{badModuleLengths, badCellLengths, shortChroma, badLengths, badInputs, badCorrected, Request, moduleColours, cellColours, sentencesOf, turnedAway, done, scoredOf}
+use Rattle.demod.specs.declared.ScoreReport.{ScoreReport}
+use Rattle.demod.specs.declared.Scored.the-variants.{Done}
+use Rattle.demod.specs.Call.{badModuleLengths, badCellLengths, shortChroma, badLengths, badInputs, badCorrected, Request, moduleColours, cellColours, sentencesOf, reportOf, scoredSaid, turnedAway, done, scoredOf}
 use Rattle.observed.specs.Colours.{wildColourAt, wildColours}
 use Rattle.observed.proofs.Places.{exact-xs, exact-ys}
 
@@ -173,12 +174,12 @@ module _ (q : Request) where
   number-of zero = refl
   number-of (suc n) = refl
 
-  answer-of : (n : ℕ) → outcomeNumber (decided n (turnedAway q) (done q) .answer) ≡ decided n (turnedAway q) (done q) .number
+  answer-of : (n : ℕ) → scoredSaid (decided n (turnedAway q) (done q) .answer) .number ≡ decided n (turnedAway q) (done q) .number
   unfolding decided
   answer-of zero = refl
   answer-of (suc n) = refl
 
-  done-of : (n : ℕ) → n ≡ 0 → decided n (turnedAway q) (done q) .answer ≡ Done
+  done-of : (n : ℕ) → n ≡ 0 → decided n (turnedAway q) (done q) .answer ≡ Done (reportOf q)
   unfolding decided
   done-of zero z = refl
   done-of (suc n) z = absurd (omega arith)
@@ -187,10 +188,16 @@ module _ (q : Request) where
   unfolding scoredOf
   number = number-of (refusal (sentencesOf q))
 
-  pub answer-number : outcomeNumber (scoredOf q .answer) ≡ scoredOf q .number
+  pub answer-number : scoredSaid (scoredOf q .answer) .number ≡ scoredOf q .number
   unfolding scoredOf
   answer-number = answer-of (refusal (sentencesOf q))
 
-  pub done-answer : scoredOf q .number ≡ 0 → scoredOf q .answer ≡ Done
+  pub done-answer : scoredOf q .number ≡ 0 → scoredOf q .answer ≡ Done (reportOf q)
   unfolding scoredOf
   done-answer z = done-of (refusal (sentencesOf q)) (sym (number-of (refusal (sentencesOf q))) ∙ z)
+
+  -- what is reported is the call's report
+  pub report-is : (r : ScoreReport) → scoredOf q .answer ≡ Done r → r ≡ reportOf q
+  report-is r e =
+      let z : scoredOf q .number ≡ 0 = sym answer-number ∙ ap (λ a. scoredSaid a .number) e in
+      Option·some-injective r (reportOf q) (ap (λ a. scoredSaid a .value) (sym e ∙ done-answer z))

@@ -13,10 +13,9 @@ use lib.Ieee.{Float, nan}
 use Rattle.sentences.specs.Sentences.{refusal, at, before}
 use Rattle.limits.specs.Chroma.{chromaOn, symbolBits, ringModules, chromaEntries, chromaLength}
 use Rattle.modulate.specs.declared.Cell.the-variants.{Unmasked, At}
-use Rattle.answers.specs.declared.Outcome.the-variants.{Done}
-use Rattle.answers.specs.Answers.{outcomeNumber}
+use Rattle.demod.specs.declared.Scored.the-variants.{Done}
 use Rattle.scores.specs.Score.{writeCells, writeRings, ringChroma, chromaWritten}
-use Rattle.demod.specs.Call.{Request, moduleColours, cellColours, sentencesOf, turnedAway, done, writtenModules, writtenChroma, scoredOf}
+use Rattle.demod.specs.Call.{Request, moduleColours, cellColours, sentencesOf, reportOf, scoredSaid, turnedAway, done, writtenModules, writtenChroma, scoredOf}
 use Rattle.demod.proofs.Accepted.{Accepted, accepted, number, answer-number, given, first, turned-away, taken}
 use Rattle.scores.proofs.Written.{Modules, modules-are, Entries, entryScore, place, cells-are, cellOf, rings-are, ring-has, ring-long, ring-below, ring-past}
 
@@ -121,9 +120,9 @@ module _ (q : Request) where
     pub chroma : chromaOn (q .layout .hues) ≡ true → Listed q
     pub no-chroma : chromaOn (q .layout .hues) ≡ false → writtenChroma q ≡ q .chroma
 
-  pub at-done : scoredOf q .answer ≡ Done → IsDone
+  pub at-done : scoredOf q .answer ≡ Done (reportOf q) → IsDone
   at-done h =
-      let e : 0 ≡ refusal (sentencesOf q) = sym (ap outcomeNumber h) ∙ (answer-number q ∙ number q) in
+      let e : 0 ≡ refusal (sentencesOf q) = sym (ap (λ a. scoredSaid a .number) h) ∙ (answer-number q ∙ number q) in
       let a = accepted q 0 e refl in
       record {
         fit = a;

@@ -16,7 +16,7 @@ use Rattle.color.specs.declared.Linear.{Linear}
 use Rattle.color.specs.Color.{whole, fraction, linearToLab}
 use Rattle.color.specs.Palette.{linearAt, wildLinear}
 use Rattle.color.proofs.Bounded.{lab-within}
-use Rattle.answers.specs.declared.Outcome.the-variants.{Done}
+use Rattle.demod.specs.declared.Scored.the-variants.{Done}
 use Rattle.illum.specs.declared.IlluminationModel.{IlluminationModel}
 use Rattle.illum.specs.Correct.{affineRow, mixed}
 use Rattle.stats.specs.declared.ChannelStats.{ChannelStats}
@@ -25,7 +25,7 @@ use Rattle.stats.proofs.Range.{Held, Good, good, luma-llr-in}
 use Rattle.stats.proofs.Reliable.{reliability-in}
 use Rattle.observed.specs.Colours.{moduleColour}
 use Rattle.scores.specs.Score.{weighed, lumaScore}
-use Rattle.demod.specs.Call.{Request, Final, moduleColours, scoredOf}
+use Rattle.demod.specs.Call.{Request, Final, moduleColours, reportOf, scoredOf}
 use Rattle.demod.proofs.Outcome.{at-done}
 
 -- the components are f32 values
@@ -57,7 +57,7 @@ module _ (n : ChannelStats) (g : Good n) (palette : List Float) (hues : ℕ) (c 
       either false = llr-in
 
 -- the scores that an accepted call leaves
-pub luma-in : (q : Request) → Held (q .noise) → scoredOf q .answer ≡ Done → (i : ℕ) → i < length (q .xs) → In binary32 (neg (whole 20)) (whole 20) (getD (scoredOf q .luma) i nan)
+pub luma-in : (q : Request) → Held (q .noise) → scoredOf q .answer ≡ Done (reportOf q) → (i : ℕ) → i < length (q .xs) → In binary32 (neg (whole 20)) (whole 20) (getD (scoredOf q .luma) i nan)
 luma-in q f e i l =
     let d = at-done q e in
     let a = d .fit in
@@ -65,7 +65,7 @@ luma-in q f e i l =
     rw (ap (λ (t : Final). getD (t .luma) i nan) (d .left) ∙ d .wrote .scored i l) s
 
 -- and the corrected colours, which pass sentence 8 in turn
-pub colour-tame : (q : Request) → scoredOf q .answer ≡ Done → (i : ℕ) → i < length (q .xs) → wildLinear (linearAt (scoredOf q .colours) i) ≡ false
+pub colour-tame : (q : Request) → scoredOf q .answer ≡ Done (reportOf q) → (i : ℕ) → i < length (q .xs) → wildLinear (linearAt (scoredOf q .colours) i) ≡ false
 colour-tame q e i l =
     let d = at-done q e in
     rw (ap (λ (t : Final). linearAt (t .colours) i) (d .left) ∙ d .wrote .coloured i l) (d .fit .modules-tame i l)

@@ -12,15 +12,16 @@ use Rattle.layout.specs.Groups.{shape, placement}
 use Rattle.limits.specs.Chroma.{chromaOn, ringModules, chromaLength}
 use Rattle.color.specs.declared.Linear.{Linear}
 use Rattle.color.specs.Palette.{wildIn}
-use Rattle.answers.specs.declared.Outcome.{Outcome}
-use Rattle.answers.specs.declared.Outcome.the-variants.{Refused, Done}
-use Rattle.answers.specs.Answers.{outcomeNumber}
+use Rattle.answers.specs.Answers.{Said, refusedBy, gives}
 use Rattle.illum.specs.declared.IlluminationModel.{IlluminationModel}
 use Rattle.illum.specs.Refusals.{badModel}
 use Rattle.stats.specs.declared.ChannelStats.{ChannelStats}
 use Rattle.stats.specs.Calls.{shortPalette, badNumbers, badSigmas}
-use Rattle.observed.specs.Colours.{moduleColour, cellColour, wildColours}
-use Rattle.scores.specs.Score.{Sheet, sheet, writeModules, chromaWritten}
+use Rattle.observed.specs.Colours.{moduleColour, cellColour, wildColours, heldModules}
+use Rattle.scores.specs.Score.{Sheet, sheet, writeModules, chromaWritten, chromaHeld}
+use Rattle.demod.specs.declared.ScoreReport.{ScoreReport}
+use Rattle.demod.specs.declared.Scored.{Scored}
+use Rattle.demod.specs.declared.Scored.the-variants.{Refused, Done}
 
 -- ---- the sentences that `score` puts together
 
@@ -99,23 +100,36 @@ writtenModules q = writeModules (q .noise) (q .palette) (q .layout .hues) (modul
 abbrev pub writtenChroma : Request → List Float
 writtenChroma q = chromaWritten (q .layout) (q .noise) (q .palette) (moduleColours q) (length (q .xs)) (q .cxs) (q .cys) (cellColours q) (q .chroma)
 
+-- what it counts: the modules that have a mark, a ring module that carries chroma being one of them, and the cells; two entries at one place are two
+unfoldable pub reportOf : Request → ScoreReport
+reportOf q =
+    record {
+      «held_modules» = heldModules (q .model) (q .xs) (q .ys) (length (q .xs));
+      «held_cells» = chromaHeld (q .layout) (q .model) (q .cxs) (q .cys);
+    }
+
+-- what each case of the answer says
+abbrev pub scoredSaid : Scored → Said ScoreReport
+scoredSaid (Refused n) = refusedBy n
+scoredSaid (Done r) = gives r
+
 -- what it gives back: document 01's number, its answer, and the three lent slices
 pub record Final : Type 0 where
   pub number : ℕ
-  pub answer : Outcome
+  pub answer : Scored
   pub luma : List Float
   pub colours : List Float
   pub chroma : List Float
 
-abbrev pub final : Outcome → List Float → List Float → List Float → Final
-final r luma colours chroma = record { number = outcomeNumber r; answer = r; luma = luma; colours = colours; chroma = chroma }
+abbrev pub final : Scored → List Float → List Float → List Float → Final
+final r luma colours chroma = record { number = scoredSaid r .number; answer = r; luma = luma; colours = colours; chroma = chroma }
 
 -- refused by sentence n: nothing changes
 abbrev pub turnedAway : Request → ℕ → Final
 turnedAway q n = final (Refused n) (q .luma) (q .colours) (q .chroma)
 
 abbrev pub done : Request → Final
-done q = final Done (writtenModules q .luma) (writtenModules q .colours) (writtenChroma q)
+done q = final (Done (reportOf q)) (writtenModules q .luma) (writtenModules q .colours) (writtenChroma q)
 
 unfoldable pub scoredOf : Request → Final
 scoredOf q = decided (refusal (sentencesOf q)) (turnedAway q) (done q)

@@ -2,7 +2,8 @@
 //
 // A first use: after `fit` gave the model and `measure` the noise record, `score` corrects the raw colours of a card's
 // modules and cells and writes a luma score a module, its corrected colour, and the chroma scores of the cells and, at
-// cell size 1, of the ring modules. Scores are positive for a 0.
+// cell size 1, of the ring modules. Scores are positive for a 0. It answers how many of these colours were corrected by a gain
+// that was held at 0.05.
 ghost use mathlib.Core.Path.{_≡_};
 ghost use Prim.Native.Nat.{_*_, _≤_};
 ghost use lib.ListN.{length};
@@ -14,12 +15,25 @@ ghost use Rattle.observed.specs.Ready.{Sampled};
 ghost use Rattle.demod.specs.Ready.{Scorable};
 ghost use Rattle.demod.specs.Call as call;
 ghost use Rattle.demod.specs.Call.{request, sentencesOf, final, done, scoredOf};
-ghost use Rattle.answers.specs.declared.Outcome.the-variants.{Done};
-use answers::Outcome;
+ghost use Rattle.demod.specs.declared.Scored.the-variants.{Done};
 use color::palette::wild_in;
 use illum::IlluminationModel;
 use layout::Layout;
 use stats::ChannelStats;
+
+// What `score` reports: how many modules and how many cells have a mark, a channel's gain, where they stand, being held at 0.05. A
+// ring module that carries chroma is one module. With chroma off no cell is corrected, and none has a mark.
+#[repr(C)]
+pub struct ScoreReport {
+    pub held_modules: usize,
+    pub held_cells: usize,
+}
+
+// What `score` answers: a refusal by its number, or that it is done, with its report.
+pub enum Scored {
+    Refused(u32),
+    Done(ScoreReport),
+}
 
 // ---- the sentences
 
@@ -188,7 +202,7 @@ fn refused(
 
 // ---- the call
 
-// Writes what an accepted call writes: the modules' colours and luma scores, and then the chroma scores.
+// Writes what an accepted call writes: the modules' colours and luma scores, and then the chroma scores. Says what the call reports.
 fn write_scores(
     layout: Layout,
     xs: &[i32],
@@ -203,12 +217,12 @@ fn write_scores(
     luma: &mut [f32],
     colours: &mut [f32],
     chroma: &mut [f32],
-)
+) -> ScoreReport
     requires { ⌜ Scorable layout (now xs) (now ys) (now raw) (now cxs) (now cys) (now craw) (now palette) (now luma) (now colours) (now chroma) ⌝ }
-    ensures { λ _. ⌜ final Done (now (luma .exit)) (now (colours .exit)) (now (chroma .exit)) ≡ done (request layout (now (xs .entry)) (now (ys .entry)) (now (raw .entry)) (now (cxs .entry)) (now (cys .entry)) (now (craw .entry)) (now (palette .entry)) model noise (now (luma .entry)) (now (colours .entry)) (now (chroma .entry))) ⌝ }
+    ensures { λ r. ⌜ final (Done r) (now (luma .exit)) (now (colours .exit)) (now (chroma .exit)) ≡ done (request layout (now (xs .entry)) (now (ys .entry)) (now (raw .entry)) (now (cxs .entry)) (now (cys .entry)) (now (craw .entry)) (now (palette .entry)) model noise (now (luma .entry)) (now (colours .entry)) (now (chroma .entry))) ⌝ }
 {
     let sigmas = scores::sigmas_of(noise, palette, layout.hues);
-    scores::write_modules(
+    let held_modules = scores::write_modules(
         noise,
         palette,
         layout.hues,
@@ -220,7 +234,7 @@ fn write_scores(
         luma,
         colours,
     );
-    scores::write_chroma(
+    let held_cells = scores::write_chroma(
         layout,
         noise,
         palette,
@@ -233,12 +247,17 @@ fn write_scores(
         craw,
         chroma,
     );
+    ScoreReport {
+        held_modules,
+        held_cells,
+    }
 }
 
 // Scores a card. `xs` and `ys` are its modules' positions, the first `grid` of them grid modules and the others ring
 // modules; `cxs` and `cys` its cells' coordinates; `raw` and `craw` hold three linear components a module and a cell.
 // Writes a luma score a module, three components of its corrected colour, and, with chroma on, log2(hues) scores a cell
-// and then, at cell size 1, a ring module. Refused: 2, 3, 4, 5, 6, 7, 8, 9, 10, 12.
+// and then, at cell size 1, a ring module. Reports how many modules and how many cells have a mark, each counted once. Refused: 2,
+// 3, 4, 5, 6, 7, 8, 9, 10, 12.
 pub fn score(
     layout: Layout,
     xs: &[i32],
@@ -253,7 +272,7 @@ pub fn score(
     luma: &mut [f32],
     colours: &mut [f32],
     chroma: &mut [f32],
-) -> Outcome
+) -> Scored
     ensures { λ r. ⌜ final r (now (luma .exit)) (now (colours .exit)) (now (chroma .exit)) ≡ scoredOf (request layout (now (xs .entry)) (now (ys .entry)) (now (raw .entry)) (now (cxs .entry)) (now (cys .entry)) (now (craw .entry)) (now (palette .entry)) model noise (now (luma .entry)) (now (colours .entry)) (now (chroma .entry))) ⌝ }
 {
     let n = refused(
@@ -272,9 +291,9 @@ pub fn score(
         chroma,
     );
     if n != 0 {
-        return Outcome::Refused(n);
+        return Scored::Refused(n);
     }
-    write_scores(
+    let report = write_scores(
         layout,
         xs,
         ys,
@@ -289,5 +308,5 @@ pub fn score(
         colours,
         chroma,
     );
-    Outcome::Done
+    Scored::Done(report)
 }

@@ -1,6 +1,6 @@
 // Replays the stored answers of the crate `demod`: the answer of each call, and the three slices that it leaves behind,
 // every bit.
-use answers::outcome_number;
+use demod::Scored;
 use illum::IlluminationModel;
 use layout::Layout;
 use stage_words::count;
@@ -32,6 +32,18 @@ fn card_at(row: &[u64], at_grid: usize, at_model: usize) -> Card {
     }
 }
 
+// 0 and how many modules and how many cells have a mark, or the refusal's number.
+fn put_scored(got: &mut [u64], s: Scored) -> usize {
+    match s {
+        Scored::Refused(number) => vectors::put(got, 0, number as u64),
+        Scored::Done(report) => {
+            let to_modules = vectors::put(got, 0, 0);
+            let to_cells = vectors::put(got, to_modules, report.held_modules as u64);
+            vectors::put(got, to_cells, report.held_cells as u64)
+        }
+    }
+}
+
 // Puts what the call answers, and the outputs that it leaves.
 fn score_in(
     card: Card,
@@ -50,7 +62,7 @@ fn score_in(
     let layout = card.layout;
     let model = card.model;
     let noise = card.noise;
-    let outcome = demod::score(
+    let scored = demod::score(
         layout,
         xs,
         ys,
@@ -65,7 +77,7 @@ fn score_in(
         colours,
         chroma,
     );
-    let to_luma = vectors::put(got, 0, outcome_number(outcome) as u64);
+    let to_luma = put_scored(got, scored);
     let to_colours = vectors::store_f32(luma, got, to_luma);
     let to_chroma = vectors::store_f32(colours, got, to_colours);
     vectors::store_f32(chroma, got, to_chroma)
@@ -179,7 +191,7 @@ fn score_cells(
 }
 
 // score side hues size |xs| |ys| grid |raw| |cxs| |cys| |cell_raw| |palette| MODEL STATS luma colours chroma fill
-//     = no |luma|' |colours|' |chroma|'
+//     = no modules cells |luma|' |colours|' |chroma|'
 fn score(row: &[u64], got: &mut [u64]) -> usize {
     let mut xs = [0i32; 64];
     let mut ys = [0i32; 64];

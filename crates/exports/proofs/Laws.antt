@@ -23,12 +23,14 @@ use Rattle.modulate.specs.Score as write
 use Rattle.order.specs.Deviation as deviation
 use Rattle.refine.specs.Calls as refine
 use Rattle.modulate.specs.declared.Cell as cell
-use Rattle.stats.specs.declared.ChannelStats.{ChannelStats}
+use Rattle.demod.specs.declared.Scored.{Scored}
+use Rattle.measure.specs.declared.Measurement.{Measurement}
 use Rattle.exports.specs.declared.replies.SolveAnswer.{SolveAnswer}
 use Rattle.exports.specs.declared.replies.NumberAnswer.{NumberAnswer}
-use Rattle.exports.specs.declared.replies.NoiseAnswer.{NoiseAnswer}
+use Rattle.exports.specs.declared.replies.MeasureAnswer.{MeasureAnswer}
+use Rattle.exports.specs.declared.replies.ScoreAnswer.{ScoreAnswer}
 use Rattle.exports.specs.declared.replies.FloatAnswer.{FloatAnswer}
-use Rattle.exports.specs.Replies.{solveAnswer, numberAnswer, noiseAnswer, floatAnswer}
+use Rattle.exports.specs.Replies.{solveAnswer, numberAnswer, measureAnswer, scoreAnswer, floatAnswer}
 use Rattle.exports.specs.Exits.{exit1, exit2, exit3, exit6, solveExit, measureExit, scoreExit, readExit, refineExit, addRowExit, fittedExit, sigmaExit, writeExit, drawExit, nearExit}
 
 pub solve-exit : {s : told.Said Bool} {r : SolveAnswer} {a b x : List Float} {f : gauss.Final} →
@@ -36,18 +38,18 @@ pub solve-exit : {s : told.Said Bool} {r : SolveAnswer} {a b x : List Float} {f 
 unfolding solveExit
 solve-exit p q = rw (p, ← q)
 
-pub measure-exit : {s : told.Said ChannelStats} {r : NoiseAnswer} {l : List Float} {f : measure.Final} →
-    r ≡ noiseAnswer s → measure.final s l ≡ f → exit1 r l ≡ measureExit f
+pub measure-exit : {s : told.Said Measurement} {r : MeasureAnswer} {l : List Float} {f : measure.Final} →
+    r ≡ measureAnswer s → measure.final s l ≡ f → exit1 r l ≡ measureExit f
 unfolding measureExit
 measure-exit p q = rw (p, ← q)
 
-pub score-exit : {o : writing.Outcome} {r : ℕ} {a b c : List Float} {f : demod.Final} →
-    r ≡ told.outcomeNumber o → demod.final o a b c ≡ f → exit3 r a b c ≡ scoreExit f
+pub score-exit : {o : Scored} {r : ScoreAnswer} {a b c : List Float} {f : demod.Final} →
+    r ≡ scoreAnswer (demod.scoredSaid o) → demod.final o a b c ≡ f → exit3 r a b c ≡ scoreExit f
 unfolding scoreExit
 score-exit p q = rw (p, ← q)
 
-pub read-exit : {o : writing.Outcome} {r : ℕ} {luma colours chroma scratch : List Float} {b y : List ℕ} {f : bits.Left} →
-    r ≡ told.outcomeNumber o → bits.left o luma colours chroma scratch b y ≡ f → exit6 r luma colours chroma scratch b y ≡ readExit f
+pub read-exit : {o : Scored} {r : ScoreAnswer} {luma colours chroma scratch : List Float} {b y : List ℕ} {f : bits.Left} →
+    r ≡ scoreAnswer (demod.scoredSaid o) → bits.left o luma colours chroma scratch b y ≡ f → exit6 r luma colours chroma scratch b y ≡ readExit f
 unfolding readExit
 read-exit p q = rw (p, ← q)
 

@@ -14,9 +14,10 @@ use Rattle.order.specs.Deviation as deviation
 use Rattle.refine.specs.Calls as refine
 use Rattle.exports.specs.declared.replies.SolveAnswer.{SolveAnswer}
 use Rattle.exports.specs.declared.replies.NumberAnswer.{NumberAnswer}
-use Rattle.exports.specs.declared.replies.NoiseAnswer.{NoiseAnswer}
+use Rattle.exports.specs.declared.replies.MeasureAnswer.{MeasureAnswer}
+use Rattle.exports.specs.declared.replies.ScoreAnswer.{ScoreAnswer}
 use Rattle.exports.specs.declared.replies.FloatAnswer.{FloatAnswer}
-use Rattle.exports.specs.Replies.{solveAnswer, numberAnswer, noiseAnswer, floatAnswer}
+use Rattle.exports.specs.Replies.{solveAnswer, numberAnswer, measureAnswer, scoreAnswer, floatAnswer}
 
 -- an answer, and one, two or three lent slices
 pub record Exit1 (R A : Type 0) : Type 0 where
@@ -48,26 +49,26 @@ unfoldable pub solveExit : gauss.Final → Exit3 SolveAnswer Float Float Float
 solveExit f = exit3 (solveAnswer (f .said)) (f .a) (f .b) (f .x)
 
 -- `measure`, `measure_flat`
-unfoldable pub measureExit : measure.Final → Exit1 NoiseAnswer Float
-measureExit f = exit1 (noiseAnswer (f .said)) (f .scratch)
+unfoldable pub measureExit : measure.Final → Exit1 MeasureAnswer Float
+measureExit f = exit1 (measureAnswer (f .said)) (f .scratch)
 
 -- `score`
-unfoldable pub scoreExit : demod.Final → Exit3 ℕ Float Float Float
-scoreExit f = exit3 (f .number) (f .luma) (f .colours) (f .chroma)
+unfoldable pub scoreExit : demod.Final → Exit3 ScoreAnswer Float Float Float
+scoreExit f = exit3 (scoreAnswer (demod.scoredSaid (f .answer))) (f .luma) (f .colours) (f .chroma)
 
-abbrev pub scored : demod.Request → Exit3 ℕ Float Float Float
+abbrev pub scored : demod.Request → Exit3 ScoreAnswer Float Float Float
 scored q = scoreExit (demod.scoredOf q)
 
 -- `read_bits`, which is lent six slices
 pub record Exit6 : Type 0 where
-  pub answer : ℕ
+  pub answer : ScoreAnswer
   pub lent : bits.Lent
 
-abbrev pub exit6 : ℕ → List Float → List Float → List Float → List Float → List ℕ → List ℕ → Exit6
+abbrev pub exit6 : ScoreAnswer → List Float → List Float → List Float → List Float → List ℕ → List ℕ → Exit6
 exit6 r luma colours chroma scratch b y = record { answer = r; lent = bits.lent luma colours chroma scratch b y }
 
 unfoldable pub readExit : bits.Left → Exit6
-readExit f = record { answer = f .number; lent = f .lent }
+readExit f = record { answer = scoreAnswer (demod.scoredSaid (f .answer)); lent = f .lent }
 
 -- `add_local_luma`
 unfoldable pub refineExit : refine.Final → Exit2 ℕ Float Float

@@ -6,6 +6,9 @@ use Prim.Native.Nat.{ℕ}
 use lib.Ieee.{Float, binary32, ofBits}
 use Rattle.answers.specs.Answers.{Said}
 use Rattle.color.specs.declared.Linear.{Linear}
+use Rattle.demod.specs.declared.ScoreReport.{ScoreReport}
+use Rattle.illum.specs.declared.Marked.{Marked}
+use Rattle.measure.specs.declared.Measurement.{Measurement}
 use Rattle.modulate.specs.declared.Cell.{Cell}
 use Rattle.modulate.specs.declared.Cell.the-variants as cell
 use Rattle.stats.specs.declared.ChannelStats.{ChannelStats}
@@ -23,6 +26,8 @@ use Rattle.totals.specs.Batch as batch
 use Rattle.totals.specs.LowestTerms as mean
 use Rattle.exports.specs.declared.replies.TotalsAnswer.{TotalsAnswer}
 use Rattle.exports.specs.declared.replies.RatioAnswer.{RatioAnswer}
+use Rattle.exports.specs.declared.replies.MeasureAnswer.{MeasureAnswer}
+use Rattle.exports.specs.declared.replies.ScoreAnswer.{ScoreAnswer}
 
 -- what stands where there is no value: +0, whose bits are all zero
 abbrev pub zero : Float
@@ -31,9 +36,18 @@ zero = ofBits binary32 0
 abbrev pub noColour : Linear
 noColour = record { r = zero; g = zero; b = zero }
 
+abbrev pub noMarked : Marked
+noMarked = record { colour = noColour; «held_r» = false; «held_g» = false; «held_b» = false }
+
 abbrev pub noRecord : ChannelStats
 noRecord =
     record { l0 = zero; l1 = zero; «sigma_l» = zero; «sigma_ab» = zero; «sigma_ab_dark» = zero; «sigma_ab_light» = zero; samples = 0 }
+
+abbrev pub noMeasurement : Measurement
+noMeasurement = record { noise = noRecord; held = 0 }
+
+abbrev pub noReport : ScoreReport
+noReport = record { «held_modules» = 0; «held_cells» = 0 }
 
 -- ---- each struct by its fields
 
@@ -49,11 +63,17 @@ judged n b = record { number = n; yes = b }
 abbrev pub valued : ℕ → Float → FloatAnswer
 valued n v = record { number = n; value = v }
 
-abbrev pub corrected : ℕ → Linear → LinearAnswer
-corrected n c = record { number = n; colour = c }
+abbrev pub corrected : ℕ → Marked → LinearAnswer
+corrected n c = record { number = n; colour = c .colour; «held_r» = c .«held_r»; «held_g» = c .«held_g»; «held_b» = c .«held_b» }
 
-abbrev pub measured : ℕ → ChannelStats → NoiseAnswer
-measured n c = record { number = n; noise = c }
+abbrev pub noted : ℕ → ChannelStats → NoiseAnswer
+noted n c = record { number = n; noise = c }
+
+abbrev pub measured : ℕ → Measurement → MeasureAnswer
+measured n m = record { number = n; noise = m .noise; held = m .held }
+
+abbrev pub scored : ℕ → ScoreReport → ScoreAnswer
+scored n r = record { number = n; «held_modules» = r .«held_modules»; «held_cells» = r .«held_cells» }
 
 abbrev pub totalled : ℕ → Totals → TotalsAnswer
 totalled n t = record { number = n; totals = t }
@@ -72,12 +92,20 @@ abbrev pub solveAnswer : Said Bool → SolveAnswer
 solveAnswer s = structOf solution false s
 
 -- `correct`
-abbrev pub linearAnswer : Said Linear → LinearAnswer
-linearAnswer s = structOf corrected noColour s
+abbrev pub linearAnswer : Said Marked → LinearAnswer
+linearAnswer s = structOf corrected noMarked s
 
--- `measure`, `measure_flat`, `nominal`
+-- `measure`, `measure_flat`
+abbrev pub measureAnswer : Said Measurement → MeasureAnswer
+measureAnswer s = structOf measured noMeasurement s
+
+-- `score`, `read_bits`
+abbrev pub scoreAnswer : Said ScoreReport → ScoreAnswer
+scoreAnswer s = structOf scored noReport s
+
+-- `nominal`
 abbrev pub noiseAnswer : Said ChannelStats → NoiseAnswer
-noiseAnswer s = structOf measured noRecord s
+noiseAnswer s = structOf noted noRecord s
 
 -- `mad_sigma`, `sigma_ab_at`, `luma_llr`, `reliability`
 abbrev pub floatAnswer : Said Float → FloatAnswer

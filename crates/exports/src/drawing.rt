@@ -144,8 +144,8 @@ pub extern "C" fn purdolve_read_list(scores: &[f32], bits: &mut [u8]) -> u32
     answers::outcome_number(reading::read_list(scores, bits))
 }
 
-// Lays a read card out as a page of text, from its unmasked luma scores: side + 1 lines of 40 columns and a line feed, at the front
-// of `out`. Answers document 01's number. Refused: 2, 5 (fewer than 41 × (side + 1) bytes too), 6 (a count above 16,384 too), 7, 10,
+// Lays a read card out as a page of text, from its unmasked luma scores: side + 1 lines of 50 columns and a line feed, at the front
+// of `out`. Answers document 01's number. Refused: 2, 5 (fewer than 51 × (side + 1) bytes too), 6 (a count above its limit too), 7, 10,
 // 14 (the side is above 40); nothing is written then.
 #[no_mangle]
 pub extern "C" fn purdolve_page(
@@ -153,15 +153,16 @@ pub extern "C" fn purdolve_page(
     terms: usize,
     kept: u32,
     rejected: u32,
+    held: usize,
     xs: &[i32],
     ys: &[i32],
     grid: usize,
     luma: &[f32],
     out: &mut [u8],
 ) -> u32
-    ensures { λ r. ⌜ exits.exit1 r (now (out .exit)) ≡ exits.writeExit (page_call.pageOf (page_call.request side terms kept rejected (now (xs .entry)) (now (ys .entry)) grid (now (luma .entry)) (now (out .entry)))) ⌝ }
+    ensures { λ r. ⌜ exits.exit1 r (now (out .exit)) ≡ exits.writeExit (page_call.pageOf (page_call.request side terms kept rejected held (now (xs .entry)) (now (ys .entry)) grid (now (luma .entry)) (now (out .entry)))) ⌝ }
 {
-    answers::outcome_number(page::page(side, terms, kept, rejected, xs, ys, grid, luma, out))
+    answers::outcome_number(page::page(side, terms, kept, rejected, held, xs, ys, grid, luma, out))
 }
 
 // The level of a grid module, 1 for light: its bit, other than 0 for 1, turned where the mask turns it.

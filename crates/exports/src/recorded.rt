@@ -5,7 +5,7 @@ ghost use Rattle.measure.specs.Measure as measure_call;
 ghost use Rattle.records.specs.Records as records_call;
 ghost use Rattle.exports.specs.Exits as exits;
 use super::replies;
-use super::replies::NoiseAnswer;
+use super::replies::MeasureAnswer;
 use illum::IlluminationModel;
 use illum::Modelled;
 use records::Reference;
@@ -26,8 +26,8 @@ pub extern "C" fn purdolve_fit(
     records::fit(refs, side, version, kept, scratch)
 }
 
-// Measures the noise record from references as records, corrected by the model: what `purdolve_measure_flat` gives of the same
-// floats. Takes 512 KB of stack for a copy of them. Refused: 2, 3, 5, 6, 7, 8, 10, 12; scratch is untouched then.
+// Measures the noise record from references as records, corrected by the model, and counts those that have a mark: what
+// `purdolve_measure_flat` gives of the same floats. Takes 512 KB of stack for a copy of them. Refused: 2, 3, 5, 6, 7, 8, 10, 12; scratch is untouched then.
 #[no_mangle]
 pub extern "C" fn purdolve_measure(
     refs: &[Reference],
@@ -36,8 +36,8 @@ pub extern "C" fn purdolve_measure(
     palette: &[f32],
     hues: usize,
     scratch: &mut [f32],
-) -> NoiseAnswer
+) -> MeasureAnswer
     ensures { λ r. ⌜ exits.exit1 r (now (scratch .exit)) ≡ exits.measureExit (measure_call.measureOf (measure_call.flatRequest (records_call.flattened (now (refs .entry))) side model (now (palette .entry)) hues (now (scratch .entry)))) ⌝ }
 {
-    replies::noise_answer(records::measure(refs, side, model, palette, hues, scratch))
+    replies::measure_answer(records::measure(refs, side, model, palette, hues, scratch))
 }

@@ -3,8 +3,10 @@
 ghost use mathlib.Core.Path.{_≡_};
 ghost use Rattle.answers.specs.Answers.{said};
 ghost use Rattle.color.specs.Palette.{flagSaid};
+ghost use Rattle.demod.specs.Call.{scoredSaid};
 ghost use Rattle.illum.specs.Refusals.{correctionSaid};
 ghost use Rattle.math.specs.Gauss.{solvingSaid};
+ghost use Rattle.measure.specs.Measure.{measuredSaid};
 ghost use Rattle.order.specs.Deviation.{sigmaSaid};
 ghost use Rattle.stats.specs.Calls.{figureSaid, noiseSaid};
 ghost use Rattle.margin.specs.Calls.{verdictSaid};
@@ -14,10 +16,12 @@ ghost use Rattle.exports.specs.Replies as spec;
 use answers::Number;
 use color::Linear;
 use color::palette::Flag;
+use demod::Scored;
 use illum::Correction;
 use margin::Threshold;
 use margin::Verdict;
 use math::Solving;
+use measure::Measured;
 use modulate::Cell;
 use order::Sigma;
 use stats::ChannelStats;
@@ -56,11 +60,14 @@ pub struct FloatAnswer {
     pub value: f32,
 }
 
-// A colour.
+// A corrected colour, and the channels whose gain was held.
 #[repr(C)]
 pub struct LinearAnswer {
     pub number: u32,
     pub colour: Linear,
+    pub held_r: bool,
+    pub held_g: bool,
+    pub held_b: bool,
 }
 
 // A noise record.
@@ -82,6 +89,22 @@ pub struct TotalsAnswer {
 pub struct RatioAnswer {
     pub number: u32,
     pub ratio: Ratio,
+}
+
+// A measured noise record, and how many of its references have a mark.
+#[repr(C)]
+pub struct MeasureAnswer {
+    pub number: u32,
+    pub noise: ChannelStats,
+    pub held: usize,
+}
+
+// How many modules and how many cells have a mark.
+#[repr(C)]
+pub struct ScoreAnswer {
+    pub number: u32,
+    pub held_modules: usize,
+    pub held_cells: usize,
 }
 
 // Of `solve`, `finish` and `least_squares`.
@@ -116,15 +139,71 @@ pub fn linear_answer(o: Correction) -> LinearAnswer
                 g: 0.0,
                 b: 0.0,
             },
+            held_r: false,
+            held_g: false,
+            held_b: false,
         },
-        Correction::Corrected(c) => LinearAnswer {
+        Correction::Corrected(c) => {
+            let colour = c.colour;
+            LinearAnswer {
+                number: 0,
+                colour,
+                held_r: c.held_r,
+                held_g: c.held_g,
+                held_b: c.held_b,
+            }
+        }
+    }
+}
+
+// Of `measure` and `measure_flat`.
+pub fn measure_answer(o: Measured) -> MeasureAnswer
+    ensures { λ r. ⌜ r ≡ spec.measureAnswer (measuredSaid o) ⌝ }
+{
+    match o {
+        Measured::Refused(n) => MeasureAnswer {
+            number: n,
+            noise: ChannelStats {
+                l0: 0.0,
+                l1: 0.0,
+                sigma_l: 0.0,
+                sigma_ab: 0.0,
+                sigma_ab_dark: 0.0,
+                sigma_ab_light: 0.0,
+                samples: 0,
+            },
+            held: 0,
+        },
+        Measured::Record(m) => {
+            let noise = m.noise;
+            MeasureAnswer {
+                number: 0,
+                noise,
+                held: m.held,
+            }
+        }
+    }
+}
+
+// Of `score` and `read_bits`.
+pub fn score_answer(o: Scored) -> ScoreAnswer
+    ensures { λ r. ⌜ r ≡ spec.scoreAnswer (scoredSaid o) ⌝ }
+{
+    match o {
+        Scored::Refused(n) => ScoreAnswer {
+            number: n,
+            held_modules: 0,
+            held_cells: 0,
+        },
+        Scored::Done(report) => ScoreAnswer {
             number: 0,
-            colour: c,
+            held_modules: report.held_modules,
+            held_cells: report.held_cells,
         },
     }
 }
 
-// Of `measure`, `measure_flat` and `nominal`.
+// Of `nominal`.
 pub fn noise_answer(o: Noise) -> NoiseAnswer
     ensures { λ r. ⌜ r ≡ spec.noiseAnswer (noiseSaid o) ⌝ }
 {

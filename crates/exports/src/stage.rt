@@ -18,7 +18,9 @@ use super::replies;
 use super::replies::FlagAnswer;
 use super::replies::FloatAnswer;
 use super::replies::LinearAnswer;
+use super::replies::MeasureAnswer;
 use super::replies::NoiseAnswer;
+use super::replies::ScoreAnswer;
 use color::Lab;
 use color::Linear;
 use illum::IlluminationModel;
@@ -26,7 +28,8 @@ use illum::Modelled;
 use layout::Layout;
 use stats::ChannelStats;
 
-// An observed colour at a position, corrected by a model that is lent part by part. Refused: 8, 10.
+// An observed colour at a position, corrected by a model that is lent part by part, with the marks of the channels whose gain was
+// held. Refused: 8, 10.
 #[no_mangle]
 pub extern "C" fn purdolve_correct_lent<'a>(
     terms: usize,
@@ -82,8 +85,8 @@ pub extern "C" fn purdolve_fit_flat(
     fit::fit_flat(flat, side, version, kept, scratch)
 }
 
-// Measures the noise record from references in flat floats, corrected by the model. Scratch of 4 × references is all zero
-// afterwards. Refused: 2, 3, 5, 6, 7, 8, 10, 12; scratch is untouched then.
+// Measures the noise record from references in flat floats, corrected by the model, and counts those that have a mark. Scratch of
+// 4 × references is all zero afterwards. Refused: 2, 3, 5, 6, 7, 8, 10, 12; scratch is untouched then.
 #[no_mangle]
 pub extern "C" fn purdolve_measure_flat(
     flat: &[f32],
@@ -92,15 +95,15 @@ pub extern "C" fn purdolve_measure_flat(
     palette: &[f32],
     hues: usize,
     scratch: &mut [f32],
-) -> NoiseAnswer
+) -> MeasureAnswer
     ensures { λ r. ⌜ exits.exit1 r (now (scratch .exit)) ≡ exits.measureExit (measure_call.measureOf (measure_call.flatRequest (now (flat .entry)) side model (now (palette .entry)) hues (now (scratch .entry)))) ⌝ }
 {
-    replies::noise_answer(measure::measure_flat(flat, side, model, palette, hues, scratch))
+    replies::measure_answer(measure::measure_flat(flat, side, model, palette, hues, scratch))
 }
 
 // Scores a card: writes a luma score a module, three components of its corrected colour, and, with chroma on, log2(hues) scores a
-// cell and then, at cell size 1, a ring module. Answers document 01's number. Refused: 2, 3, 4, 5, 6, 7, 8, 9, 10, 12; nothing is
-// written then.
+// cell and then, at cell size 1, a ring module. Answers document 01's number, and how many modules and how many cells have a mark.
+// Refused: 2, 3, 4, 5, 6, 7, 8, 9, 10, 12; nothing is written then.
 #[no_mangle]
 pub extern "C" fn purdolve_score(
     side: usize,
@@ -119,7 +122,7 @@ pub extern "C" fn purdolve_score(
     luma: &mut [f32],
     colours: &mut [f32],
     chroma: &mut [f32],
-) -> u32
+) -> ScoreAnswer
     ensures { λ r. ⌜ exit3 r (now (luma .exit)) (now (colours .exit)) (now (chroma .exit)) ≡ scored (toScore side hues size grid (now (xs .entry)) (now (ys .entry)) (now (raw .entry)) (now (cxs .entry)) (now (cys .entry)) (now (craw .entry)) (now (palette .entry)) model noise (now (luma .entry)) (now (colours .entry)) (now (chroma .entry))) ⌝ }
 {
     let layout = Layout {
@@ -128,7 +131,7 @@ pub extern "C" fn purdolve_score(
         size,
         grid,
     };
-    answers::outcome_number(demod::score(
+    replies::score_answer(demod::score(
         layout,
         xs,
         ys,
@@ -177,8 +180,8 @@ pub extern "C" fn purdolve_add_local_luma(
 }
 
 // Reads a card from its raw colours in one call: scores it, refines and unmasks the luma scores in place, and writes the bits of
-// the modules and of the symbols. Answers document 01's number, that of the first of the calls that is refused; the memory is then
-// as that call left it. Refused: 2, 3, 4, 5, 6, 7, 8, 9, 10, 12.
+// the modules and of the symbols. Answers as scoring does, or the number of the first of the calls that is refused; the memory is
+// then as that call left it. Refused: 2, 3, 4, 5, 6, 7, 8, 9, 10, 12.
 #[no_mangle]
 pub extern "C" fn purdolve_read_bits(
     side: usize,
@@ -201,7 +204,7 @@ pub extern "C" fn purdolve_read_bits(
     scratch: &mut [f32],
     bits: &mut [u8],
     symbols: &mut [u8],
-) -> u32
+) -> ScoreAnswer
     ensures { λ r. ⌜ exits.exit6 r (now (luma .exit)) (now (colours .exit)) (now (chroma .exit)) (now (scratch .exit)) (now (bits .exit)) (now (symbols .exit)) ≡ exits.readExit (readOf
         (setting (layout side hues size grid) (now (xs .entry)) (now (ys .entry)) (now (cxs .entry)) (now (cys .entry)) (now (palette .entry)) mask model noise)
         (card (now (raw .entry)) (now (craw .entry)) (now (luma .entry)) (now (colours .entry)) (now (chroma .entry)) (now (scratch .entry)) (now (bits .entry)) (now (symbols .entry)))) ⌝ }
@@ -212,7 +215,7 @@ pub extern "C" fn purdolve_read_bits(
         size,
         grid,
     };
-    answers::outcome_number(bits::read_bits(
+    replies::score_answer(bits::read_bits(
         layout,
         xs,
         ys,

@@ -3,6 +3,7 @@ pub mod First
 pub mod Gaps
 pub mod Inverses
 pub mod Lent
+pub mod Marks
 pub mod Moderate
 pub mod Passes
 pub mod Rounded

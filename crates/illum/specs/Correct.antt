@@ -1,7 +1,7 @@
 -- The correction of an observed colour, and the models that correct nothing: the Rust's `correct` and `identity`. Definitions only.
-use mathlib.Core.Bool.{false}
+use mathlib.Core.Bool.{Bool, false, cond, _||_}
 use mathlib.Core.List.{List, [], _∷_}
-use Prim.Native.Nat.{ℕ}
+use Prim.Native.Nat.{ℕ, _+_}
 use lib.IntN.{pos}
 use lib.ListN.{getD}
 use lib.Ieee.{Float, nan, fin, binary32, binary64, add, mul, ofInt}
@@ -11,7 +11,7 @@ use Rattle.illum.specs.declared.Unshaded.{Unshaded}
 use Rattle.illum.specs.declared.Marked.{Marked}
 use Rattle.illum.specs.declared.Unrounded.{Unrounded}
 use Rattle.illum.specs.declared.IlluminationModel.{IlluminationModel}
-use Rattle.illum.specs.Surface.{zero64, one64, basisAt, deshade}
+use Rattle.illum.specs.Surface.{zero64, one64, basisAt, surfaceAt, isHeld, deshade}
 
 -- ---- correct
 
@@ -64,19 +64,35 @@ rows m d =
 abbrev pub rounded : Unrounded → Linear
 rounded v = record { r = toSingle (v .r); g = toSingle (v .g); b = toSingle (v .b) }
 
+-- a colour, with the mark of each inverse
+abbrev pub marked : Linear → Unshaded → Marked
+marked c d = record { colour = c; «held_r» = d .r .held; «held_g» = d .g .held; «held_b» = d .b .held }
+
 -- the affine part over them, with the mark of each
 unfoldable pub mixed : IlluminationModel → Unshaded → Marked
-mixed m d =
-    record {
-      colour = mixedBy (m .«affine_r») (m .«affine_g») (m .«affine_b») d;
-      «held_r» = d .r .held;
-      «held_g» = d .g .held;
-      «held_b» = d .b .held;
-    }
+mixed m d = marked (mixedBy (m .«affine_r») (m .«affine_g») (m .«affine_b») d) d
 
 -- the Rust's `correct`, with the marks of the channels whose gain was held
 abbrev pub corrected : IlluminationModel → Float → Float → Linear → Marked
 corrected m x y c = mixed m (unshaded m x y c)
+
+-- ---- the marks
+
+-- whether one of the three is set
+unfoldable pub anyHeld : Unshaded → Bool
+anyHeld d = d .r .held || d .g .held || d .b .held
+
+-- one more than k where one is
+unfoldable pub countHeld : Unshaded → ℕ → ℕ
+countHeld d k = cond (anyHeld d) (k + 1) k
+
+-- a channel's gain at a position, as its surface sums it, before it is held
+abbrev pub gainBefore : IlluminationModel → List Float → Float → Float → Float
+gainBefore m gain x y = surfaceAt (m .terms) gain (basisAt (m .terms) (m .side) x y)
+
+-- whether a colour that is corrected at a position has a mark: the colour itself plays no part
+unfoldable pub heldAt : IlluminationModel → Float → Float → Bool
+heldAt m x y = isHeld (gainBefore m (m .«gain_r») x y) || isHeld (gainBefore m (m .«gain_g») x y) || isHeld (gainBefore m (m .«gain_b») x y)
 
 -- ---- a model that is lent part by part
 

@@ -14,6 +14,7 @@ use Rattle.answers.specs.Answers.{Said, refusedBy, gives, answered}
 use Rattle.color.specs.declared.Linear.{Linear}
 use Rattle.color.specs.Palette.{wildLinear}
 use Rattle.illum.specs.declared.IlluminationModel.{IlluminationModel}
+use Rattle.illum.specs.declared.Marked.{Marked}
 use Rattle.illum.specs.declared.Modelled.{Modelled}
 use Rattle.illum.specs.declared.Correction.{Correction}
 use Rattle.illum.specs.declared.Correction.the-variants.{Refused, Corrected}
@@ -94,9 +95,9 @@ unfoldable pub sentencesOf : IlluminationModel → Linear → List Sentence
 sentencesOf m c = (8 when wildLinear c) ∷ (10 when badModel m) ∷ []
 
 -- what each case of the answer says
-abbrev pub correctionSaid : Correction → Said Linear
+abbrev pub correctionSaid : Correction → Said Marked
 correctionSaid (Refused n) = refusedBy n
 correctionSaid (Corrected c) = gives c
 
-unfoldable pub correctOf : IlluminationModel → Float → Float → Linear → Said Linear
-correctOf m x y c = answered (sentencesOf m c) (corrected m x y c .colour)
+unfoldable pub correctOf : IlluminationModel → Float → Float → Linear → Said Marked
+correctOf m x y c = answered (sentencesOf m c) (corrected m x y c)

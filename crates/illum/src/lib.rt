@@ -5,7 +5,7 @@
 //     correct:  nominal   =  affine * [(observed - flare(x, y)) / gain(x, y)]
 ghost use mathlib.Core.Path.{_≡_};
 ghost use mathlib.Core.Bool.{not, _||_};
-ghost use Prim.Native.Nat.{_≤_};
+ghost use Prim.Native.Nat.{_+_, _<_, _≤_};
 ghost use lib.Ieee.Scale.{finite};
 ghost use lib.ListN.{length};
 ghost use Rattle.float.specs.Single.{toSingle};
@@ -70,7 +70,9 @@ pub struct Unrounded {
     pub b: f64,
 }
 
-// A corrected colour, and the channels whose gain was held.
+// A corrected colour, with a mark a channel: whether the gain, as the surface sums it at the position, was under 0.05 in magnitude and
+// so was held at 0.05. Either zero is; 0.05 itself, an infinity and a NaN are not.
+#[repr(C)]
 pub struct Marked {
     pub colour: Linear,
     pub held_r: bool,
@@ -84,10 +86,10 @@ pub struct Span {
     pub hi: f32,
 }
 
-// What `correct` answers: a refusal by its number, or the corrected colour.
+// What `correct` answers: a refusal by its number, or the corrected colour with its marks.
 pub enum Correction {
     Refused(u32),
-    Corrected(Linear),
+    Corrected(Marked),
 }
 
 // ---- the surfaces
@@ -283,6 +285,27 @@ pub fn mix(model: IlluminationModel, d: Unshaded) -> Marked
     }
 }
 
+// Whether one of the three marks is set.
+fn any_held(d: Unshaded) -> bool
+    ensures { λ r. ⌜ r ≡ spec.anyHeld d ⌝ }
+{
+    let r = d.r;
+    let g = d.g;
+    let b = d.b;
+    r.held | g.held | b.held
+}
+
+// Core: one more than k where one of the three marks is set: a colour with two or three marks is counted once.
+pub fn count_held(d: Unshaded, k: usize) -> usize
+    requires { ⌜ k < 0xffff_ffff_ffff_ffff ⌝ }
+    ensures { λ r. ⌜ (r ≡ spec.countHeld d k) × (r ≤ k + 1) ⌝ }
+{
+    if any_held(d) {
+        return k + 1;
+    }
+    k
+}
+
 // Whether a row, rounded to an f32, is not finite or above 1,048,576 in magnitude. It is where the row itself is above 1,048,576 and
 // half a step of an f32 there.
 fn wild_row(v: f64) -> bool
@@ -405,17 +428,23 @@ fn unshade_lent(
     )
 }
 
-// The affine part over them: the colour that `mix` gives, of rows that are lent.
-fn mix_lent(row_r: &[f64; 4], row_g: &[f64; 4], row_b: &[f64; 4], d: Unshaded) -> Linear
-    ensures { λ v. ⌜ v ≡ spec.mixedBy (now («row_r» .entry)) (now («row_g» .entry)) (now («row_b» .entry)) d ⌝ }
+// The affine part over them, with the mark of each: what `mix` gives, of rows that are lent.
+fn mix_lent(row_r: &[f64; 4], row_g: &[f64; 4], row_b: &[f64; 4], d: Unshaded) -> Marked
+    ensures { λ v. ⌜ v ≡ spec.marked (spec.mixedBy (now («row_r» .entry)) (now («row_g» .entry)) (now («row_b» .entry)) d) d ⌝ }
 {
     let r = d.r;
     let g = d.g;
     let b = d.b;
-    Linear {
+    let colour = Linear {
         r: float::narrow(row(*row_r, r.value, g.value, b.value)),
         g: float::narrow(row(*row_g, r.value, g.value, b.value)),
         b: float::narrow(row(*row_b, r.value, g.value, b.value)),
+    };
+    Marked {
+        colour,
+        held_r: r.held,
+        held_g: g.held,
+        held_b: b.held,
     }
 }
 
@@ -799,7 +828,7 @@ pub fn correct_lent<'a>(
         colour,
     );
     let out = mix_lent(affine_r, affine_g, affine_b, d);
-    if !leaves_open(residual_rms, d, out) {
+    if !leaves_open(residual_rms, d, out.colour) {
         return Correction::Corrected(out);
     }
     if not_finite_lent(
@@ -820,8 +849,8 @@ pub fn correct_lent<'a>(
     Correction::Corrected(out)
 }
 
-// An observed colour at a position, corrected by the model. The position is any float, and so is what comes out. Refused by 8
-// and 10.
+// An observed colour at a position, corrected by the model, with the marks of the channels whose gain was held. The position is any
+// float, and so is the colour that comes out; the marks depend on the model and the position alone. Refused by 8 and 10.
 pub fn correct(model: IlluminationModel, x: f32, y: f32, colour: Linear) -> Correction
     ensures { λ r. ⌜ correctionSaid r ≡ correctOf model x y colour ⌝ }
 {

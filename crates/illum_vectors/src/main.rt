@@ -7,6 +7,7 @@
 // is above 16,384, and `fit::fit_counted` is called with it.
 use illum::Correction;
 use illum::IlluminationModel;
+use illum::Marked;
 use illum::Modelled;
 use illum::Unshaded;
 use vectors::Compared;
@@ -24,12 +25,28 @@ fn put_modelled(got: &mut [u64], m: Modelled) -> usize {
     stage_words::put_model(got, next, model)
 }
 
-// 0 and the colour, or the refusal's number, from a place on.
+// 1 for a mark, 0 for none.
+fn mark(held: bool) -> u64 {
+    if held {
+        return 1;
+    }
+    0
+}
+
+// The three marks, from a place on.
+fn put_marks(got: &mut [u64], at: usize, m: Marked) -> usize {
+    let to_green = vectors::put(got, at, mark(m.held_r));
+    let to_blue = vectors::put(got, to_green, mark(m.held_g));
+    vectors::put(got, to_blue, mark(m.held_b))
+}
+
+// 0, the colour and its marks, or the refusal's number, from a place on.
 fn put_correction(got: &mut [u64], at: usize, c: Correction) -> usize {
     match c {
-        Correction::Corrected(colour) => {
+        Correction::Corrected(m) => {
             let to_colour = vectors::put(got, at, 0);
-            stage_words::put_linear(got, to_colour, colour)
+            let to_marks = stage_words::put_linear(got, to_colour, m.colour);
+            put_marks(got, to_marks, m)
         }
         Correction::Refused(n) => vectors::put(got, at, n as u64),
     }
@@ -47,7 +64,7 @@ fn correct_at(model: IlluminationModel, row: &[u64], at: usize) -> Correction {
     )
 }
 
-// correct MODEL count (x y r g b).. = (no r g b)..
+// correct MODEL count (x y r g b).. = (no r g b mark mark mark)..
 fn correct(row: &[u64], got: &mut [u64]) -> usize {
     let model = stage_words::model(row, 0);
     let at_count = stage_words::past_model(row, 0);

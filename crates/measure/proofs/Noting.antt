@@ -18,12 +18,16 @@ use Rattle.color.specs.declared.Linear.{Linear}
 use Rattle.color.specs.declared.Lab.{Lab}
 use Rattle.color.specs.Color.{linearToLab, abDistance, length2}
 use Rattle.illum.specs.declared.IlluminationModel.{IlluminationModel}
-use Rattle.measure.specs.Measure.{picked, sameLevel, atLevel, isLight, colourful, correctedAt, correctedLab, nominalLab, lightnessAt, errorAt, forLevel, forLevelChroma, levelOf, errorsOf, levelErrorsOf, measuredOf, measured, badCorrected}
+use Rattle.measure.specs.declared.Measurement.{Measurement}
+use Rattle.measure.specs.Measure.{picked, sameLevel, atLevel, isLight, colourful, correctedAt, correctedLab, nominalLab, lightnessAt, errorAt, forLevel, forLevelChroma, levelOf, errorsOf, levelErrorsOf, measuredOf, measured, heldOf, heldCount, measurement, badCorrected}
 use Rattle.measure.specs.Columns.{m0, m1, m2, m3, m4, m5, m6, markOf, markFor, markAt, marked, counted, squareOf, squareAt, noted, notedAt, Noted, Rooted, placed, colourAt, Corrected, Converted, pickedIn, levelIn, RealSpreads, recordIn}
 use Rattle.order.specs.Median.{medianOf}
 use Rattle.references.specs.References.{wildColours}
 use Rattle.measure.proofs.Lists.{picked-same, picked-two}
 use Rattle.measure.proofs.Passes.{F32, late, lights-real, errors-real}
+
+abbrev measuring : ChannelStats → ℕ → Measurement
+measuring r k = record { noise = r; held = k }
 
 -- ---- three writes at x < y < z
 module _ (s : List Float) (x y z : ℕ) (a b c : Float) where
@@ -367,10 +371,10 @@ module _ {m : IlluminationModel} {palette flat : List Float} {n : ℕ} {s : List
           light = rw (level-errors-list true) (errors-real m flat n single colours right _);
         }
 
-  pub enough : {r : ChannelStats} → 8 ≤ n → r ≡ recordIn palette n (drop n s) → r ≡ measured m palette flat n
-  unfolding measured
-  enough h e = rw (le-ltb n 8 h) (e ∙ columns-record)
+  pub enough : {r : ChannelStats} {k : ℕ} → 8 ≤ n → r ≡ recordIn palette n (drop n s) → k ≡ heldOf m flat n → measuring r k ≡ measurement m palette flat n
+  unfolding measured heldCount
+  enough h e g = rw (le-ltb n 8 h, e ∙ columns-record, g)
 
-pub too-few : (m : IlluminationModel) (palette flat : List Float) (n : ℕ) (r : ChannelStats) → n < 8 → r ≡ nominal palette → r ≡ measured m palette flat n
-unfolding measured
-too-few m palette flat n r h e = rw (lt-ltb n 8 h) e
+pub too-few : (m : IlluminationModel) (palette flat : List Float) (n : ℕ) (r : ChannelStats) → n < 8 → r ≡ nominal palette → measuring r 0 ≡ measurement m palette flat n
+unfolding measured heldCount
+too-few m palette flat n r h e = rw (lt-ltb n 8 h, e)

@@ -35,7 +35,8 @@ use Rattle.stats.specs.declared.ChannelStats.{ChannelStats}
 use Rattle.stats.specs.Noise.{nominal}
 use Rattle.stats.proofs.Range.{Held}
 use Rattle.stats.specs.Calls.{wildFigure, badNoiseNumbers, badLevelSigma, badSigmas}
-use Rattle.measure.specs.Measure.{correctedAt, correctedLab, nominalLab, lightnessAt, errorAt, picked, leastSigma, spreadAbout, lumaSigma, chromaSigma, figuresOf, recordOf, measuredOf, measured, wildCorrectedAt, wildCorrected, badCorrected, Request, sentencesOf, Final, final, turnedAway, done, measureOf}
+use Rattle.measure.specs.declared.Measurement.{Measurement}
+use Rattle.measure.specs.Measure.{correctedAt, correctedLab, nominalLab, lightnessAt, errorAt, picked, leastSigma, spreadAbout, lumaSigma, chromaSigma, figuresOf, recordOf, measuredOf, measured, measurement, wildCorrectedAt, wildCorrected, badCorrected, Request, sentencesOf, Final, final, turnedAway, done, measureOf}
 use Rattle.sentences.specs.Sentences.{refusal, decided}
 use Rattle.answers.specs.Answers.{gives}
 use Rattle.measure.specs.Columns.{RealDistances}
@@ -286,19 +287,19 @@ pub answer-passes : (m : IlluminationModel) (palette flat : List Float) (n side 
 answer-passes m palette flat n side hues lent ff fp a = passes m palette flat n hues ff fp (a .colours) (a .numbers) (a .corrected)
 
 -- The theorem: a record that a call gives passes sentences 8 and 9, and holds f32 values.
-module _ (q : Request) (ff : F32 (q .flat)) (fp : F32 (q .palette)) (r : ChannelStats) where
-  by-number : (k : ℕ) → k ≡ refusal (sentencesOf q) → decided k (turnedAway q) (done q) .said ≡ gives r → Passing r
+module _ (q : Request) (ff : F32 (q .flat)) (fp : F32 (q .palette)) (r : Measurement) where
+  by-number : (k : ℕ) → k ≡ refusal (sentencesOf q) → decided k (turnedAway q) (done q) .said ≡ gives r → Passing (r .noise)
   unfolding decided
   by-number zero e h =
-      let g : r ≡ measured (q .model) (q .palette) (q .flat) (q .n) = sym (Option·some-injective _ r (ap (λ s. s .value) h)) in
+      let g : r ≡ measurement (q .model) (q .palette) (q .flat) (q .n) = sym (Option·some-injective _ r (ap (λ s. s .value) h)) in
       rw g
       (answer-passes (q .model) (q .palette) (q .flat) (q .n) (q .side) (q .hues) (length (q .scratch)) ff fp
       (accepted (q .flat) (q .cut) (q .n) (q .side) (q .model) (q .palette) (q .hues) (length (q .scratch)) zero e refl))
   by-number (suc k) e h = absurd (Option·none-ne-some r (ap (λ s. s .value) h))
 
-  pub answered-passes : measureOf q .said ≡ gives r → Passing r
+  pub answered-passes : measureOf q .said ≡ gives r → Passing (r .noise)
   unfolding measureOf
   answered-passes h = by-number (refusal (sentencesOf q)) refl h
 
-  pub given-passes : (s : List Float) → final (gives r) s ≡ measureOf q → Passing r
+  pub given-passes : (s : List Float) → final (gives r) s ≡ measureOf q → Passing (r .noise)
   given-passes s h = answered-passes (ap (λ (x : Final). x .said) (sym h))

@@ -5,7 +5,7 @@ use Prim.Native.Nat.{ℕ, zero, suc, _*_, _/_, _%_}
 use lib.Dec.{ltb, leb, eqb}
 use lib.ListN.{length}
 use lib.Ieee.{Float, binary32, add, sub, div, le, lt}
-use Rattle.loops.specs.Loops.{anyUp}
+use Rattle.loops.specs.Loops.{anyUp, countUp}
 use Rattle.sentences.specs.Sentences.{Sentence, _when_, refusal, decided}
 use Rattle.limits.specs.Limits.{badSide, badHues}
 use Rattle.answers.specs.Answers.{Said, refusedBy, gives}
@@ -17,9 +17,12 @@ use Rattle.color.specs.Palette.{levelL, wildLinear, wildPalette}
 use Rattle.order.specs.Median.{medianOf}
 use Rattle.order.specs.Deviation.{sigmaOf, cleared}
 use Rattle.illum.specs.declared.IlluminationModel.{IlluminationModel}
-use Rattle.illum.specs.Correct.{corrected}
+use Rattle.illum.specs.Correct.{corrected, heldAt}
 use Rattle.illum.specs.Refusals.{badModel}
 use Rattle.measure.specs.declared.Seen.{Seen}
+use Rattle.measure.specs.declared.Measurement.{Measurement}
+use Rattle.measure.specs.declared.Measured.{Measured}
+use Rattle.measure.specs.declared.Measured.the-variants.{Refused, Record}
 use Rattle.stats.specs.declared.ChannelStats.{ChannelStats}
 use Rattle.stats.specs.Noise.{nominal}
 use Rattle.stats.specs.Calls.{shortPalette}
@@ -158,7 +161,30 @@ measuredOf m palette flat n =
 unfoldable pub measured : IlluminationModel → List Float → List Float → ℕ → ChannelStats
 measured m palette flat n = cond (ltb n 8) (nominal palette) (measuredOf m palette flat n)
 
+-- ---- the references that have a mark
+
+-- whether reference i has one: a channel's gain, where it stands, was held
+unfoldable pub heldReference : IlluminationModel → List Float → ℕ → Bool
+heldReference m flat i = heldAt m (xAt flat i) (yAt flat i)
+
+-- how many of n, all of which are corrected
+abbrev pub heldOf : IlluminationModel → List Float → ℕ → ℕ
+heldOf m flat n = countUp 0 n (heldReference m flat)
+
+-- "`measure` with under 8 references corrects none"
+unfoldable pub heldCount : IlluminationModel → List Float → ℕ → ℕ
+heldCount m flat n = cond (ltb n 8) 0 (heldOf m flat n)
+
+-- the record, and the count
+abbrev pub measurement : IlluminationModel → List Float → List Float → ℕ → Measurement
+measurement m palette flat n = record { noise = measured m palette flat n; held = heldCount m flat n }
+
 -- ---- the calls
+
+-- what each case of the answer says
+abbrev pub measuredSaid : Measured → Said Measurement
+measuredSaid (Refused n) = refusedBy n
+measuredSaid (Record r) = gives r
 
 -- what a call is handed: n references in flat floats, of which the last is cut off where `cut`
 pub record Request : Type 0 where
@@ -216,10 +242,10 @@ sentencesOf q = sentencesFor (q .flat) (q .cut) (q .n) (q .side) (q .model) (q .
 
 -- what it gives back: what its answer says, and the scratch
 pub record Final : Type 0 where
-  pub said : Said ChannelStats
+  pub said : Said Measurement
   pub scratch : List Float
 
-abbrev pub final : Said ChannelStats → List Float → Final
+abbrev pub final : Said Measurement → List Float → Final
 final r scratch = record { said = r; scratch = scratch }
 
 -- refused by sentence n: nothing changes
@@ -228,7 +254,7 @@ turnedAway q n = final (refusedBy n) (q .scratch)
 
 -- accepted: the scratch of 4 × references is all zero, and its tail stays
 abbrev pub done : Request → Final
-done q = final (gives (measured (q .model) (q .palette) (q .flat) (q .n))) (cleared (4 * q .n) (q .scratch))
+done q = final (gives (measurement (q .model) (q .palette) (q .flat) (q .n))) (cleared (4 * q .n) (q .scratch))
 
 unfoldable pub measureOf : Request → Final
 measureOf q = decided (refusal (sentencesOf q)) (turnedAway q) (done q)

@@ -5,6 +5,8 @@
 //
 //     let mut scratch = [0.0f32; 1024];
 //     match measure::measure_flat(&flat, 21, model, &palette, hues, &mut scratch) { .. }      // up to 256 references
+//
+// Beside the record stands how many of the references were corrected by a gain that was held at 0.05.
 ghost use mathlib.Core.Path.{_≡_};
 ghost use mathlib.Core.Bool.{true, false};
 ghost use mathlib.Core.List.{_++_, map};
@@ -14,11 +16,10 @@ ghost use Rattle.sentences.specs.Sentences.{refusal};
 ghost use Rattle.color.specs.Color.{linearToLab};
 ghost use Rattle.color.specs.Palette.{paletteLen};
 ghost use Rattle.order.specs.Median.{medianOf};
-ghost use Rattle.stats.specs.Calls.{noiseSaid};
 ghost use Rattle.references.specs.References.{wildColours};
 ghost use Rattle.references.specs.Ready.{Scratch, Lent};
 ghost use Rattle.measure.specs.Measure as spec;
-ghost use Rattle.measure.specs.Measure.{final, request, flatRequest};
+ghost use Rattle.measure.specs.Measure.{measuredSaid, final, request, flatRequest};
 ghost use Rattle.measure.specs.Columns as column;
 ghost use Rattle.measure.specs.Ready.{Middle, Given, Levels};
 use color::Lab;
@@ -26,7 +27,20 @@ use color::Linear;
 use color::palette::level_l;
 use illum::IlluminationModel;
 use stats::ChannelStats;
-use stats::Noise;
+
+// The noise record, and how many of the references have a mark: a channel's gain, where they stand, was held at 0.05. Under 8
+// references none is corrected, and the count is 0.
+#[repr(C)]
+pub struct Measurement {
+    pub noise: ChannelStats,
+    pub held: usize,
+}
+
+// What the calls answer: a refusal by its number, or the record with the count.
+pub enum Measured {
+    Refused(u32),
+    Record(Measurement),
+}
 
 // ---- one reference
 
@@ -231,17 +245,20 @@ fn place(n: usize, i: usize, a: f32, b: f32, c: f32, s: &mut [f32])
     s[3 * n + i] = c;
 }
 
-// Writes the corrected colours of all n, a component in each column.
-fn correct(model: IlluminationModel, flat: &[f32], n: usize, s: &mut [f32])
+// Writes the corrected colours of all n, a component in each column, and says how many of them have a mark.
+fn correct(model: IlluminationModel, flat: &[f32], n: usize, s: &mut [f32]) -> usize
     requires { ⌜ Lent n (now flat) (now s) ⌝ }
-    ensures { λ _. ⌜ column.Corrected model (now (flat .entry)) n 0 n (now (s .exit)) ⌝ }
+    ensures { λ r. ⌜ column.Corrected model (now (flat .entry)) n 0 n (now (s .exit)) × (r ≡ spec.heldOf model (now (flat .entry)) n) ⌝ }
 {
+    let mut held = 0;
     for i in 0..n {
         let o = seen_at(flat, i);
         let d = illum::unshade(model, o.x, o.y, o.colour);
+        held = illum::count_held(d, held);
         let m = illum::mix(model, d);
         place(n, i, m.colour.r, m.colour.g, m.colour.b, s);
     }
+    held
 }
 
 // Writes the three numbers of reference i of n over its corrected colour, the chroma error squared; mid as in `mark_for`. A
@@ -298,14 +315,15 @@ fn roots(n: usize, s: &mut [f32])
 }
 
 // Writes them of all n: all are corrected, then converted, and then the roots are taken, which takes less time than one loop that
-// does it all.
-fn note(model: IlluminationModel, palette: &[f32], flat: &[f32], n: usize, s: &mut [f32])
+// does it all. Says how many have a mark.
+fn note(model: IlluminationModel, palette: &[f32], flat: &[f32], n: usize, s: &mut [f32]) -> usize
     requires { ⌜ Given (now palette) n (now flat) (now s) ⌝ }
-    ensures { λ _. ⌜ column.Noted model (now (palette .entry)) (now (flat .entry)) n n (spec.errorAt model (now (flat .entry))) (now (s .exit)) ⌝ }
+    ensures { λ r. ⌜ column.Noted model (now (palette .entry)) (now (flat .entry)) n n (spec.errorAt model (now (flat .entry))) (now (s .exit)) × (r ≡ spec.heldOf model (now (flat .entry)) n) ⌝ }
 {
-    correct(model, flat, n, s);
+    let held = correct(model, flat, n, s);
     convert(palette, flat, n, s);
     roots(n, s);
+    held
 }
 
 // ---- the lists
@@ -484,22 +502,27 @@ fn record_of(palette: &[f32], n: usize, s: &mut [f32]) -> ChannelStats
     figures_of(s, n, dark.l, light.l)
 }
 
-// The record of n references that the sentences let pass; `nominal` of fewer than 8. The numbers in s are of no use after.
-fn measured(
+// The record of n references that the sentences let pass, with the count of those that have a mark; `nominal` and 0 of fewer than 8.
+// The numbers in s are of no use after.
+fn measurement_of(
     model: IlluminationModel,
     palette: &[f32],
     flat: &[f32],
     n: usize,
     s: &mut [f32],
-) -> ChannelStats
+) -> Measurement
     requires { ⌜ Given (now palette) n (now flat) (now s) × (wildColours (now flat) n ≡ false) × (spec.badCorrected model (now flat) n ≡ false) ⌝ }
-    ensures { λ r. ⌜ r ≡ spec.measured model (now (palette .entry)) (now (flat .entry)) n ⌝ }
+    ensures { λ r. ⌜ r ≡ spec.measurement model (now (palette .entry)) (now (flat .entry)) n ⌝ }
 {
     if n < 8 {
-        return ChannelStats::nominal_of(palette);
+        return Measurement {
+            noise: ChannelStats::nominal_of(palette),
+            held: 0,
+        };
     }
-    note(model, palette, flat, n, s);
-    record_of(palette, n, s)
+    let held = note(model, palette, flat, n, s);
+    let noise = record_of(palette, n, s);
+    Measurement { noise, held }
 }
 
 // ---- the sentences
@@ -604,21 +627,22 @@ pub fn measure_counted(
     palette: &[f32],
     hues: usize,
     scratch: &mut [f32],
-) -> Noise
+) -> Measured
     requires { ⌜ (n ≤ 16384 → 8 * n ≤ length (now flat)) ⌝ }
-    ensures { λ r. ⌜ final (noiseSaid r) (now (scratch .exit)) ≡ spec.measureOf (request (now (flat .entry)) false n side model (now (palette .entry)) hues (now (scratch .entry))) ⌝ }
+    ensures { λ r. ⌜ final (measuredSaid r) (now (scratch .exit)) ≡ spec.measureOf (request (now (flat .entry)) false n side model (now (palette .entry)) hues (now (scratch .entry))) ⌝ }
 {
     let number = refused(flat, n, side, model, palette, hues, scratch.len());
     if number != 0 {
-        return Noise::Refused(number);
+        return Measured::Refused(number);
     }
-    let r = measured(model, palette, flat, n, &mut scratch[..4 * n]);
+    let r = measurement_of(model, palette, flat, n, &mut scratch[..4 * n]);
     references::clear(scratch, 4 * n);
-    Noise::Record(r)
+    Measured::Record(r)
 }
 
 // Measures the noise record from references in flat floats, eight each, for a card of this side, corrected by the model. With
-// fewer than 8 references, or fewer than 3 of a level, it is `nominal`. Scratch of 4 × references is all zero afterwards, and
+// fewer than 8 references, or fewer than 3 of a level, it is `nominal`. Beside it stands how many of the references have a mark,
+// where 8 or more are corrected, `nominal` or not. Scratch of 4 × references is all zero afterwards, and
 // its tail stays. Refused by 2, 3, 5 (flat no multiple of eight long, the palette or scratch too short), 6, 7, 8, 10 and 12;
 // scratch is untouched then.
 pub fn measure_flat(
@@ -628,17 +652,17 @@ pub fn measure_flat(
     palette: &[f32],
     hues: usize,
     scratch: &mut [f32],
-) -> Noise
-    ensures { λ r. ⌜ final (noiseSaid r) (now (scratch .exit)) ≡ spec.measureOf (flatRequest (now (flat .entry)) side model (now (palette .entry)) hues (now (scratch .entry))) ⌝ }
+) -> Measured
+    ensures { λ r. ⌜ final (measuredSaid r) (now (scratch .exit)) ≡ spec.measureOf (flatRequest (now (flat .entry)) side model (now (palette .entry)) hues (now (scratch .entry))) ⌝ }
 {
     if flat.len() % 8 == 0 {
         return measure_counted(flat, flat.len() / 8, side, model, palette, hues, scratch);
     }
     if limits::bad_side(side) {
-        return Noise::Refused(2);
+        return Measured::Refused(2);
     }
     if limits::bad_hues(hues) {
-        return Noise::Refused(3);
+        return Measured::Refused(3);
     }
-    Noise::Refused(5)
+    Measured::Refused(5)
 }

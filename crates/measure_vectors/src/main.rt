@@ -6,18 +6,19 @@
 // they are not there: it is lent a part whose last reference is not whole, which sentence 5 refuses as well. In one the count
 // is above 16,384, and `measure::measure_counted` is called with it.
 use illum::IlluminationModel;
-use stats::Noise;
+use measure::Measured;
 use vectors::Compared;
 use vectors::Tally;
 
-// 0 and the noise record, or the refusal's number.
-fn put_measured(got: &mut [u64], n: Noise) -> usize {
-    match n {
-        Noise::Record(r) => {
+// 0, the noise record and the count of marked references, or the refusal's number.
+fn put_measured(got: &mut [u64], m: Measured) -> usize {
+    match m {
+        Measured::Record(r) => {
             let to_record = vectors::put(got, 0, 0);
-            stage_words::put_noise(got, to_record, r)
+            let to_held = stage_words::put_noise(got, to_record, r.noise);
+            vectors::put(got, to_held, r.held as u64)
         }
-        Noise::Refused(number) => vectors::put(got, 0, number as u64),
+        Measured::Refused(number) => vectors::put(got, 0, number as u64),
     }
 }
 
@@ -30,7 +31,7 @@ fn measure_of(
     palette: &[f32],
     hues: usize,
     scratch: &mut [f32],
-) -> Noise {
+) -> Measured {
     if 16384 < n {
         return measure::measure_counted(flat, n, side, model, palette, hues, scratch);
     }
@@ -78,7 +79,7 @@ fn measure_rest(flat: &[f32], row: &[u64], at: usize, got: &mut [u64]) -> usize 
     )
 }
 
-// measure |flat| n side MODEL |palette| hues len fill = no STATS zeros
+// measure |flat| n side MODEL |palette| hues len fill = no STATS held zeros
 fn measure(row: &[u64], got: &mut [u64]) -> usize {
     let mut flat = [0.0f32; 512];
     let k = vectors::load_f32(row, 0, &mut flat);

@@ -1,17 +1,17 @@
 -- The colours of a card's modules and cells: where each stands, how it was observed, and the colour corrected. Definitions only.
 use mathlib.Core.Bool.{Bool}
 use mathlib.Core.List.{List}
-use Prim.Native.Nat.{ℕ, _<_}
+use Prim.Native.Nat.{ℕ, _+_, _<_}
 use lib.Dec.{T}
 use lib.IntN.{ℤ, pos}
 use lib.ListN.{getD}
 use lib.Ieee.{Float, binary32, ofInt, inFloat}
-use Rattle.loops.specs.Loops.{forUp, anyUp}
+use Rattle.loops.specs.Loops.{forUp, anyUp, raise, countUp}
 use Rattle.color.specs.declared.Linear.{Linear}
 use Rattle.color.specs.Color.{whole, fraction}
 use Rattle.color.specs.Palette.{linearAt, wildLinear}
 use Rattle.illum.specs.declared.IlluminationModel.{IlluminationModel}
-use Rattle.illum.specs.Correct.{corrected}
+use Rattle.illum.specs.Correct.{corrected, heldAt}
 use Rattle.stats.specs.Arithmetic.{_⊕_, _⊗_, _⊘_}
 use Rattle.observed.specs.declared.Spot.{Spot}
 use Rattle.observed.specs.Entries.{putThree}
@@ -46,6 +46,25 @@ moduleSpot xs ys raw i = record { x = centre (getD xs i (pos 0)); y = centre (ge
 
 unfoldable pub cellSpot : ℕ → List ℕ → List ℕ → List Float → ℕ → Spot
 cellSpot size cxs cys raw i = record { x = cellCentre size (getD cxs i 0); y = cellCentre size (getD cys i 0); colour = linearAt raw i }
+
+-- ---- the colours that have a mark: a channel's gain, where they stand, was held
+
+unfoldable pub heldModule : IlluminationModel → List ℤ → List ℤ → ℕ → Bool
+heldModule model xs ys i = heldAt model (centre (getD xs i (pos 0))) (centre (getD ys i (pos 0)))
+
+unfoldable pub heldCell : IlluminationModel → ℕ → List ℕ → List ℕ → ℕ → Bool
+heldCell model size cxs cys i = heldAt model (cellCentre size (getD cxs i 0)) (cellCentre size (getD cys i 0))
+
+-- how many of the first m modules have one, and of the first c cells
+abbrev pub heldModules : IlluminationModel → List ℤ → List ℤ → ℕ → ℕ
+heldModules model xs ys m = countUp 0 m (heldModule model xs ys)
+
+abbrev pub heldCells : IlluminationModel → ℕ → List ℕ → List ℕ → ℕ → ℕ
+heldCells model size cxs cys c = countUp 0 c (heldCell model size cxs cys)
+
+-- `held` of the cells before `from`, and those of the k cells from there on
+abbrev pub heldOnwards : IlluminationModel → ℕ → List ℕ → List ℕ → ℕ → ℕ → ℕ → ℕ
+heldOnwards model size cxs cys from k held = forUp from (from + k) (raise (heldCell model size cxs cys)) held
 
 -- ---- colours in a list
 

@@ -1,5 +1,6 @@
 // The colours of a card's modules and cells: where each stands, how it was observed, and the colour corrected. `demod`, which
-// scores a card, looks with it for colours that break sentence 12 and then writes the corrected ones.
+// scores a card, looks with it for colours that break sentence 12 and then writes the corrected ones, counting those that have a
+// mark.
 ghost use mathlib.Core.Path.{_≡_};
 ghost use Prim.Native.Nat.{_+_, _*_, _<_, _≤_};
 ghost use lib.Dec.{T};
@@ -116,25 +117,30 @@ fn put_rows(l: &mut [f32], i: usize, v: Unrounded)
     );
 }
 
-// Core: writes the corrected colour of every module. (All colours first and the scores after take less time than both in one loop.)
+// Core: writes the corrected colour of every module, and says how many of them have a mark. (All colours first and the scores after
+// take less time than both in one loop.)
 pub fn write_colours(
     model: IlluminationModel,
     xs: &[i32],
     ys: &[i32],
     raw: &[f32],
     colours: &mut [f32],
-)
+) -> usize
     requires { ⌜ Sampled (now xs) (now ys) (now raw) × (3 * length (now xs) ≤ length (now colours)) ⌝ }
-    ensures { λ _. ⌜ now (colours .exit) ≡ spec.writeColours (spec.moduleColour model (now (xs .entry)) (now (ys .entry)) (now (raw .entry))) (length (now (xs .entry))) (now (colours .entry)) ⌝ }
+    ensures { λ r. ⌜ (now (colours .exit) ≡ spec.writeColours (spec.moduleColour model (now (xs .entry)) (now (ys .entry)) (now (raw .entry))) (length (now (xs .entry))) (now (colours .entry))) × (r ≡ spec.heldModules model (now (xs .entry)) (now (ys .entry)) (length (now (xs .entry)))) ⌝ }
 {
+    let mut held = 0;
     for i in 0..xs.len() {
         let s = module_spot(xs, ys, raw, i);
         let d = illum::unshade(model, s.x, s.y, s.colour);
+        held = illum::count_held(d, held);
         put_rows(colours, i, illum::rows(model, d));
     }
+    held
 }
 
-// Core: corrects the colours of n cells, from cell `from` on, into `room`, three numbers each.
+// Core: corrects the colours of n cells, from cell `from` on, into `room`, three numbers each. `held` of the cells before have a mark;
+// says how many have one with these.
 pub fn correct_cells(
     model: IlluminationModel,
     size: usize,
@@ -143,16 +149,20 @@ pub fn correct_cells(
     raw: &[f32],
     from: usize,
     n: usize,
+    held: usize,
     room: &mut [f32],
-)
-    requires { ⌜ (size ≤ 16) × (from + n ≤ length (now cxs)) × (from + n ≤ length (now cys)) × (3 * (from + n) ≤ length (now raw)) × (3 * n ≤ length (now room)) ⌝ }
-    ensures { λ _. ⌜ Block linearAt (onwards (spec.cellColour model size (now (cxs .entry)) (now (cys .entry)) (now (raw .entry))) from) n (now (room .exit)) ⌝ }
+) -> usize
+    requires { ⌜ (size ≤ 16) × (held ≤ from) × (from + n ≤ length (now cxs)) × (from + n ≤ length (now cys)) × (3 * (from + n) ≤ length (now raw)) × (3 * n ≤ length (now room)) ⌝ }
+    ensures { λ r. ⌜ Block linearAt (onwards (spec.cellColour model size (now (cxs .entry)) (now (cys .entry)) (now (raw .entry))) from) n (now (room .exit)) × (r ≡ spec.heldOnwards model size (now (cxs .entry)) (now (cys .entry)) from n held) × (r ≤ from + n) ⌝ }
 {
+    let mut k = held;
     for j in 0..n {
         let s = cell_spot(size, cxs, cys, raw, from + j);
         let d = illum::unshade(model, s.x, s.y, s.colour);
+        k = illum::count_held(d, k);
         put_rows(room, j, illum::rows(model, d));
     }
+    k
 }
 
 // ---- sentence 12

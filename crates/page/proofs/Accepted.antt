@@ -3,6 +3,7 @@ use mathlib.Core.Path.{_≡_, refl, sym, _∙_}
 use mathlib.Core.Bool.{true, false}
 use mathlib.Core.List.{_++_}
 use Prim.Native.Nat.{ℕ, _≤_, _<_}
+use native.Mathlib.Omega.{arith}
 use borrow.Author.Tests.{ltb-false}
 use lib.ListN.{length}
 use Rattle.loops.proofs.Laws.{anyUp-false}
@@ -15,7 +16,7 @@ use Rattle.layout.proofs.Laws.{modules-sound, modules-placed}
 use Rattle.answers.proofs.Answers.{none-of}
 use Rattle.illum.specs.Refusals.{badTerms}
 use Rattle.page.specs.Lines.{columns}
-use Rattle.page.specs.Calls.{Request, aheadOf, behindOf, sentencesOf}
+use Rattle.page.specs.Calls.{Request, widest, aheadOf, behindOf, sentencesOf}
 use Rattle.page.proofs.Passed.{Lengths, lengths, tally-in}
 
 -- no sentence holds
@@ -23,7 +24,7 @@ pub record Accepted (q : Request) : Type 0 where
   pub narrow : q .side ≤ columns
   pub positions : Positions (q .side) (q .grid) (q .xs) (q .ys)
   pub long : Lengths (q .side) (length (q .xs)) (length (q .ys)) (length (q .luma)) (length (q .page))
-  pub tally : (q .kept ≤ 16384) × (q .rejected ≤ 16384)
+  pub tally : (q .kept ≤ 16384) × (q .rejected ≤ 16384) × (q .held ≤ 1048576)
   pub terms-good : badTerms (q .terms) ≡ false
 
 module _ (q : Request) (n : ℕ) (e : n ≡ refusal (sentencesOf q)) (z : n ≡ 0) where
@@ -59,10 +60,10 @@ module _ (q : Request) (n : ℕ) (e : n ≡ refusal (sentencesOf q)) (z : n ≡ 
   unfolding at
   accepted =
       record {
-        narrow = ltb-false columns (q .side) (last 14);
+        narrow = omega (arith, ltb-false widest (q .side) (last 14));
         positions = record { side-most = side-in (q .side) (first 2) .1; pairs = long .pairs; places-good = placed .places-good };
         long = long;
-        tally = tally-in (q .kept) (q .rejected) (first 6);
+        tally = tally-in (q .kept) (q .rejected) (q .held) (first 6);
         terms-good = last 10;
       }
 

@@ -22,7 +22,7 @@ use Rattle.page.specs.Steps.{fieldByte}
 use Rattle.page.specs.Calls.{Request, numbersOf, modulesOf, textOf, laidOut, sentencesOf, pageOf}
 use Rattle.page.specs.Laws.{StandsAt, LastThere, byteAt, digitAt, Page, Pages}
 use Rattle.page.proofs.Fields.{byte-digit, byte-last, byte-space, byte-no-feed}
-use Rattle.page.proofs.Text.{Numbers, four-numbers, text-length, text-head, text-square, text-padding, text-end}
+use Rattle.page.proofs.Text.{Numbers, five-numbers, text-length, text-head, text-square, text-padding, text-end}
 use Rattle.page.proofs.Laid.{square-position, position-square, overlaid-length, overlaid-text, overlaid-rest}
 use Rattle.page.proofs.Passed.{terms-in}
 use Rattle.page.proofs.Accepted.{Accepted, accepted, each-placed}
@@ -35,8 +35,8 @@ shown-no-feed luma (some i) = omega arith
 module _ (q : Request) (a : Accepted q) (left : pageOf q .list ≡ laidOut q) where
   in-ten : Numbers (numbersOf q)
   in-ten =
-      four-numbers (q .side) (q .terms) (q .kept) (q .rejected) (omega (arith, a .narrow)) (omega (arith, terms-in (q .terms) (a .terms-good))) (omega (arith, a .tally .0))
-      (omega (arith, a .tally .1))
+      five-numbers (q .side) (q .terms) (q .kept) (q .rejected) (q .held) (omega (arith, a .narrow)) (omega (arith, terms-in (q .terms) (a .terms-good))) (omega (arith, a .tally .0))
+      (omega (arith, a .tally .1)) (omega (arith, a .tally .2))
 
   long-text : length (textOf q) ≡ pageLength (q .side)
   long-text = text-length (modulesOf q) (a .narrow) (numbersOf q) in-ten
@@ -49,10 +49,10 @@ module _ (q : Request) (a : Accepted q) (left : pageOf q .list ≡ laidOut q) wh
 
   -- ---- line one
 
-  digit-is : (j k : ℕ) → j < 4 → k < fieldColumns → digitAt q j k ≡ fieldByte k (getD (numbersOf q) j 0)
+  digit-is : (j k : ℕ) → j < 5 → k < fieldColumns → digitAt q j k ≡ fieldByte k (getD (numbersOf q) j 0)
   digit-is j k hj hk =
-      front (41 * 0 + (10 * j + (9 - k))) (omega (arith, a .narrow))
-      ∙ ap (λ (p : ℕ). getD (textOf q) p 0) (let z : 41 * 0 + (10 * j + (9 - k)) ≡ 10 * j + (9 - k) = omega arith in z)
+      front (51 * 0 + (10 * j + (9 - k))) (omega (arith, a .narrow))
+      ∙ ap (λ (p : ℕ). getD (textOf q) p 0) (let z : 51 * 0 + (10 * j + (9 - k)) ≡ 10 * j + (9 - k) = omega arith in z)
       ∙ text-head (modulesOf q) (a .narrow) (numbersOf q) in-ten (10 * j + (9 - k)) (omega arith)
       ∙ ap (λ (n : ℕ). fieldByte n (getD (numbersOf q) ((10 * j + (9 - k)) / 10) 0)) (let z : 9 - (10 * j + (9 - k)) % 10 ≡ k = omega arith in z)
       ∙ ap (λ (n : ℕ). fieldByte k (getD (numbersOf q) n 0)) (let z : (10 * j + (9 - k)) / 10 ≡ j = omega arith in z)
@@ -60,10 +60,10 @@ module _ (q : Request) (a : Accepted q) (left : pageOf q .list ≡ laidOut q) wh
   -- ---- line feeds
 
   square-is : (x y : ℕ) → x < q .side → y < q .side → byteAt q (y + 1) x ≡ squareByte (modulesOf q) x y
-  square-is x y hx hy = front (41 * (y + 1) + x) (omega (arith, a .narrow)) ∙ text-square (modulesOf q) (a .narrow) (numbersOf q) in-ten x y hx hy
+  square-is x y hx hy = front (51 * (y + 1) + x) (omega (arith, a .narrow)) ∙ text-square (modulesOf q) (a .narrow) (numbersOf q) in-ten x y hx hy
 
   padding-is : (x y : ℕ) → y < q .side → q .side ≤ x → x < columns → byteAt q (y + 1) x ≡ 32
-  padding-is x y hy hx l = front (41 * (y + 1) + x) (omega arith) ∙ text-padding (modulesOf q) (a .narrow) (numbersOf q) in-ten x y hy hx l
+  padding-is x y hy hx l = front (51 * (y + 1) + x) (omega arith) ∙ text-padding (modulesOf q) (a .narrow) (numbersOf q) in-ten x y hy hx l
 
   row-no-feed : (x y : ℕ) → y < q .side → x < columns → (b : Bool) → ltb x (q .side) ≡ b → 32 ≤ byteAt q (y + 1) x
   row-no-feed x y hy hx true e =
@@ -73,7 +73,7 @@ module _ (q : Request) (a : Accepted q) (left : pageOf q .list ≡ laidOut q) wh
 
   no-feed : (k c : ℕ) → k ≤ q .side → c < columns → 32 ≤ byteAt q k c
   no-feed zero c hk hc =
-      let e = front (41 * 0 + c) (omega arith) ∙ ap (λ (p : ℕ). getD (textOf q) p 0) (let z : 41 * 0 + c ≡ c = omega arith in z) ∙ text-head (modulesOf q) (a .narrow) (numbersOf q) in-ten c hc in
+      let e = front (51 * 0 + c) (omega arith) ∙ ap (λ (p : ℕ). getD (textOf q) p 0) (let z : 51 * 0 + c ≡ c = omega arith in z) ∙ text-head (modulesOf q) (a .narrow) (numbersOf q) in-ten c hc in
       omega (arith, e, byte-no-feed (9 - c % 10) (getD (numbersOf q) (c / 10) 0))
   no-feed (suc y) c hk hc =
       let e : byteAt q (suc y) c ≡ byteAt q (y + 1) c = ap (λ (n : ℕ). byteAt q n c) (let z : suc y ≡ y + 1 = omega arith in z) in
@@ -111,7 +111,7 @@ module _ (q : Request) (a : Accepted q) (left : pageOf q .list ≡ laidOut q) wh
       record {
         long = ap length left ∙ overlaid-length (textOf q) (q .page) room;
         rest = λ k l. ap (λ (s : List ℕ). getD s k 0) left ∙ overlaid-rest (textOf q) (q .page) room k (omega (arith, long-text));
-        line-feed = λ k l. front (41 * k + 40) (omega arith) ∙ text-end (modulesOf q) (a .narrow) (numbersOf q) in-ten k l;
+        line-feed = λ k l. front (51 * k + 50) (omega arith) ∙ text-end (modulesOf q) (a .narrow) (numbersOf q) in-ten k l;
         no-other = λ k c l m e. omega (arith, no-feed k c l m);
         digit = λ j k hj hk h. digit-is j k hj hk ∙ byte-digit k (getD (numbersOf q) j 0) h;
         last-digit = λ j hj. digit-is j 0 hj (omega arith) ∙ byte-last (getD (numbersOf q) j 0);

@@ -138,19 +138,19 @@ module _ (m : Modules) (g : ℕ) (s : m .side ≤ columns) (good : (i : ℕ) →
 module _ (numbers : List ℕ) (side k : ℕ) (narrow : side ≤ columns) where
   blank-end : k % (columns + 1) ≡ columns → blankByte numbers side k ≡ 10
   unfolding blankByte
-  blank-end e = rw (eq-eqb (k % 41) 40 e)
+  blank-end e = rw (eq-eqb (k % 51) 50 e)
 
   blank-head : k < columns → blankByte numbers side k ≡ fieldByte (fieldColumns - 1 - k % fieldColumns) (getD numbers (k / fieldColumns) 0)
   unfolding blankByte
-  blank-head l = rw (ne-eqb (k % 41) 40 (λ e. omega arith), lt-ltb k 40 l)
+  blank-head l = rw (ne-eqb (k % 51) 50 (λ e. omega arith), lt-ltb k 50 l)
 
   blank-dot : columns < k → k % (columns + 1) < side → blankByte numbers side k ≡ 46
   unfolding blankByte
-  blank-dot l h = rw (ne-eqb (k % 41) 40 (λ e. omega arith), le-ltb k 40 (omega arith), lt-ltb (k % 41) side h)
+  blank-dot l h = rw (ne-eqb (k % 51) 50 (λ e. omega arith), le-ltb k 50 (omega arith), lt-ltb (k % 51) side h)
 
   blank-padding : columns < k → side ≤ k % (columns + 1) → k % (columns + 1) < columns → blankByte numbers side k ≡ 32
   unfolding blankByte
-  blank-padding l h n = rw (ne-eqb (k % 41) 40 (λ e. omega arith), le-ltb k 40 (omega arith), le-ltb (k % 41) side h)
+  blank-padding l h n = rw (ne-eqb (k % 51) 50 (λ e. omega arith), le-ltb k 50 (omega arith), le-ltb (k % 51) side h)
 
 -- ---- a text at the front of a slice
 
@@ -190,42 +190,42 @@ module _ (numbers : List ℕ) (h : Numbers numbers) (m : Modules) (g : ℕ) (nar
   long-text = text-length m narrow numbers h
 
   -- byte p of the page: behind a line, in line one, on a square, right of the grid
-  front : (p : ℕ) → p < pageLength (m .side) → (e l q : Bool) → eqb (p % 41) 40 ≡ e → ltb p 40 ≡ l → ltb (p % 41) (m .side) ≡ q → getD (showAll m blank) p 0 ≡ getD (pageText numbers m) p 0
+  front : (p : ℕ) → p < pageLength (m .side) → (e l q : Bool) → eqb (p % 51) 50 ≡ e → ltb p 50 ≡ l → ltb (p % 51) (m .side) ≡ q → getD (showAll m blank) p 0 ≡ getD (pageText numbers m) p 0
   front p n true l q ee el eq =
-      let z = eqb-true (p % 41) 40 ee in
+      let z = eqb-true (p % 51) 50 ee in
       shows .others p (λ x y a b w. omega arith)
       ∙ filled .done p n ∙ blank-end numbers (m .side) p narrow z
-      ∙ sym (ap (λ (j : ℕ). getD (pageText numbers m) j 0) (let w : p ≡ 41 * (p / 41) + 40 = omega arith in w) ∙ text-end m narrow numbers h (p / 41) (omega arith))
+      ∙ sym (ap (λ (j : ℕ). getD (pageText numbers m) j 0) (let w : p ≡ 51 * (p / 51) + 50 = omega arith in w) ∙ text-end m narrow numbers h (p / 51) (omega arith))
   front p n false true q ee el eq =
-      let z = ltb-true p 40 el in
+      let z = ltb-true p 50 el in
       shows .others p (λ x y a b w. omega arith)
       ∙ filled .done p n ∙ blank-head numbers (m .side) p narrow z
       ∙ sym (text-head m narrow numbers h p z)
   front p n false false true ee el eq =
-      let z = ltb-true (p % 41) (m .side) eq in
-      let w = ltb-false p 40 el in
-      let u = eqb-false (p % 41) 40 ee in
-      let v : p ≡ placeOf (p % 41) (p / 41 - 1) = above p w u in
+      let z = ltb-true (p % 51) (m .side) eq in
+      let w = ltb-false p 50 el in
+      let u = eqb-false (p % 51) 50 ee in
+      let v : p ≡ placeOf (p % 51) (p / 51 - 1) = above p w u in
       ap (λ (j : ℕ). getD (showAll m blank) j 0) v
-      ∙ shows .squares (p % 41) (p / 41 - 1) z (omega arith)
-      ∙ sym (ap (λ (j : ℕ). getD (pageText numbers m) j 0) v ∙ text-square m narrow numbers h (p % 41) (p / 41 - 1) z (omega arith))
+      ∙ shows .squares (p % 51) (p / 51 - 1) z (omega arith)
+      ∙ sym (ap (λ (j : ℕ). getD (pageText numbers m) j 0) v ∙ text-square m narrow numbers h (p % 51) (p / 51 - 1) z (omega arith))
     where
-      above : (p : ℕ) → 40 ≤ p → (p % 41 ≡ 40 → ⊥) → p ≡ placeOf (p % 41) (p / 41 - 1)
+      above : (p : ℕ) → 50 ≤ p → (p % 51 ≡ 50 → ⊥) → p ≡ placeOf (p % 51) (p / 51 - 1)
       above p w u = omega arith
   front p n false false false ee el eq =
-      let z = ltb-false (p % 41) (m .side) eq in
-      let w = ltb-false p 40 el in
-      let u = eqb-false (p % 41) 40 ee in
-      let o : 41 ≤ p = omega arith in
-      let v : p ≡ placeOf (p % 41) (p / 41 - 1) = omega arith in
+      let z = ltb-false (p % 51) (m .side) eq in
+      let w = ltb-false p 50 el in
+      let u = eqb-false (p % 51) 50 ee in
+      let o : 51 ≤ p = omega arith in
+      let v : p ≡ placeOf (p % 51) (p / 51 - 1) = omega arith in
       shows .others p (λ x y a b w. omega arith)
       ∙ filled .done p n ∙ blank-padding numbers (m .side) p narrow o z (omega arith)
-      ∙ sym (ap (λ (j : ℕ). getD (pageText numbers m) j 0) v ∙ text-padding m narrow numbers h (p % 41) (p / 41 - 1) (omega arith) z (omega arith))
+      ∙ sym (ap (λ (j : ℕ). getD (pageText numbers m) j 0) v ∙ text-padding m narrow numbers h (p % 51) (p / 51 - 1) (omega arith) z (omega arith))
 
   byte-same : (p : ℕ) (b : Bool) → ltb p (pageLength (m .side)) ≡ b → getD (showAll m blank) p 0 ≡ getD (overlaid (pageText numbers m) page) p 0
   byte-same p true e =
       let l = ltb-true p (pageLength (m .side)) e in
-      front p l (eqb (p % 41) 40) (ltb p 40) (ltb (p % 41) (m .side)) refl refl refl
+      front p l (eqb (p % 51) 50) (ltb p 50) (ltb (p % 51) (m .side)) refl refl refl
       ∙ sym (overlaid-text (pageText numbers m) page (omega (arith, long-text)) p (omega (arith, long-text)))
   byte-same p false e =
       let l = ltb-false p (pageLength (m .side)) e in

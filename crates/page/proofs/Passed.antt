@@ -29,11 +29,12 @@ lengths side xs ys luma page h =
       room = ltb-false page (pageLength side) (q .1);
     }
 
-pub tally-in : (kept rejected : ℕ) → badTally kept rejected ≡ false → (kept ≤ 16384) × (rejected ≤ 16384)
+pub tally-in : (kept rejected held : ℕ) → badTally kept rejected held ≡ false → (kept ≤ 16384) × (rejected ≤ 16384) × (held ≤ 1048576)
 unfolding badTally
-tally-in kept rejected h =
-    let p = neither (ltb 16384 kept) (ltb 16384 rejected) h in
-    (ltb-false 16384 kept (p .0), ltb-false 16384 rejected (p .1))
+tally-in kept rejected held h =
+    let p = neither (ltb 16384 kept) (ltb 16384 rejected || ltb 1048576 held) h in
+    let q = neither (ltb 16384 rejected) (ltb 1048576 held) (p .1) in
+    (ltb-false 16384 kept (p .0), ltb-false 16384 rejected (q .0), ltb-false 1048576 held (q .1))
 
 module _ (r : Bool) where
   pub side-most : (side : ℕ) → r ≡ badSide side → r ≡ false → side ≤ 1024

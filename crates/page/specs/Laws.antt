@@ -30,16 +30,16 @@ abbrev pub digitAt : Request → ℕ → ℕ → ℕ
 digitAt q j k = byteAt q 0 (fieldColumns * j + (fieldColumns - 1 - k))
 
 pub record Page (q : Request) : Type 0 where
-  -- the slice keeps its length, and from 41 × (side + 1) on its bytes
+  -- the slice keeps its length, and from 51 × (side + 1) on its bytes
   pub long : length (pageOf q .list) ≡ length (q .page)
   pub rest : (k : ℕ) → pageLength (q .side) ≤ k → getD (pageOf q .list) k 0 ≡ getD (q .page) k 0
-  -- each of the side + 1 lines has 40 columns and then its only line feed
+  -- each of the side + 1 lines has 50 columns and then its only line feed
   pub line-feed : (k : ℕ) → k ≤ q .side → byteAt q k columns ≡ 10
   pub no-other : (k c : ℕ) → k ≤ q .side → c < columns → byteAt q k c ≡ 10 → ⊥
-  -- line one: the digits of the side, the terms, kept and rejected, the last of each in its tenth column, with spaces before the first. 0 has one digit
-  pub digit : (j k : ℕ) → j < 4 → k < fieldColumns → 10 ^ k ≤ getD (numbersOf q) j 0 → digitAt q j k ≡ 48 + getD (numbersOf q) j 0 / 10 ^ k % 10
-  pub last-digit : (j : ℕ) → j < 4 → digitAt q j 0 ≡ 48 + getD (numbersOf q) j 0 % 10
-  pub space : (j k : ℕ) → j < 4 → 0 < k → k < fieldColumns → getD (numbersOf q) j 0 < 10 ^ k → digitAt q j k ≡ 32
+  -- line one: the digits of the side, the terms, kept, rejected and the modules that have a mark, the last of each in its tenth column, with spaces before the first. 0 has one digit
+  pub digit : (j k : ℕ) → j < 5 → k < fieldColumns → 10 ^ k ≤ getD (numbersOf q) j 0 → digitAt q j k ≡ 48 + getD (numbersOf q) j 0 / 10 ^ k % 10
+  pub last-digit : (j : ℕ) → j < 5 → digitAt q j 0 ≡ 48 + getD (numbersOf q) j 0 % 10
+  pub space : (j k : ℕ) → j < 5 → 0 < k → k < fieldColumns → getD (numbersOf q) j 0 < 10 ^ k → digitAt q j k ≡ 32
   -- a square shows how the last module that is listed there reads, and a dot where none is
   pub square : (x y i : ℕ) → x < q .side → y < q .side → LastThere q x y i → byteAt q (y + 1) x ≡ 48 + reads (getD (q .luma) i nan)
   pub dot : (x y : ℕ) → x < q .side → y < q .side → ((i : ℕ) → StandsAt q x y i → ⊥) → byteAt q (y + 1) x ≡ 46

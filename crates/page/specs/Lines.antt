@@ -14,9 +14,9 @@ use Rattle.reading.specs.Read.{reads}
 -- ---- a line
 
 abbrev pub columns : ℕ
-columns = 40
+columns = 50
 
--- "Each line is padded to 40 columns and ends in one line feed"
+-- "Each line is padded", "all its lines grow to 50 columns", "and ends in one line feed"
 unfoldable pub line : List ℕ → List ℕ
 line s = s ++ (replicate (columns - length s) 32 ++ lineFeed)
 

@@ -26,7 +26,7 @@ fieldByte (suc k) n = cond (ltb n 10) 32 (fieldByte k (n / 10))
 
 -- ---- the page without modules
 
--- byte k, in column k % 41 of line k / 41
+-- byte k, in column k % 51 of line k / 51
 unfoldable pub blankByte : List ℕ → ℕ → ℕ → ℕ
 blankByte numbers side k =
     cond (eqb (k % (columns + 1)) columns) 10

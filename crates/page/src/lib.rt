@@ -1,12 +1,12 @@
-// A read card laid out on a page of text, for the panel door. Line one gives the side, the terms, and how many references
-// were kept and rejected, each right-aligned in ten columns. Below it stands every row of the grid, y from 0 down, one
-// column a module: 0, 1 or 2 as its luma score reads, or a dot where no listed module stands. Each line is padded to 40
-// columns and ends in one line feed.
+// A read card laid out on a page of text, for the panel door. Line one gives the side, the terms, how many references
+// were kept and rejected, and how many modules were corrected by a gain that was held, each right-aligned in ten columns.
+// Below it stands every row of the grid, y from 0 down, one column a module: 0, 1 or 2 as its luma score reads, or a dot
+// where no listed module stands. Each line is padded to 50 columns and ends in one line feed.
 //
-// A first use: after `unmask_luma`,
+// A first use: after `score`, which reports the modules whose gain was held, and `unmask_luma`,
 //     let mut out = [0u8; page::PAGE_ROOM];
-//     page::page(side, model.terms, model.kept, model.rejected, &xs, &ys, grid, &luma, &mut out)
-// lays the card out in the first 41 × (side + 1) bytes.
+//     page::page(side, model.terms, model.kept, model.rejected, report.held_modules, &xs, &ys, grid, &luma, &mut out)
+// lays the card out in the first 51 × (side + 1) bytes.
 ghost use mathlib.Core.Path.{_≡_};
 ghost use mathlib.Core.List.{[], _∷_};
 ghost use Prim.Native.Nat.{_<_, _≤_, _^_};
@@ -20,10 +20,13 @@ ghost use Rattle.page.specs.Calls as call;
 use answers::Outcome;
 
 // The columns of a line; a line feed comes after them.
-pub const COLUMNS: usize = 40;
+pub const COLUMNS: usize = 50;
 
-// Room for every page: 41 lines of 41 bytes, where the side is 40.
-pub const PAGE_ROOM: usize = 1681;
+// The widest grid that is laid out.
+pub const WIDEST: usize = 40;
+
+// Room for every page: 41 lines of 51 bytes, where the side is 40.
+pub const PAGE_ROOM: usize = 2091;
 
 // ---- line one
 
@@ -53,7 +56,7 @@ fn page_length(side: usize) -> usize
 
 // Byte k of a page that has no module on its grid.
 fn blank_byte(numbers: &[usize], side: usize, k: usize) -> u8
-    requires { ⌜ 4 ≤ length (now numbers) ⌝ }
+    requires { ⌜ 5 ≤ length (now numbers) ⌝ }
     ensures { λ r. ⌜ r ≡ step.blankByte (now (numbers .entry)) side k ⌝ }
 {
     let column = k % (COLUMNS + 1);
@@ -71,7 +74,7 @@ fn blank_byte(numbers: &[usize], side: usize, k: usize) -> u8
 
 // All of them.
 fn lay_blank(numbers: &[usize], side: usize, out: &mut [u8])
-    requires { ⌜ (4 ≤ length (now numbers)) × step.RoomFor side (now out) ⌝ }
+    requires { ⌜ (5 ≤ length (now numbers)) × step.RoomFor side (now out) ⌝ }
     ensures { λ _. ⌜ now (out .exit) ≡ step.blankPage (now (numbers .entry)) side (now (out .entry)) ⌝ }
 {
     for k in 0..page_length(side) {
@@ -110,16 +113,17 @@ fn lay_out(
     terms: usize,
     kept: u32,
     rejected: u32,
+    held: usize,
     xs: &[i32],
     ys: &[i32],
     grid: usize,
     luma: &[f32],
     out: &mut [u8],
 )
-    requires { ⌜ step.RoomFor side (now out) × Positions side grid (now xs) (now ys) × (length (now xs) ≤ length (now luma)) × (terms < 10 ^ 10) ⌝ }
-    ensures { λ _. ⌜ now (out .exit) ≡ overlaid (pageText (side ∷ terms ∷ kept ∷ rejected ∷ []) (modules side (now (xs .entry)) (now (ys .entry)) (now (luma .entry)))) (now (out .entry)) ⌝ }
+    requires { ⌜ step.RoomFor side (now out) × Positions side grid (now xs) (now ys) × (length (now xs) ≤ length (now luma)) × (terms < 10 ^ 10) × (held < 10 ^ 10) ⌝ }
+    ensures { λ _. ⌜ now (out .exit) ≡ overlaid (pageText (side ∷ terms ∷ kept ∷ rejected ∷ held ∷ []) (modules side (now (xs .entry)) (now (ys .entry)) (now (luma .entry)))) (now (out .entry)) ⌝ }
 {
-    let numbers = [side, terms, kept as usize, rejected as usize];
+    let numbers = [side, terms, kept as usize, rejected as usize, held];
     lay_blank(&numbers, side, out);
     show_all(side, xs, ys, luma, out);
 }
@@ -140,14 +144,17 @@ fn short_slices(side: usize, xs: &[i32], ys: &[i32], luma: &[f32], out: &[u8]) -
     out.len() < page_length(side)
 }
 
-// Sentence 6, of the model's counts: one is above 16,384.
-fn bad_tally(kept: u32, rejected: u32) -> bool
-    ensures { λ r. ⌜ r ≡ call.badTally kept rejected ⌝ }
+// Sentence 6, of the counts that are shown: one of the model's is above 16,384, or that of the modules above 1,048,576.
+fn bad_tally(kept: u32, rejected: u32, held: usize) -> bool
+    ensures { λ r. ⌜ r ≡ call.badTally kept rejected held ⌝ }
 {
     if 16384 < kept {
         return true;
     }
-    16384 < rejected
+    if 16384 < rejected {
+        return true;
+    }
+    1048576 < held
 }
 
 // The number of the first sentence that holds, or 0; 6 and 7 of the modules by the group that calls share.
@@ -156,13 +163,14 @@ fn refused(
     terms: usize,
     kept: u32,
     rejected: u32,
+    held: usize,
     xs: &[i32],
     ys: &[i32],
     grid: usize,
     luma: &[f32],
     out: &[u8],
 ) -> u32
-    ensures { λ r. ⌜ r ≡ refusal (call.sentencesOf (call.request side terms kept rejected (now (xs .entry)) (now (ys .entry)) grid (now (luma .entry)) (now (out .entry)))) ⌝ }
+    ensures { λ r. ⌜ r ≡ refusal (call.sentencesOf (call.request side terms kept rejected held (now (xs .entry)) (now (ys .entry)) grid (now (luma .entry)) (now (out .entry)))) ⌝ }
 {
     if limits::bad_side(side) {
         return 2;
@@ -170,7 +178,7 @@ fn refused(
     if short_slices(side, xs, ys, luma, out) {
         return 5;
     }
-    if bad_tally(kept, rejected) {
+    if bad_tally(kept, rejected, held) {
         return 6;
     }
     let places = layout::refused_modules(side, grid, xs, ys);
@@ -180,35 +188,36 @@ fn refused(
     if illum::bad_terms(terms) {
         return 10;
     }
-    if COLUMNS < side {
+    if WIDEST < side {
         return 14;
     }
     0
 }
 
-// Lays a read card out as side + 1 lines of 40 columns and a line feed, from a model's terms and its counts of kept and
-// rejected references, the listed modules, of which the first `grid` are grid modules, and their unmasked luma scores. Every
-// float is accepted as a score; NaN and both zeros show as 2. A ring module that stands on the grid shows too, one outside
+// Lays a read card out as side + 1 lines of 50 columns and a line feed, from a model's terms and its counts of kept and
+// rejected references, scoring's count of modules that have a mark (`held`), the listed modules, of which the first `grid`
+// are grid modules, and their unmasked luma scores. Every float is accepted as a score; NaN and both zeros show as 2. A ring module that stands on the grid shows too, one outside
 // it does not, and of several modules at one position the last listed one shows. The rest of a longer slice stays.
-// Refused: 2, 5 (fewer than 41 × (side + 1) bytes too), 6 (a count above 16,384 too), 7, 10, 14 (the side is above 40);
+// Refused: 2, 5 (fewer than 51 × (side + 1) bytes too), 6 (kept or rejected above 16,384, or held above 1,048,576, too), 7, 10, 14 (the side is above 40);
 // nothing is written then.
 pub fn page(
     side: usize,
     terms: usize,
     kept: u32,
     rejected: u32,
+    held: usize,
     xs: &[i32],
     ys: &[i32],
     grid: usize,
     luma: &[f32],
     out: &mut [u8],
 ) -> Outcome
-    ensures { λ r. ⌜ ended r (now (out .exit)) ≡ call.pageOf (call.request side terms kept rejected (now (xs .entry)) (now (ys .entry)) grid (now (luma .entry)) (now (out .entry))) ⌝ }
+    ensures { λ r. ⌜ ended r (now (out .exit)) ≡ call.pageOf (call.request side terms kept rejected held (now (xs .entry)) (now (ys .entry)) grid (now (luma .entry)) (now (out .entry))) ⌝ }
 {
-    let n = refused(side, terms, kept, rejected, xs, ys, grid, luma, out);
+    let n = refused(side, terms, kept, rejected, held, xs, ys, grid, luma, out);
     if n != 0 {
         return Outcome::Refused(n);
     }
-    lay_out(side, terms, kept, rejected, xs, ys, grid, luma, out);
+    lay_out(side, terms, kept, rejected, held, xs, ys, grid, luma, out);
     Outcome::Done
 }

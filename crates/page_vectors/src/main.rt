@@ -41,6 +41,7 @@ fn page_in(
         count(row, 0, 1),
         counted_references(row, 2),
         counted_references(row, 3),
+        count(row, 0, 4),
         xs,
         ys,
         grid,
@@ -54,7 +55,7 @@ fn page_in(
 // What stands in a record from its grid count on: that, the scores, and the page's length and filling.
 fn page_lent(row: &[u64], at_grid: usize, xs: &[i32], ys: &[i32], got: &mut [u64]) -> usize {
     let mut luma = [0.0f32; 64];
-    let mut out = [0u8; 2048];
+    let mut out = [0u8; 2304];
     let at_luma = std::num::wrapping_add_usize(at_grid, 1);
     let n = vectors::load_f32(row, at_luma, &mut luma);
     let at_lent = vectors::past_slice(row, at_luma);
@@ -71,12 +72,12 @@ fn page_lent(row: &[u64], at_grid: usize, xs: &[i32], ys: &[i32], got: &mut [u64
     )
 }
 
-// page side terms kept rejected |xs| |ys| grid |luma| lent fill = no |page|'
+// page side terms kept rejected held |xs| |ys| grid |luma| lent fill = no |page|'
 fn answers(row: &[u64], got: &mut [u64]) -> usize {
     let mut xs = [0i32; 64];
     let mut ys = [0i32; 64];
-    let xn = vectors::load_i32(row, 4, &mut xs);
-    let at_ys = vectors::past_slice(row, 4);
+    let xn = vectors::load_i32(row, 5, &mut xs);
+    let at_ys = vectors::past_slice(row, 5);
     let yn = vectors::load_i32(row, at_ys, &mut ys);
     let at_grid = vectors::past_slice(row, at_ys);
     page_lent(row, at_grid, &xs[..xn], &ys[..yn], got)
@@ -87,8 +88,8 @@ fn answers(row: &[u64], got: &mut [u64]) -> usize {
 // Reads the record that begins at `at` and compares its answers.
 fn replayed(text: &[u8], at: usize, names: &[u8]) -> Compared {
     let mut row = [0u64; 256];
-    let mut wanted = [0u64; 2304];
-    let mut got = [0u64; 2304];
+    let mut wanted = [0u64; 2560];
+    let mut got = [0u64; 2560];
     let f = vectors::function_of(text, at, names);
     let read = vectors::read_record(text, at, &mut row, &mut wanted);
     let n = answers(&row, &mut got);

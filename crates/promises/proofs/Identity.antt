@@ -25,6 +25,6 @@ module _ (side : ℕ) (least : 1 ≤ side) (most : side ≤ 1024) where
     pub returned : Fin binary32 x → Fin binary32 y → Fin binary32 (c .r) → Fin binary32 (c .g) → Fin binary32 (c .b) → ReturnedColour c (corrected (identityOf side .model) x y c .colour)
     returned p q r g b = rw model-is (unit-returns side 4 least x y c p q r g b)
 
-    pub answered : wildLinear c ≡ false → correctOf (identityOf side .model) x y c ≡ gives (corrected (identityOf side .model) x y c .colour)
+    pub answered : wildLinear c ≡ false → correctOf (identityOf side .model) x y c ≡ gives (corrected (identityOf side .model) x y c)
     unfolding correctOf sentencesOf refusal decided
     answered h = rw (model-is, h, unit-four-passes side least most)

@@ -19,7 +19,7 @@ use Rattle.modulate.specs.Draw as drawing
 use Rattle.modulate.specs.Draw.{entriesOf, shortBits, shortHues, badDrawLengths, drawSentences, drawOf}
 use Rattle.modulate.proofs.Lengths.{draw-lengths, bits-long, hues-long}
 use Rattle.illum.specs.declared.IlluminationModel.{IlluminationModel}
-use Rattle.stats.specs.declared.ChannelStats.{ChannelStats}
+use Rattle.measure.specs.declared.Measurement.{Measurement}
 use Rattle.measure.specs.Measure.{measureOf}
 use Rattle.measure.proofs.Passes.{answered-passes}
 use Rattle.demod.specs.Call as scoring
@@ -35,8 +35,8 @@ use Rattle.promises.specs.Premises.{DrawingRoom, RefusedByLength}
 
 -- ---- the palette and the noise record of a file are f32 values
 
-pub file-singles : (s : List ℕ) (card : opened.Card) (m : IlluminationModel) (r : ChannelStats) → measureOf (toMeasure (sheetOf s card) (referencesOf s card) m) .said ≡ gives r →
-    Singles (settingOf (sheetOf s card) m r)
+pub file-singles : (s : List ℕ) (card : opened.Card) (m : IlluminationModel) (r : Measurement) → measureOf (toMeasure (sheetOf s card) (referencesOf s card) m) .said ≡ gives r →
+    Singles (settingOf (sheetOf s card) m (r .noise))
 unfolding sheetOf referencesOf
 file-singles s card m r e =
     let palette = floats-fit s (card .palette) (2 + 8 * card .settings .hues) in

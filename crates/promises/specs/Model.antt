@@ -25,7 +25,7 @@ pub record IdentityReturns : Type 0 where
   pub colour : (side : ℕ) → 1 ≤ side → side ≤ 1024 → (x y : Float) (c : Linear) → Fin binary32 x → Fin binary32 y → Fin binary32 (c .r) → Fin binary32 (c .g) → Fin binary32 (c .b) →
       ReturnedColour c (corrected (identityOf side .model) x y c .colour)
   pub answer : (side : ℕ) → 1 ≤ side → side ≤ 1024 → (x y : Float) (c : Linear) → wildLinear c ≡ false →
-      correctOf (identityOf side .model) x y c ≡ gives (corrected (identityOf side .model) x y c .colour)
+      correctOf (identityOf side .model) x y c ≡ gives (corrected (identityOf side .model) x y c)
 
 -- an accepted fit of n references: its model passes sentence 10, and none were kept, or the kept and the rejected are all
 pub record Fitted (q : Request) : Type 0 where

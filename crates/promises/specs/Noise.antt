@@ -18,6 +18,7 @@ use Rattle.margin.specs.declared.Threshold.the-variants.{Thirteen, Nine}
 use Rattle.stats.specs.Calls.{badNoiseNumbers, badSigmas}
 use Rattle.margin.specs.Calls.{marginAtAnswer}
 use Rattle.margin.specs.Margin.{levelFits, sigmasFit, darkClear, lightClear, near, far, inMargin}
+use Rattle.measure.specs.declared.Measurement.{Measurement}
 use Rattle.measure.specs.Measure.{Request, measureOf}
 
 -- the record's figures are f32 values, as the code's are
@@ -74,4 +75,4 @@ pub record Passing (r : ChannelStats) : Type 0 where
   pub singles : HeldAsSingles r
 
 abbrev pub MeasuredRecords : Type 0
-MeasuredRecords = (q : Request) → AllSingles (q .flat) → AllSingles (q .palette) → (r : ChannelStats) → measureOf q .said ≡ gives r → Passing r
+MeasuredRecords = (q : Request) → AllSingles (q .flat) → AllSingles (q .palette) → (r : Measurement) → measureOf q .said ≡ gives r → Passing (r .noise)

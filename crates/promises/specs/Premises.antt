@@ -10,7 +10,7 @@ use Rattle.limits.specs.Chroma.{chromaOn}
 use Rattle.answers.specs.Answers.{gives}
 use Rattle.modulate.specs.Draw.{entriesOf}
 use Rattle.illum.specs.declared.IlluminationModel.{IlluminationModel}
-use Rattle.stats.specs.declared.ChannelStats.{ChannelStats}
+use Rattle.measure.specs.declared.Measurement.{Measurement}
 use Rattle.measure.specs.Measure.{measureOf}
 use Rattle.guarantee.specs.Card.{Setting, Card, modules, chromaScores, drawnCard, scoredCard}
 use Rattle.guarantee.specs.Guarantee.{Singles}
@@ -24,8 +24,8 @@ use Rattle.reader.specs.Fitting.{toMeasure}
 -- of every file, and every model: where its references are measured, the palette and the record hold f32 values
 abbrev pub ReadableAreSingles : Type 0
 ReadableAreSingles =
-    (s : List ℕ) (card : opened.Card) (m : IlluminationModel) (r : ChannelStats) →
-    measureOf (toMeasure (sheetOf s card) (referencesOf s card) m) .said ≡ gives r → Singles (settingOf (sheetOf s card) m r)
+    (s : List ℕ) (card : opened.Card) (m : IlluminationModel) (r : Measurement) →
+    measureOf (toMeasure (sheetOf s card) (referencesOf s card) m) .said ≡ gives r → Singles (settingOf (sheetOf s card) m (r .noise))
 
 -- ---- drawing where scoring was accepted
 

@@ -5,6 +5,7 @@ use Prim.Native.Nat.{ℕ, _≤_}
 use lib.ListN.{length, take, drop}
 use Rattle.illum.specs.declared.IlluminationModel.{IlluminationModel}
 use Rattle.stats.specs.declared.ChannelStats.{ChannelStats}
+use Rattle.measure.specs.declared.Measurement.{Measurement}
 use Rattle.measure.specs.Measure.{measureOf}
 use Rattle.refine.specs.Refine.{squares}
 use Rattle.answers.specs.Answers.{gives}
@@ -34,9 +35,9 @@ pub record AcceptedIsListed : Type 0 where
   -- so a card of a file is listed
   pub sheet : (c : Sheet) (m : IlluminationModel) (n : ChannelStats) → HeldAsSingles n → scoredCard (settingOf c m n) (cardOf c) .number ≡ 0 → scoreText c m n ≡ listingOf (settingOf c m n) (cardOf c)
   -- the text of a card file that is opened, whose fit and measurement are accepted, and whose scoring is
-  pub file : (s : List ℕ) (card : opening.Card) → let c = sheetOf s card in let references = referencesOf s card in let m = fitted c references .model in (r : ChannelStats) →
-      opened 5 s ≡ gives card → fitted c references .number ≡ 0 → measureOf (toMeasure c references m) .said ≡ gives r → scoredCard (settingOf c m r) (cardOf c) .number ≡ 0 →
-      cardText s ≡ listingOf (settingOf c m r) (cardOf c)
+  pub file : (s : List ℕ) (card : opening.Card) → let c = sheetOf s card in let references = referencesOf s card in let m = fitted c references .model in (r : Measurement) →
+      opened 5 s ≡ gives card → fitted c references .number ≡ 0 → measureOf (toMeasure c references m) .said ≡ gives r → scoredCard (settingOf c m (r .noise)) (cardOf c) .number ≡ 0 →
+      cardText s ≡ listingOf (settingOf c m (r .noise)) (cardOf c)
 
 -- ---- the room
 

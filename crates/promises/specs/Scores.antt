@@ -14,7 +14,8 @@ use Rattle.modulate.specs.declared.Cell.{Cell}
 use Rattle.modulate.specs.declared.Cell.the-variants.{Unmasked, At}
 use Rattle.stats.specs.Noise.{reliability}
 use Rattle.scores.specs.Score.{bitScores, chromaScore, lumaScore}
-use Rattle.demod.specs.Call.{Request, moduleColours, cellColours, sentencesOf, turnedAway, scoredOf}
+use Rattle.demod.specs.declared.Scored.the-variants.{Done}
+use Rattle.demod.specs.Call.{Request, moduleColours, cellColours, sentencesOf, reportOf, turnedAway, scoredOf}
 use Rattle.promises.specs.Noise.{HeldAsSingles}
 
 -- the luma scores are within ±20, and the corrected colours that are handed on finite and at most 1,048,576 in magnitude
@@ -37,6 +38,7 @@ place q e b = e * symbolBits (q .layout .hues) + b
 -- accepted: no sentence holds, each number that belongs to a module, a cell or a ring module is written, and what comes after them stays
 pub record Scored (q : Request) : Type 0 where
   pub no-sentence : refusal (sentencesOf q) ≡ 0
+  pub reports : scoredOf q .answer ≡ Done (reportOf q)
   pub luma-long : length (scoredOf q .luma) ≡ length (q .luma)
   pub luma : (i : ℕ) → i < length (q .xs) → getD (scoredOf q .luma) i nan ≡ lumaScore (q .noise) (q .palette) (q .layout .hues) (moduleColours q i)
   pub luma-kept : (i : ℕ) → length (q .xs) ≤ i → getD (scoredOf q .luma) i nan ≡ getD (q .luma) i nan

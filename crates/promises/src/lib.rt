@@ -15,6 +15,7 @@ ghost use Rattle.reading.specs.Erasure.{Erasures};
 ghost use Rattle.modulate.specs.Laws.{UnmaskingTwice, UnmaskedReads};
 ghost use Rattle.promises.specs.Symbols.{GrayCode, NeighbouringHues, Rotations, DrawnIsRead};
 ghost use Rattle.promises.specs.Model.{Moderate, IdentityReturns, FittedModels};
+ghost use Rattle.promises.specs.Marks.{MarksByTheGain, HeldCounts};
 ghost use Rattle.promises.specs.Noise.{ReliabilityRange, LumaLlrRange, MarginClauses, YesAtNine, MeasuredRecords};
 ghost use Rattle.promises.specs.Scores.{ScoresInRange, ScoringAnswers};
 ghost use Rattle.promises.specs.Window.{WindowInCoordinates};
@@ -173,6 +174,13 @@ pub fn identity_returns_the_colour()
     ensures { λ _. ⌜ IdentityReturns ⌝ }
 {}
 
+// A channel's mark is set exactly where its gain at the position, before it is held, is under 0.05 in magnitude: at either
+// zero, not at 0.05 itself, an infinity or a NaN. A channel without a mark is divided by its own gain, one with a mark by
+// 0.05 of its gain's sign. The colour plays no part in the marks.
+pub fn marks_by_the_gain()
+    ensures { λ _. ⌜ MarksByTheGain ⌝ }
+{}
+
 // ---- the crate stats
 
 // The weight that a sample is given is a number from 0 to 1, whatever the noise record, the sample and the palette.
@@ -225,6 +233,12 @@ pub fn scoring_answers()
     ensures { λ _. ⌜ ScoringAnswers ⌝ }
 {}
 
+// What an accepted measurement counts, and what an accepted `score` reports of its modules and of its cells: no more than
+// there are, and 0 exactly where none of them has a mark. Under 8 references, and of cells with chroma off, it is 0.
+pub fn held_counts()
+    ensures { λ _. ⌜ HeldCounts ⌝ }
+{}
+
 // ---- the crate refine
 
 // Which squares the 7 by 7 window of refinement looks at, for every side: place k, from 0 to 48, lies k % 7 - 3
@@ -244,16 +258,17 @@ pub fn signs_kept()
 
 // ---- the crate page
 
-// What every call of `page` leaves, byte by byte. Accepted: side + 1 lines, each of 40 columns and then its only line feed;
-// the digits of the side, the terms, kept and rejected, each number's last one in its tenth column, with spaces before the
-// first; on each square of the grid how the last module that is listed there reads, or a dot where none is; and the rest
-// of the slice as it was. Refused: the whole slice as it was.
+// What every call of `page` leaves, byte by byte. Accepted: side + 1 lines, each of 50 columns and then its only line feed;
+// the digits of the side, the terms, kept, rejected and the modules that have a mark, each number's last one in its tenth
+// column, with spaces before the first; on each square of the grid how the last module that is listed there reads, or a dot
+// where none is; and the rest of the slice as it was. Refused: the whole slice as it was.
 pub fn every_page()
     ensures { λ _. ⌜ Pages ⌝ }
 {}
 
-// The terms, kept and rejected of the model of an accepted fit never meet sentence 10 or 6 of `page`: the terms are 4 or 9,
-// and both counts at most 16,384.
+// The terms, kept and rejected of the model of an accepted fit, and the modules that an accepted `score` reports, never meet
+// sentence 10 or 6 of `page`: the terms are 4 or 9, both counts of references at most 16,384, and that of modules at most
+// 1,048,576.
 pub fn fitted_models_on_pages()
     ensures { λ _. ⌜ FittedOnPages ⌝ }
 {}

@@ -14,7 +14,7 @@ use Rattle.card.specs.Number.{u32At, f32At}
 use Rattle.card.specs.Sections.{floatAt, componentAt}
 use Rattle.card.specs.File.{opened}
 use Rattle.illum.specs.declared.IlluminationModel.{IlluminationModel}
-use Rattle.stats.specs.declared.ChannelStats.{ChannelStats}
+use Rattle.measure.specs.declared.Measurement.{Measurement}
 use Rattle.measure.specs.Measure.{measureOf}
 use Rattle.measure.proofs.Passes.{F32, answered-passes}
 use Rattle.guarantee.specs.Card.{scoredCard}
@@ -55,9 +55,9 @@ module _ (s : List ℕ) (card : Card) where
   abbrev model : IlluminationModel
   model = fitted sheet references .model
 
-  pub card-listed : (r : ChannelStats) → opened 5 s ≡ gives card → fitted sheet references .number ≡ 0 → measureOf (toMeasure sheet references model) .said ≡ gives r →
-      scoredCard (settingOf sheet model r) (cardOf sheet) .number ≡ 0 → cardText s ≡ listingOf (settingOf sheet model r) (cardOf sheet)
+  pub card-listed : (r : Measurement) → opened 5 s ≡ gives card → fitted sheet references .number ≡ 0 → measureOf (toMeasure sheet references model) .said ≡ gives r →
+      scoredCard (settingOf sheet model (r .noise)) (cardOf sheet) .number ≡ 0 → cardText s ≡ listingOf (settingOf sheet model (r .noise)) (cardOf sheet)
   unfolding cardText afterOpening fitText afterFitting measureText afterMeasuring decided sheetOf referencesOf
   card-listed r o f m d =
       let p = answered-passes (toMeasure sheet references model) (floats-fit s (card .references .at) (8 * card .references .count)) (floats-fit s (card .palette) (2 + 8 * card .settings .hues)) r m in
-      rw (o, f, m) (is-listed sheet model r (p .held) d)
+      rw (o, f, m) (is-listed sheet model (r .noise) (p .held) d)

@@ -14,12 +14,12 @@ use Rattle.listing.specs.Text.{Text, written}
 use Rattle.listing.specs.Listing.{refusedLine}
 use Rattle.illum.specs.declared.IlluminationModel.{IlluminationModel}
 use Rattle.illum.specs.declared.Modelled.{Modelled}
-use Rattle.stats.specs.declared.ChannelStats.{ChannelStats}
-use Rattle.stats.specs.declared.Noise.{Noise}
-use Rattle.stats.specs.declared.Noise.the-variants as noise
-use Rattle.stats.specs.Calls.{noiseSaid}
 use Rattle.fit.specs.Fit as fitting
+use Rattle.measure.specs.declared.Measurement.{Measurement}
+use Rattle.measure.specs.declared.Measured.{Measured}
+use Rattle.measure.specs.declared.Measured.the-variants as measure
 use Rattle.measure.specs.Measure as measuring
+use Rattle.measure.specs.Measure.{measuredSaid}
 use Rattle.readout.specs.Sheet.{sheet}
 use Rattle.readout.specs.Reading.{scoreText}
 use Rattle.reader.specs.File.{floatsOf, Modules, Cells, sheetOf, referencesOf}
@@ -30,15 +30,15 @@ use Rattle.reader.specs.Text.{afterOpening, cardText}
 
 module _ (s : Settings) (palette : List Float) (xs ys : List ℤ) (raw : List Float) (cxs cys : List ℕ) (craw : List Float) (m : IlluminationModel) (t u : Text) where
   module _ (references : List Float) where
-    module _ (o : Noise) (left scratch : List Float) (p : measuring.final (noiseSaid o) left ≡ measuring.measureOf (measuring.flatRequest references (s .side) m palette (s .hues) scratch)) (z : scratch ≡ scratchOf references) where
-      answers : noiseSaid o ≡ measuring.measureOf (measuring.flatRequest references (s .side) m palette (s .hues) (scratchOf references)) .said
+    module _ (o : Measured) (left scratch : List Float) (p : measuring.final (measuredSaid o) left ≡ measuring.measureOf (measuring.flatRequest references (s .side) m palette (s .hues) scratch)) (z : scratch ≡ scratchOf references) where
+      answers : measuredSaid o ≡ measuring.measureOf (measuring.flatRequest references (s .side) m palette (s .hues) (scratchOf references)) .said
       answers = ap (λ (f : measuring.Final). f .said) (rw z at p)
 
-      pub measured : (n : ChannelStats) → o ≡ noise.Record n → u ≡ written (scoreText (sheet s palette xs ys raw cxs cys craw) m n) t → u ≡ written (measureText (sheet s palette xs ys raw cxs cys craw) references m) t
+      pub measured : (n : Measurement) → o ≡ measure.Record n → u ≡ written (scoreText (sheet s palette xs ys raw cxs cys craw) m (n .noise)) t → u ≡ written (measureText (sheet s palette xs ys raw cxs cys craw) references m) t
       unfolding measureText afterMeasuring
       measured n e g = rw (← answers, e) g
 
-      pub not-measured : (k : ℕ) → o ≡ noise.Refused k → u ≡ written (refusedLine k) t → u ≡ written (measureText (sheet s palette xs ys raw cxs cys craw) references m) t
+      pub not-measured : (k : ℕ) → o ≡ measure.Refused k → u ≡ written (refusedLine k) t → u ≡ written (measureText (sheet s palette xs ys raw cxs cys craw) references m) t
       unfolding measureText afterMeasuring
       not-measured k e g = rw (← answers, e) g
 

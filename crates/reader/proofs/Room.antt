@@ -24,6 +24,7 @@ use Rattle.listing.proofs.Room.{in-full}
 use Rattle.illum.specs.declared.IlluminationModel.{IlluminationModel}
 use Rattle.illum.specs.declared.Modelled.{Modelled}
 use Rattle.stats.specs.declared.ChannelStats.{ChannelStats}
+use Rattle.measure.specs.declared.Measurement.{Measurement}
 use Rattle.references.specs.References.{referencePlacement}
 use Rattle.measure.specs.Measure as measuring
 use Rattle.readout.specs.Sheet.{Sheet, Few}
@@ -42,10 +43,10 @@ unfolding measuring.measureOf measuring.sentencesFor referencePlacement tiny
 measure-small q =
     number-small (λ e. e .said .number) (measuring.turnedAway q) (measuring.done q) (refusal (measuring.sentencesOf q)) (λ n. refl) refl (refusal-small (measuring.sentencesOf q) refl)
 
-after-in : (c : Sheet) (m : IlluminationModel) (n : ℕ) (v : Option ChannelStats) → n < 100 → ((r : ChannelStats) → length (scoreText c m r) ≤ listingRoom) → length (afterMeasuring c m n v) ≤ listingRoom
+after-in : (c : Sheet) (m : IlluminationModel) (n : ℕ) (v : Option Measurement) → n < 100 → ((r : ChannelStats) → length (scoreText c m r) ≤ listingRoom) → length (afterMeasuring c m n v) ≤ listingRoom
 unfolding afterMeasuring
 after-in c m n none h g = line-in n (omega arith)
-after-in c m n (some r) h g = g r
+after-in c m n (some r) h g = g (r .noise)
 
 decided-in : (k : ℕ) (next : List ℕ) → k < 10 ^ 20 → length next ≤ listingRoom → length (decided k refusedLine next) ≤ listingRoom
 unfolding decided

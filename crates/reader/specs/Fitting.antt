@@ -10,9 +10,9 @@ use Rattle.listing.specs.Text.{text, written}
 use Rattle.listing.specs.Listing.{refusedLine}
 use Rattle.illum.specs.declared.IlluminationModel.{IlluminationModel}
 use Rattle.illum.specs.declared.Modelled.{Modelled}
-use Rattle.stats.specs.declared.ChannelStats.{ChannelStats}
 use Rattle.fit.specs.Fit as fitting
 use Rattle.fit.specs.Fit.{fitOf}
+use Rattle.measure.specs.declared.Measurement.{Measurement}
 use Rattle.measure.specs.Measure as measuring
 use Rattle.measure.specs.Measure.{measureOf}
 use Rattle.readout.specs.Sheet.{Sheet}
@@ -26,9 +26,9 @@ abbrev pub toMeasure : Sheet → List Float → IlluminationModel → measuring.
 toMeasure c references m = measuring.flatRequest references (c .settings .side) m (c .palette) (c .settings .hues) (scratchOf references)
 
 -- by what the measurement says: its number n, and the record that it gives
-unfoldable pub afterMeasuring : Sheet → IlluminationModel → ℕ → Option ChannelStats → List ℕ
+unfoldable pub afterMeasuring : Sheet → IlluminationModel → ℕ → Option Measurement → List ℕ
 afterMeasuring c m n none = refusedLine n
-afterMeasuring c m n (some r) = scoreText c m r
+afterMeasuring c m n (some r) = scoreText c m (r .noise)
 
 unfoldable pub measureText : Sheet → List Float → IlluminationModel → List ℕ
 measureText c references m =

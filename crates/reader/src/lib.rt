@@ -20,7 +20,7 @@ use card::Card;
 use card::Opened;
 use card::Settings;
 use illum::IlluminationModel;
-use stats::Noise;
+use measure::Measured;
 
 // ---- the fit and the noise record
 
@@ -51,8 +51,8 @@ fn measure_card(
         settings.hues,
         &mut scratch[..4 * n],
     ) {
-        Noise::Refused(n) => listing::refused_line(out, n),
-        Noise::Record(noise) => readout::read_raw(
+        Measured::Refused(n) => listing::refused_line(out, n),
+        Measured::Record(m) => readout::read_raw(
             settings,
             palette,
             xs,
@@ -62,7 +62,7 @@ fn measure_card(
             cys,
             craw,
             model,
-            noise,
+            m.noise,
             out,
         ),
     }

@@ -13,13 +13,16 @@ use Rattle.card.specs.declared.Settings.{Settings}
 use Rattle.listing.specs.Text.{Text, written}
 use Rattle.listing.specs.Listing.{listing, refusedLine}
 use Rattle.answers.specs.declared.Outcome.{Outcome}
-use Rattle.answers.specs.declared.Outcome.the-variants.{Refused, Done}
-use Rattle.answers.specs.Answers.{outcomeNumber, Ended, ended}
+use Rattle.answers.specs.Answers.{Ended, ended}
 use Rattle.modulate.specs.Score.{unmaskLumaOf}
 use Rattle.modulate.proofs.Written.{unmask-luma-long, unmask-luma-twice}
 use Rattle.layout.specs.declared.Layout.{Layout}
 use Rattle.illum.specs.declared.IlluminationModel.{IlluminationModel}
 use Rattle.stats.specs.declared.ChannelStats.{ChannelStats}
+use Rattle.demod.specs.declared.ScoreReport.{ScoreReport}
+use Rattle.demod.specs.declared.Scored.{Scored}
+use Rattle.demod.specs.declared.Scored.the-variants.{Refused, Done}
+use Rattle.demod.specs.Call.{scoredSaid}
 use Rattle.refine.specs.Refine.{squares}
 use Rattle.guarantee.specs.Card.{Setting, Card, modules, scoredCard, refinedCard, unmaskedCard}
 use Rattle.guarantee.proofs.Known.{read-long}
@@ -29,6 +32,9 @@ use Rattle.bits.proofs.Joined.{all-accepted, all-done}
 use Rattle.bits.proofs.Never.{facts}
 use Rattle.readout.specs.Sheet.{sheet}
 use Rattle.readout.specs.Reading.{listingOf, Listable, textOf, zeros, noBits, placesOf, layoutOf, scoreText}
+
+abbrev number-said : Scored → ℕ
+number-said r = scoredSaid r .number
 
 -- a listing of scores that were unmasked
 pub relisted : (o : Outcome) (l : List Float) (e : Ended Float) (t u : Text) (terms kept rejected n : ℕ) (xs ys : List ℤ) (bits : List ℕ) (k : ℕ) (chroma : List Float) (symbols : List ℕ) → ended o l ≡ e →
@@ -57,7 +63,7 @@ module _ (s : Setting) (c : Card) (f : Left) (p : f ≡ readOf s c) (t u : Text)
 
 -- the same over plain names
 module _ (q : Layout) (xs ys : List ℤ) (raw : List Float) (cxs cys : List ℕ) (craw palette : List Float) (mask : ℕ) (m : IlluminationModel) (n : ChannelStats)
-    (luma colours chroma scratch : List Float) (bits symbols : List ℕ) (o : Outcome) (l d h k : List Float) (b y : List ℕ)
+    (luma colours chroma scratch : List Float) (bits symbols : List ℕ) (o : Scored) (l d h k : List Float) (b y : List ℕ)
     (p : left o l d h k b y ≡ readOf (setting q xs ys cxs cys palette mask m n) (card raw craw luma colours chroma scratch bits symbols)) where
   abbrev s : Setting
   s = setting q xs ys cxs cys palette mask m n
@@ -66,16 +72,16 @@ module _ (q : Layout) (xs ys : List ℤ) (raw : List Float) (cxs cys : List ℕ)
   c = card raw craw luma colours chroma scratch bits symbols
 
   pub not-read : (t u : Text) (j : ℕ) → o ≡ Refused j → u ≡ written (refusedLine j) t → u ≡ written (textOf (setting q xs ys cxs cys palette mask m n) (card raw craw luma colours chroma scratch bits symbols)) t
-  not-read t u j r = refused s c (left o l d h k b y) p t u j r (ap outcomeNumber r)
+  not-read t u j r = refused s c (left o l d h k b y) p t u j r (ap number-said r)
 
-  pub is-read : (t u : Text) → o ≡ Done →
+  pub is-read : (t u : Text) (report : ScoreReport) → o ≡ Done report →
       u ≡ written (listing (m .terms) (m .kept) (m .rejected) (length xs) xs ys (unmaskLumaOf l (q .side) xs ys (q .grid) mask .list) b (length h) h y) t →
       u ≡ written (textOf (setting q xs ys cxs cys palette mask m n) (card raw craw luma colours chroma scratch bits symbols)) t
-  is-read t u r = listed s c (left o l d h k b y) p t u (ap outcomeNumber r)
+  is-read t u report r = listed s c (left o l d h k b y) p t u (ap number-said r)
 
-  pub listable : o ≡ Done → Listable xs ys l h b y
-  listable r =
-      let z = ap (λ (g : Left). g .number) (sym p) ∙ ap outcomeNumber r in
+  pub listable : (report : ScoreReport) → o ≡ Done report → Listable xs ys l h b y
+  listable report r =
+      let z = ap (λ (g : Left). g .number) (sym p) ∙ ap number-said r in
       let a = all-accepted s c z in
       let e = p ∙ all-done s c z in
       let scores = unmask-luma-long (refinedCard s c .luma) (q .side) xs ys (q .grid) mask (a .unmasking) in

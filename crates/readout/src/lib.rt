@@ -14,8 +14,8 @@ ghost use Rattle.bits.specs.Reading.{setting, card};
 ghost use Rattle.readout.specs.Sheet.{sheet, Few};
 ghost use Rattle.readout.specs.Reading.{Listable};
 ghost use Rattle.readout.specs.Reading as spec;
-use answers::Outcome;
 use card::Settings;
+use demod::Scored;
 use illum::IlluminationModel;
 use layout::Layout;
 use stats::ChannelStats;
@@ -96,8 +96,8 @@ fn list_card(
         bits,
         symbols,
     ) {
-        Outcome::Refused(n) => listing::refused_line(out, n),
-        Outcome::Done => list_read(
+        Scored::Refused(n) => listing::refused_line(out, n),
+        Scored::Done(_) => list_read(
             layout,
             xs,
             ys,

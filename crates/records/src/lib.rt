@@ -11,14 +11,14 @@ ghost use mathlib.Core.Bool.{false};
 ghost use mathlib.Core.List.{_++_};
 ghost use Prim.Native.Nat.{_+_, _*_, _≤_};
 ghost use lib.ListN.{length, take};
-ghost use Rattle.stats.specs.Calls.{noiseSaid};
 ghost use Rattle.fit.specs.Fit as fitting;
 ghost use Rattle.measure.specs.Measure as measuring;
+ghost use Rattle.measure.specs.Measure.{measuredSaid};
 ghost use Rattle.records.specs.Records as spec;
 use color::Linear;
 use illum::IlluminationModel;
 use illum::Modelled;
-use stats::Noise;
+use measure::Measured;
 
 // A reference of known colour: its position in modules, the colour that was observed there, and the colour that was drawn.
 #[repr(C)]
@@ -96,9 +96,9 @@ fn measure_copied(
     palette: &[f32],
     hues: usize,
     scratch: &mut [f32],
-) -> Noise
+) -> Measured
     requires { ⌜ length (now flat) ≡ 131072 ⌝ }
-    ensures { λ r. ⌜ measuring.final (noiseSaid r) (now (scratch .exit)) ≡ measuring.measureOf (measuring.request (take (8 * spec.copied n) (now (flat .entry))) false n side model (now (palette .entry)) hues (now (scratch .entry))) ⌝ }
+    ensures { λ r. ⌜ measuring.final (measuredSaid r) (now (scratch .exit)) ≡ measuring.measureOf (measuring.request (take (8 * spec.copied n) (now (flat .entry))) false n side model (now (palette .entry)) hues (now (scratch .entry))) ⌝ }
 {
     let m = copied(n);
     measure::measure_counted(&flat[..8 * m], n, side, model, palette, hues, scratch)
@@ -123,8 +123,8 @@ pub fn fit(
     fit_copied(&mut flat, n, side, version, kept, scratch)
 }
 
-// Measures the noise record from references, for a card of this side, corrected by the model: what `measure::measure_flat`
-// gives of the same floats. Scratch of 4 × references is all zero afterwards, and its tail stays. Refused by 2, 3, 5 (the
+// Measures the noise record from references, for a card of this side, corrected by the model, and counts those that have a mark:
+// what `measure::measure_flat` gives of the same floats. Scratch of 4 × references is all zero afterwards, and its tail stays. Refused by 2, 3, 5 (the
 // palette or scratch too short), 6, 7, 8, 10 and 12; scratch is untouched then.
 pub fn measure(
     refs: &[Reference],
@@ -133,8 +133,8 @@ pub fn measure(
     palette: &[f32],
     hues: usize,
     scratch: &mut [f32],
-) -> Noise
-    ensures { λ r. ⌜ measuring.final (noiseSaid r) (now (scratch .exit)) ≡ measuring.measureOf (measuring.flatRequest (spec.flattened (now (refs .entry))) side model (now (palette .entry)) hues (now (scratch .entry))) ⌝ }
+) -> Measured
+    ensures { λ r. ⌜ measuring.final (measuredSaid r) (now (scratch .exit)) ≡ measuring.measureOf (measuring.flatRequest (spec.flattened (now (refs .entry))) side model (now (palette .entry)) hues (now (scratch .entry))) ⌝ }
 {
     let n = refs.len();
     let m = copied(n);

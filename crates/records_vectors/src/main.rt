@@ -7,12 +7,12 @@ ghost use Prim.Native.Nat.{_≤_};
 ghost use lib.ListN.{take};
 ghost use Rattle.fit.specs.Fit as fitting;
 ghost use Rattle.measure.specs.Measure as measuring;
-ghost use Rattle.stats.specs.Calls.{noiseSaid};
+ghost use Rattle.measure.specs.Measure.{measuredSaid};
 ghost use Rattle.records.specs.Records.{flattened};
 use illum::IlluminationModel;
 use illum::Modelled;
+use measure::Measured;
 use records::Reference;
-use stats::Noise;
 use vectors::Compared;
 use vectors::Tally;
 
@@ -42,9 +42,9 @@ fn measure_first(
     palette: &[f32],
     hues: usize,
     scratch: &mut [f32],
-) -> Noise
+) -> Measured
     requires { ⌜ n ≤ 64 ⌝ }
-    ensures { λ r. ⌜ measuring.final (noiseSaid r) (now (scratch .exit)) ≡ measuring.measureOf (measuring.flatRequest (flattened (take n rs)) side model (now (palette .entry)) hues (now (scratch .entry))) ⌝ }
+    ensures { λ r. ⌜ measuring.final (measuredSaid r) (now (scratch .exit)) ≡ measuring.measureOf (measuring.flatRequest (flattened (take n rs)) side model (now (palette .entry)) hues (now (scratch .entry))) ⌝ }
 {
     records::measure(&rs[..n], side, model, palette, hues, scratch)
 }
@@ -95,14 +95,15 @@ fn put_modelled(got: &mut [u64], m: Modelled) -> usize {
     stage_words::put_model(got, next, model)
 }
 
-// 0 and the noise record, or the refusal's number.
-fn put_measured(got: &mut [u64], n: Noise) -> usize {
-    match n {
-        Noise::Record(r) => {
+// 0, the noise record and the count of marked references, or the refusal's number.
+fn put_measured(got: &mut [u64], m: Measured) -> usize {
+    match m {
+        Measured::Record(r) => {
             let to_record = vectors::put(got, 0, 0);
-            stage_words::put_noise(got, to_record, r)
+            let to_held = stage_words::put_noise(got, to_record, r.noise);
+            vectors::put(got, to_held, r.held as u64)
         }
-        Noise::Refused(number) => vectors::put(got, 0, number as u64),
+        Measured::Refused(number) => vectors::put(got, 0, number as u64),
     }
 }
 
@@ -146,7 +147,7 @@ fn measure_in(
     stage_words::put_scratch(got, to_zeros, scratch, v)
 }
 
-// measure |flat| n side MODEL |palette| hues len fill = no STATS zeros
+// measure |flat| n side MODEL |palette| hues len fill = no STATS held zeros
 fn measure(row: &[u64], got: &mut [u64]) -> usize {
     let mut palette = [0.0f32; 256];
     let mut scratch = [0.0f32; 512];

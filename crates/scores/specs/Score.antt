@@ -15,12 +15,12 @@ use Rattle.color.specs.Color.{whole, linearToLab}
 use Rattle.modulate.specs.declared.Cell.{Cell}
 use Rattle.modulate.specs.declared.Cell.the-variants.{Unmasked, At}
 use Rattle.modulate.specs.Score.{chromaBitLlrs}
-use Rattle.illum.specs.Correct.{corrected}
+use Rattle.illum.specs.declared.IlluminationModel.{IlluminationModel}
 use Rattle.stats.specs.declared.ChannelStats.{ChannelStats}
 use Rattle.stats.specs.Arithmetic.{_⊗_}
 use Rattle.stats.specs.Noise.{lumaLlr, reliability, hueLogLikelihoods}
 use Rattle.observed.specs.Entries.{numberAt, labAt}
-use Rattle.observed.specs.Colours.{putColour}
+use Rattle.observed.specs.Colours.{putColour, heldCells}
 
 -- ---- luma
 
@@ -149,3 +149,7 @@ chromaWritten l n palette modules m cxs cys cells chroma =
     cond (chromaOn (l .hues))
     (ringChroma l n palette (length cxs) modules m (writeCells n palette (l .hues) cxs cys cells (length cxs) chroma))
     chroma
+
+-- the cells that have a mark: "With chroma off, cells are neither corrected nor scored."
+unfoldable pub chromaHeld : Layout → IlluminationModel → List ℕ → List ℕ → ℕ
+chromaHeld l model cxs cys = cond (chromaOn (l .hues)) (heldCells model (l .size) cxs cys (length cxs)) 0

@@ -175,7 +175,7 @@ fn write_lumas(
     }
 }
 
-// Core: writes the corrected colour and the luma score of every module.
+// Core: writes the corrected colour and the luma score of every module, and says how many modules have a mark.
 pub fn write_modules(
     noise: ChannelStats,
     palette: &[f32],
@@ -187,12 +187,13 @@ pub fn write_modules(
     raw: &[f32],
     luma: &mut [f32],
     colours: &mut [f32],
-)
+) -> usize
     requires { ⌜ Tables noise (now palette) hues (now sigmas) × Sampled (now xs) (now ys) (now raw) × (length (now xs) ≤ length (now luma)) × (3 * length (now xs) ≤ length (now colours)) ⌝ }
-    ensures { λ _. ⌜ sheet (now (luma .exit)) (now (colours .exit)) ≡ spec.writeModules noise (now (palette .entry)) hues (colour.moduleColour model (now (xs .entry)) (now (ys .entry)) (now (raw .entry))) (length (now (xs .entry))) (sheet (now (luma .entry)) (now (colours .entry))) ⌝ }
+    ensures { λ r. ⌜ (sheet (now (luma .exit)) (now (colours .exit)) ≡ spec.writeModules noise (now (palette .entry)) hues (colour.moduleColour model (now (xs .entry)) (now (ys .entry)) (now (raw .entry))) (length (now (xs .entry))) (sheet (now (luma .entry)) (now (colours .entry)))) × (r ≡ colour.heldModules model (now (xs .entry)) (now (ys .entry)) (length (now (xs .entry)))) ⌝ }
 {
-    observed::write_colours(model, xs, ys, raw, colours);
+    let held = observed::write_colours(model, xs, ys, raw, colours);
     write_lumas(noise, palette, hues, sigmas, colours, xs.len(), luma);
+    held
 }
 
 // ---- chroma
@@ -308,7 +309,7 @@ fn put_entries(
     }
 }
 
-// The chroma scores of a block of cells.
+// The chroma scores of a block of cells. `held` of the cells before have a mark; says how many have one with these.
 fn cell_block(
     layout: Layout,
     noise: ChannelStats,
@@ -320,13 +321,24 @@ fn cell_block(
     raw: &[f32],
     from: usize,
     n: usize,
+    held: usize,
     chroma: &mut [f32],
-)
-    requires { ⌜ ChromaCard layout noise (now palette) (now sigmas) (now cxs) (now cys) × (n ≤ 16) × (from + n ≤ length (now cxs)) × (3 * (from + n) ≤ length (now raw)) × ((from + n) * symbolBits (layout .hues) ≤ length (now chroma)) ⌝ }
-    ensures { λ _. ⌜ now (chroma .exit) ≡ spec.cellBlock noise (now (palette .entry)) (layout .hues) (now (cxs .entry)) (now (cys .entry)) (colour.cellColour model (layout .size) (now (cxs .entry)) (now (cys .entry)) (now (raw .entry))) from n (now (chroma .entry)) ⌝ }
+) -> usize
+    requires { ⌜ ChromaCard layout noise (now palette) (now sigmas) (now cxs) (now cys) × (n ≤ 16) × (held ≤ from) × (from + n ≤ length (now cxs)) × (3 * (from + n) ≤ length (now raw)) × ((from + n) * symbolBits (layout .hues) ≤ length (now chroma)) ⌝ }
+    ensures { λ r. ⌜ (now (chroma .exit) ≡ spec.cellBlock noise (now (palette .entry)) (layout .hues) (now (cxs .entry)) (now (cys .entry)) (colour.cellColour model (layout .size) (now (cxs .entry)) (now (cys .entry)) (now (raw .entry))) from n (now (chroma .entry))) × (r ≡ colour.heldOnwards model (layout .size) (now (cxs .entry)) (now (cys .entry)) from n held) × (r ≤ from + n) ⌝ }
 {
     let mut room = [0.0f32; 48];
-    observed::correct_cells(model, layout.size, cxs, cys, raw, from, n, &mut room);
+    let after = observed::correct_cells(
+        model,
+        layout.size,
+        cxs,
+        cys,
+        raw,
+        from,
+        n,
+        held,
+        &mut room,
+    );
     let mut labs = [0.0f32; 48];
     let mut weights = [0.0f32; 16];
     write_samples(
@@ -352,9 +364,10 @@ fn cell_block(
         n,
         chroma,
     );
+    after
 }
 
-// The chroma scores of all cells.
+// The chroma scores of all cells. Says how many cells have a mark.
 fn write_cells(
     layout: Layout,
     noise: ChannelStats,
@@ -365,14 +378,15 @@ fn write_cells(
     cys: &[u16],
     raw: &[f32],
     chroma: &mut [f32],
-)
+) -> usize
     requires { ⌜ ChromaCard layout noise (now palette) (now sigmas) (now cxs) (now cys) × (3 * length (now cxs) ≤ length (now raw)) × (length (now cxs) * symbolBits (layout .hues) ≤ length (now chroma)) ⌝ }
-    ensures { λ _. ⌜ now (chroma .exit) ≡ spec.writeCells noise (now (palette .entry)) (layout .hues) (now (cxs .entry)) (now (cys .entry)) (colour.cellColour model (layout .size) (now (cxs .entry)) (now (cys .entry)) (now (raw .entry))) (length (now (cxs .entry))) (now (chroma .entry)) ⌝ }
+    ensures { λ r. ⌜ (now (chroma .exit) ≡ spec.writeCells noise (now (palette .entry)) (layout .hues) (now (cxs .entry)) (now (cys .entry)) (colour.cellColour model (layout .size) (now (cxs .entry)) (now (cys .entry)) (now (raw .entry))) (length (now (cxs .entry))) (now (chroma .entry))) × (r ≡ colour.heldCells model (layout .size) (now (cxs .entry)) (now (cys .entry)) (length (now (cxs .entry)))) ⌝ }
 {
     let mut from = 0;
+    let mut held = 0;
     while from < cxs.len() {
         let n = block_size(from, cxs.len());
-        cell_block(
+        held = cell_block(
             layout,
             noise,
             palette,
@@ -383,10 +397,12 @@ fn write_cells(
             raw,
             from,
             n,
+            held,
             chroma,
         );
         from = from + n;
     }
+    held
 }
 
 // The chroma scores of a block of ring modules, whose corrected colours stand in `colours`.
@@ -488,6 +504,7 @@ fn ring_chroma(
 }
 
 // Core: the chroma scores: with chroma on those of the cells, then those of the ring modules. The corrected colours of the m modules stand in `colours`.
+// Says how many cells have a mark: none with chroma off, where they are not corrected. Ring modules were counted with the modules.
 pub fn write_chroma(
     layout: Layout,
     noise: ChannelStats,
@@ -500,12 +517,12 @@ pub fn write_chroma(
     cys: &[u16],
     craw: &[f32],
     chroma: &mut [f32],
-)
+) -> usize
     requires { ⌜ ChromaCard layout noise (now palette) (now sigmas) (now cxs) (now cys) × Modules layout m (now colours) × (3 * length (now cxs) ≤ length (now craw)) × (chromaLength (layout .hues) (length (now cxs)) (ringModules m (layout .grid)) (layout .size) ≤ length (now chroma)) ⌝ }
-    ensures { λ _. ⌜ now (chroma .exit) ≡ spec.chromaWritten layout noise (now (palette .entry)) (linearAt (now (colours .entry))) m (now (cxs .entry)) (now (cys .entry)) (colour.cellColour model (layout .size) (now (cxs .entry)) (now (cys .entry)) (now (craw .entry))) (now (chroma .entry)) ⌝ }
+    ensures { λ r. ⌜ (now (chroma .exit) ≡ spec.chromaWritten layout noise (now (palette .entry)) (linearAt (now (colours .entry))) m (now (cxs .entry)) (now (cys .entry)) (colour.cellColour model (layout .size) (now (cxs .entry)) (now (cys .entry)) (now (craw .entry))) (now (chroma .entry))) × (r ≡ spec.chromaHeld layout model (now (cxs .entry)) (now (cys .entry))) ⌝ }
 {
     if limits::chroma_on(layout.hues) {
-        write_cells(
+        let held = write_cells(
             layout,
             noise,
             palette,
@@ -517,5 +534,7 @@ pub fn write_chroma(
             chroma,
         );
         ring_chroma(layout, noise, palette, sigmas, cxs, cys, colours, m, chroma);
+        return held;
     }
+    0
 }

@@ -1,6 +1,9 @@
 // Replays whole cards from their raw colours on: scoring, refinement, unmasking and reading, beside what the Rust's `demodulate`
-// gives in one piece, its last call included. Every luma score, corrected colour, chroma score and bit is compared.
+// gives in one piece, its last call included. Every luma score, corrected colour, chroma score and bit is compared, and how many
+// modules and cells have a mark.
 use answers::outcome_number;
+use demod::ScoreReport;
+use demod::Scored;
 use illum::IlluminationModel;
 use layout::Layout;
 use stage_words::count;
@@ -34,7 +37,38 @@ fn card_at(row: &[u64], at_grid: usize, at_model: usize) -> Card {
     }
 }
 
-// Scores and refines a card, and answers the number of the first call refused.
+// Refines a card that is scored, and answers scoring's report, or the refusal's number.
+fn refined(
+    card: Card,
+    report: ScoreReport,
+    xs: &[i32],
+    ys: &[i32],
+    palette: &[f32],
+    luma: &mut [f32],
+    colours: &[f32],
+) -> Scored {
+    let layout = card.layout;
+    let noise = card.noise;
+    let mut scratch = [0.0f32; 2048];
+    let n = outcome_number(refine::add_local_luma(
+        luma,
+        layout.side,
+        layout.hues,
+        xs,
+        ys,
+        layout.grid,
+        colours,
+        palette,
+        noise,
+        &mut scratch,
+    ));
+    if n != 0 {
+        return Scored::Refused(n);
+    }
+    Scored::Done(report)
+}
+
+// Scores and refines a card, and answers scoring's report, or the number of the first call refused.
 fn demodulate(
     card: Card,
     xs: &[i32],
@@ -47,11 +81,11 @@ fn demodulate(
     luma: &mut [f32],
     colours: &mut [f32],
     chroma: &mut [f32],
-) -> u32 {
+) -> Scored {
     let layout = card.layout;
     let model = card.model;
     let noise = card.noise;
-    let scored = outcome_number(demod::score(
+    match demod::score(
         layout,
         xs,
         ys,
@@ -65,23 +99,10 @@ fn demodulate(
         luma,
         colours,
         chroma,
-    ));
-    if scored != 0 {
-        return scored;
+    ) {
+        Scored::Refused(n) => Scored::Refused(n),
+        Scored::Done(report) => refined(card, report, xs, ys, palette, luma, colours),
     }
-    let mut scratch = [0.0f32; 2048];
-    outcome_number(refine::add_local_luma(
-        luma,
-        layout.side,
-        layout.hues,
-        xs,
-        ys,
-        layout.grid,
-        colours,
-        palette,
-        noise,
-        &mut scratch,
-    ))
 }
 
 // Reads scores, and puts their bits or the refusal's number.
@@ -129,7 +150,27 @@ fn put_card_bits(
     put_bits(got, to_chroma, chroma, &mut bits)
 }
 
-// Puts what the calls give: 0, the scores, the colours and the bits, or the number of the first call refused.
+// Puts what a card that is scored and refined gives: 0, the report, the scores, the colours and the bits.
+fn put_card(
+    got: &mut [u64],
+    card: Card,
+    report: ScoreReport,
+    xs: &[i32],
+    ys: &[i32],
+    luma: &mut [f32],
+    colours: &[f32],
+    chroma: &[f32],
+) -> usize {
+    let to_modules = vectors::put(got, 0, 0);
+    let to_cells = vectors::put(got, to_modules, report.held_modules as u64);
+    let to_luma = vectors::put(got, to_cells, report.held_cells as u64);
+    let to_colours = vectors::store_f32(luma, got, to_luma);
+    let to_chroma = vectors::store_f32(colours, got, to_colours);
+    let to_bits = vectors::store_f32(chroma, got, to_chroma);
+    put_card_bits(got, to_bits, card, xs, ys, luma, chroma)
+}
+
+// Puts what the calls give, or the number of the first call refused.
 fn whole_in(
     card: Card,
     xs: &[i32],
@@ -144,7 +185,7 @@ fn whole_in(
     chroma: &mut [f32],
     got: &mut [u64],
 ) -> usize {
-    let n = demodulate(
+    match demodulate(
         card,
         xs,
         ys,
@@ -156,15 +197,10 @@ fn whole_in(
         luma,
         colours,
         chroma,
-    );
-    let to_luma = vectors::put(got, 0, n as u64);
-    if n != 0 {
-        return to_luma;
+    ) {
+        Scored::Refused(n) => vectors::put(got, 0, n as u64),
+        Scored::Done(report) => put_card(got, card, report, xs, ys, luma, colours, chroma),
     }
-    let to_colours = vectors::store_f32(luma, got, to_luma);
-    let to_chroma = vectors::store_f32(colours, got, to_colours);
-    let to_bits = vectors::store_f32(chroma, got, to_chroma);
-    put_card_bits(got, to_bits, card, xs, ys, luma, chroma)
 }
 
 // ---- the record
@@ -277,7 +313,7 @@ fn whole_cells(
 }
 
 // whole side hues size mask |xs| |ys| grid |raw| |cxs| |cys| |cell_raw| |palette| MODEL STATS chroma
-//     = no |luma| |colours| |chroma| |luma bits| |chroma bits|
+//     = no modules cells |luma| |colours| |chroma| |luma bits| |chroma bits|
 fn whole(row: &[u64], got: &mut [u64]) -> usize {
     let mut xs = [0i32; 512];
     let mut ys = [0i32; 512];

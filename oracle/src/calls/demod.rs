@@ -1,6 +1,6 @@
 //! demod.rs: scoring, which is `demodulate` without its last call.
 use super::color::palette;
-use super::illum::{Model, linear, unbounded_colour};
+use super::illum::{Model, any_held, linear, unbounded_colour};
 use super::modulate::{bad_modules, bits_a_cell, chroma_entries, empty_layout};
 use super::stats::*;
 use crate::refusals::*;
@@ -59,16 +59,27 @@ impl Scoring {
         first(&[(12, self.beyond())])
     }
 
+    /// Where the modules stand, and the cells that are corrected: none with chroma off.
+    fn centres(&self) -> [Vec<(f32, f32)>; 2] {
+        let module = |i: usize| (self.xs[i] as f32 + 0.5, self.ys[i] as f32 + 0.5);
+        let size = self.size as f32;
+        let centre = |c: u16| c as f32 * size + size / 2.0;
+        let cell = |i: usize| (centre(self.cxs[i]), centre(self.cys[i]));
+        let cells = if self.k > 1 { self.cxs.len() } else { 0 };
+        [(0..self.xs.len()).map(module).collect(), (0..cells).map(cell).collect()]
+    }
+
     /// 12: a corrected colour of a module or, with chroma on, of a cell.
     fn beyond(&self) -> bool {
         let model = self.model.rust();
-        let module =
-            |i: usize| model.correct(self.xs[i] as f32 + 0.5, self.ys[i] as f32 + 0.5, linear(&self.raw[3 * i..]));
-        let size = self.size as f32;
-        let centre = |c: u16| c as f32 * size + size / 2.0;
-        let cell = |i: usize| model.correct(centre(self.cxs[i]), centre(self.cys[i]), linear(&self.cell_raw[3 * i..]));
-        let cells = if self.k > 1 { self.cxs.len() } else { 0 };
-        (0..self.xs.len()).map(module).chain((0..cells).map(cell)).any(unbounded_colour)
+        self.centres().iter().zip([&self.raw, &self.cell_raw]).any(|(places, raw)| {
+            places.iter().zip(raw.chunks(3)).any(|(&(x, y), c)| unbounded_colour(model.correct(x, y, linear(c))))
+        })
+    }
+
+    /// How many modules and how many cells have a mark.
+    fn held(&self) -> [usize; 2] {
+        self.centres().map(|places| places.iter().filter(|&&(x, y)| any_held(&self.model, x, y)).count())
     }
 
     /// The Rust's `demodulate` on the raw colours, with or without its last call.
@@ -93,7 +104,8 @@ impl Scoring {
     }
 }
 
-pub fn score(q: &Scoring, luma: &mut [f32], colours: &mut [f32], chroma: &mut [f32]) -> Result<(), u32> {
+/// How many modules and how many cells have a mark.
+pub fn score(q: &Scoring, luma: &mut [f32], colours: &mut [f32], chroma: &mut [f32]) -> Result<[usize; 2], u32> {
     q.refused(luma.len(), colours.len(), chroma.len())?;
     let scored = q.demodulated(false);
     luma[..scored.luma.len()].copy_from_slice(&scored.luma);
@@ -101,5 +113,5 @@ pub fn score(q: &Scoring, luma: &mut [f32], colours: &mut [f32], chroma: &mut [f
     for (out, c) in colours.chunks_mut(3).zip(&scored.colours) {
         out.copy_from_slice(&[c.r, c.g, c.b]);
     }
-    Ok(())
+    Ok(q.held())
 }

@@ -115,8 +115,20 @@ pub fn fit_kept(
     Ok((Model::of(&model), kept))
 }
 
-pub fn correct(model: &Model, x: f32, y: f32, c: [f32; 3]) -> Result<[f32; 3], u32> {
+/// The marks: whether each channel's gain at a position, before it is held, is under 0.05 in magnitude.
+pub fn held(model: &Model, x: f32, y: f32) -> [bool; 3] {
+    let basis = shim::basis(&model.rust(), x, y, model.terms);
+    model.gain.map(|gain| basis.iter().zip(gain).fold(0.0, |g, (b, c)| g + c * b).abs() < 0.05)
+}
+
+/// Whether one of them is set.
+pub fn any_held(model: &Model, x: f32, y: f32) -> bool {
+    held(model, x, y).contains(&true)
+}
+
+/// The corrected colour, and its marks.
+pub fn correct(model: &Model, x: f32, y: f32, c: [f32; 3]) -> Result<([f32; 3], [bool; 3]), u32> {
     first(&[(8, unbounded(&c)), (10, model.bad())])?;
     let c = model.rust().correct(x, y, linear(&c));
-    Ok([c.r, c.g, c.b])
+    Ok(([c.r, c.g, c.b], held(model, x, y)))
 }

@@ -15,7 +15,8 @@ pub struct Measuring {
     pub k: usize,
 }
 
-pub fn measure(q: &Measuring, scratch: &mut [f32]) -> Result<ChannelStats, u32> {
+/// The noise record, and how many references have a mark: under 8 none is corrected.
+pub fn measure(q: &Measuring, scratch: &mut [f32]) -> Result<(ChannelStats, usize), u32> {
     let colours = reference_colours(&q.flat, q.n);
     first(&[
         (2, bad_side(q.side)),
@@ -30,5 +31,7 @@ pub fn measure(q: &Measuring, scratch: &mut [f32]) -> Result<ChannelStats, u32> 
     let late = q.n >= 8 && references.iter().any(|r| unbounded_colour(model.correct(r.x, r.y, r.observed)));
     first(&[(12, late)])?;
     scratch[..4 * q.n].fill(0.0);
-    Ok(lcr_decode::demod::measure(&references, &model, &palette(&q.palette, q.k)))
+    let corrected = if q.n >= 8 { &references[..] } else { &[] };
+    let held = corrected.iter().filter(|r| any_held(&q.model, r.x, r.y)).count();
+    Ok((lcr_decode::demod::measure(&references, &model, &palette(&q.palette, q.k)), held))
 }

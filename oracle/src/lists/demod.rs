@@ -1,6 +1,6 @@
 //! Scoring: `demodulate` without its last call.
 use super::Kind;
-use super::illum::{Beyond, beyond_bounds, model, put_model};
+use super::illum::{Beyond, beyond_bounds, dark, model, put_model};
 use super::stats::{any_stats, put_stats, stats};
 use crate::calls::demod::*;
 use crate::calls::illum::identity;
@@ -17,8 +17,8 @@ pub const KIND: Kind = Kind {
         MODEL is: terms side rms rejected kept width, then f64: affine 3 x 4, gain 3 x width, flare 3 x width (see illum)
         STATS is: l0 l1 sigma_l sigma_ab level0 level1 (f32), samples (a count)
         score side hues size |xs| |ys| grid |raw| |cxs| |cys| |cell_raw| |palette| MODEL STATS luma colours chroma fill
-            = no |luma|' |colours|' |chroma|'
-            xs and ys i32, cxs and cys u16, colours three f32 each; luma, colours and chroma are the lengths of the
+            = no modules cells |luma|' |colours|' |chroma|'
+            modules and cells are how many have a mark, where `no` is 0; xs and ys i32, cxs and cys u16, colours three f32 each; luma, colours and chroma are the lengths of the
             three outputs, every element `fill` before; they are given after a refusal too
             refused 2, 3, 4, 5, 6, 7, 8, 9, 10, 12
     ",
@@ -37,8 +37,11 @@ fn put_score(out: &mut List, q: &Scoring, lengths: [usize; 3]) {
     let record = record.slice(&q.cxs).slice(&q.cys).slice(&q.cell_raw).slice(&q.palette);
     let record = put_stats(put_model(record, &q.model), &q.stats).all(lengths).w(fill).is();
     let [mut luma, mut colours, mut chroma] = lengths.map(|n| vec![fill; n]);
-    let number = score(q, &mut luma, &mut colours, &mut chroma).err().unwrap_or(0);
-    record.w(number).slice(&luma).slice(&colours).slice(&chroma).end(out);
+    let record = match score(q, &mut luma, &mut colours, &mut chroma) {
+        Ok(held) => record.w(0u8).all(held),
+        Err(number) => record.w(number),
+    };
+    record.slice(&luma).slice(&colours).slice(&chroma).end(out);
 }
 
 /// A card of `grid` grid modules, `ring` ring modules and `cells` cells, seen through a mild channel.
@@ -101,6 +104,23 @@ fn structured(out: &mut List) {
     refused(out, rng);
     for case in beyond_bounds() {
         beyond(out, &case);
+    }
+    marks(out);
+}
+
+/// Cards too dark to correct, all over or in part, in all channels or in one: with chroma and without, with ring
+/// modules that carry it and that do not, and with a module listed twice.
+fn marks(out: &mut List) {
+    let rng = &mut Rng::new(82);
+    for (k, size, counts) in [(1, 1, [3, 2, 2]), (2, 1, [4, 3, 3]), (4, 2, [3, 2, 4]), (2, 7, [5, 0, 2])] {
+        for (c0, c1) in [(0.01, 0.0), (0.05, 0.0), (0.05, 0.2), (0.0, -0.1)] {
+            let mut q = card(rng, k, size, counts);
+            q.model = dark(21, c0, c1);
+            (q.xs[1], q.ys[1]) = (q.xs[0], q.ys[0]);
+            put_score(out, &q, lengths(&q));
+            q.model.gain[1] = identity(21).unwrap().gain[1];
+            put_score(out, &q, lengths(&q));
+        }
     }
 }
 
@@ -208,6 +228,9 @@ fn one(out: &mut List, rng: &mut Rng) {
     if rng.chance(5) && !q.raw.is_empty() {
         let at = rng.below(q.raw.len());
         q.raw[at] = rng.float32();
+    }
+    if rng.chance(4) {
+        q.model = dark(21, rng.real(-0.1, 0.1), rng.real(-0.2, 0.2));
     }
     put_score(out, &q, lengths(&q));
 }

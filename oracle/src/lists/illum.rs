@@ -15,7 +15,8 @@ pub const KIND: Kind = Kind {
             rms are f32, the others counts. width is 4 or 9; of the nine coefficients of a gain or flare those from
             width on are +0. Coefficients from `terms` on are no numbers of the model; those that come out are +0.
         identity side = no MODEL     refused 2
-        correct MODEL count (x y r g b).. = (no r g b)..     f32; `count` calls with one model; refused 8, 10
+        correct MODEL count (x y r g b).. = (no r g b mark mark mark)..     f32; `count` calls with one model; a mark a
+            channel; refused 8, 10
         fit |flat| n side version len fill = no MODEL zeros     f32, eight a reference (x, y, observed, nominal), n
             references; the scratch has `len` elements, each `fill` before; after the call its first `zeros` are +0
             and the rest `fill`; refused 2, 5, 6, 7, 8, 11 (11 too has zeroed the scratch)
@@ -55,7 +56,7 @@ fn put_correct(out: &mut List, model: &Model, samples: &[[f32; 5]]) {
     let mut record = record.all(samples.iter().flatten().copied()).is();
     for &[x, y, r, g, b] in samples {
         record = match correct(model, x, y, [r, g, b]) {
-            Ok(colour) => record.w(0u8).all(colour),
+            Ok((colour, marks)) => record.w(0u8).all(colour).all(marks),
             Err(number) => record.w(number),
         };
     }
@@ -105,6 +106,41 @@ fn structured(out: &mut List) {
     surfaces(out);
     second_pass(out);
     bad_numbers(out);
+    marks(out);
+}
+
+/// The same gain all over the card, in one channel or in all: either zero, next to 0.05 and there; and positions that
+/// are no numbers, or so far away that a gradient is. A mark does not depend on the colour.
+fn marks(out: &mut List) {
+    let under = f64::from_bits(0.05f64.to_bits() - 1);
+    let few = [[0.0, 0.0, 1.0, 1.0, 1.0], [7.5, 20.5, 0.0, -0.0, 0.5]];
+    for gain in [0.0, -0.0, under, 0.05, -under, -0.05] {
+        for channel in 0..3 {
+            let mut m = identity(21).unwrap();
+            m.gain[channel][0] = gain;
+            put_correct(out, &m, &few);
+        }
+    }
+    let everywhere = [f32::NAN, f32::INFINITY, f32::NEG_INFINITY, 1e38, -1e38, 10.5].map(|x| [x, 10.5, 1.0, 1.0, 1.0]);
+    for (terms, slopes) in [(4, [0.0; 3]), (4, [0.01, 0.0, -0.01]), (9, [0.04, -0.04, 0.05])] {
+        let mut m = identity(21).unwrap();
+        m.terms = terms;
+        for c in 0..3 {
+            (m.gain[c][0], m.gain[c][1]) = (0.01, slopes[c]);
+        }
+        put_correct(out, &m, &everywhere);
+        let across: Vec<[f32; 5]> = (0..21).map(|x| [x as f32 + 0.5, 3.5, 0.25, 0.5, 0.75]).collect();
+        put_correct(out, &m, &across);
+    }
+}
+
+/// The gain c0 + c1 u in every channel, which is held over a part of the card.
+pub fn dark(side: usize, c0: f64, c1: f64) -> Model {
+    let mut m = identity(side).unwrap();
+    for gain in &mut m.gain {
+        (gain[0], gain[1]) = (c0, c1);
+    }
+    m
 }
 
 /// Two private functions of the Rust, through the shims, which the port has in the open.
@@ -407,6 +443,9 @@ fn one(out: &mut List, rng: &mut Rng) {
                 let (c, i) = (rng.below(3), rng.below(terms));
                 m.gain[c][i] = rng.float64();
                 m.flare[c][i] = rng.normal();
+            }
+            if rng.chance(4) {
+                m.gain.iter_mut().flatten().for_each(|v| *v *= 0.05);
             }
             let samples: Vec<[f32; 5]> = (0..6)
                 .map(|_| {

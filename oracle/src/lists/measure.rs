@@ -1,6 +1,6 @@
 //! Measuring the channel's noise.
 use super::Kind;
-use super::illum::{Beyond, beyond_bounds, model, put_model, zeros};
+use super::illum::{Beyond, beyond_bounds, dark, model, put_model, zeros};
 use super::stats::put_stats;
 use crate::calls::illum::identity;
 use crate::calls::measure::*;
@@ -15,8 +15,8 @@ pub const KIND: Kind = Kind {
     header: "
         MODEL is: terms side rms rejected kept width, then f64: affine 3 x 4, gain 3 x width, flare 3 x width (see illum)
         STATS is: l0 l1 sigma_l sigma_ab level0 level1 (f32), samples (a count)
-        measure |flat| n side MODEL |palette| hues len fill = no STATS zeros     eight f32 a reference, n references;
-            the scratch has `len` elements, each `fill` before; after the call its first `zeros` are +0 and the rest
+        measure |flat| n side MODEL |palette| hues len fill = no STATS held zeros     eight f32 a reference, n references;
+            held is how many of them have a mark; the scratch has `len` elements, each `fill` before; after the call its first `zeros` are +0 and the rest
             `fill`; refused 2, 3, 5, 6, 7, 8, 10, 12
     ",
     structured,
@@ -29,7 +29,7 @@ pub fn put_measure(out: &mut List, q: &Measuring, len: usize) {
     let record = record.slice(&q.palette).w(q.k).w(len).w(fill).is();
     let mut scratch = vec![fill; len];
     let record = match measure(q, &mut scratch) {
-        Ok(stats) => put_stats(record.w(0u8), &stats),
+        Ok((stats, held)) => put_stats(record.w(0u8), &stats).w(held),
         Err(number) => record.w(number),
     };
     record.w(zeros(&scratch, fill)).end(out);
@@ -82,6 +82,30 @@ fn structured(out: &mut List) {
     middles(out, rng);
     for case in beyond_bounds() {
         beyond(out, rng, case);
+    }
+    marks(out);
+}
+
+/// References seen at a hundredth of their light by a model that says so, all of them held; under 8; with fewer than 3
+/// of a level; and a gain that is held over a part of the card, in all channels or in one.
+fn marks(out: &mut List) {
+    let rng = &mut Rng::new(71);
+    let cases = [
+        (4, 3, 0.01, 0.0),
+        (4, 4, 0.01, 0.0),
+        (2, 6, 0.01, 0.0),
+        (9, 9, 0.05, 0.2),
+        (9, 9, 0.0, -0.1),
+        (6, 6, 0.05, 0.0),
+    ];
+    for (dark_ones, light, c0, c1) in cases {
+        let mut q = counted(rng, 2, dark_ones, light, 0);
+        q.model = dark(21, c0, c1);
+        q.flat.chunks_mut(8).for_each(|r| r[2..5].iter_mut().for_each(|v| *v *= 0.01));
+        put_measure(out, &q, 4 * q.n);
+        q.model.gain[0] = identity(21).unwrap().gain[0];
+        q.model.gain[2] = q.model.gain[0];
+        put_measure(out, &q, 4 * q.n);
     }
 }
 
@@ -175,6 +199,10 @@ fn one(out: &mut List, rng: &mut Rng) {
         flat[at] = rng.float32();
     }
     let terms = rng.pick(&[4, 9]);
-    let model = if rng.chance(2) { identity(21).unwrap() } else { model(rng, terms, 21) };
+    let model = match rng.below(4) {
+        0 => dark(21, rng.real(-0.1, 0.1), rng.real(-0.2, 0.2)),
+        1 => identity(21).unwrap(),
+        _ => model(rng, terms, 21),
+    };
     put_measure(out, &Measuring { n, flat, side: 21, model, palette, k }, 4 * n);
 }

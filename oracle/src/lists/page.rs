@@ -9,15 +9,15 @@ pub const KIND: Kind = Kind {
     seed: 14,
     random: 110,
     header: "
-        page side terms kept rejected |xs| |ys| grid |luma| lent fill = no |page|'
-            i32, f32, bytes; the slice that is lent has `lent` bytes, at most 2,048, each `fill`; refused 2, 5, 6, 7, 10, 14
+        page side terms kept rejected held |xs| |ys| grid |luma| lent fill = no |page|'
+            i32, f32, bytes; the slice that is lent has `lent` bytes, at most 2,304, each `fill`; refused 2, 5, 6, 7, 10, 14
     ",
     structured,
     one,
 };
 
 fn put(out: &mut List, p: &Laying, lent: usize, fill: u8) {
-    let record = Record::new("page").w(p.side).w(p.terms).w(p.kept).w(p.rejected).slice(&p.xs).slice(&p.ys).w(p.grid);
+    let record = Record::new("page").w(p.side).w(p.terms).w(p.kept).w(p.rejected).w(p.held).slice(&p.xs).slice(&p.ys).w(p.grid);
     let record = record.slice(&p.luma).w(lent).w(fill);
     let mut after = vec![fill; lent];
     let number = page(p, &mut after).err().unwrap_or(0);
@@ -26,7 +26,7 @@ fn put(out: &mut List, p: &Laying, lent: usize, fill: u8) {
 
 /// The bytes of a page of this side.
 fn room(side: usize) -> usize {
-    41 * (side + 1)
+    51 * (side + 1)
 }
 
 /// Modules at these places, the first `grid` of them grid modules.
@@ -36,6 +36,7 @@ fn laying(side: usize, grid: usize, listed: &[(i32, i32, f32)]) -> Laying {
         terms: 4,
         kept: 0,
         rejected: 0,
+        held: 0,
         xs: listed.iter().map(|m| m.0).collect(),
         ys: listed.iter().map(|m| m.1).collect(),
         grid,
@@ -74,10 +75,16 @@ fn pages(out: &mut List) {
 }
 
 fn numbers(out: &mut List) {
-    for (terms, kept, rejected) in
-        [(4, 1, 2), (9, 9, 10), (9, 99, 100), (4, 999, 1000), (9, 9999, 10000), (9, 16384, 16384), (9, 12345, 678)]
-    {
-        put(out, &Laying { terms, kept, rejected, ..laying(1, 0, &[]) }, room(1), 0);
+    for (terms, kept, rejected, held) in [
+        (4, 1, 2, 3),
+        (9, 9, 10, 11),
+        (9, 99, 100, 999_999),
+        (4, 999, 1000, 1_000_000),
+        (9, 9999, 10000, 1_048_575),
+        (9, 16384, 16384, 1_048_576),
+        (9, 12345, 678, 90),
+    ] {
+        put(out, &Laying { terms, kept, rejected, held, ..laying(1, 0, &[]) }, room(1), 0);
     }
 }
 
@@ -95,10 +102,10 @@ fn refusals(out: &mut List) {
     let one = laying(3, 1, &[(0, 0, 1.0)]);
     let wide = laying(41, 1, &[(0, 0, 1.0)]);
     for side in [0, 1025, usize::MAX] {
-        put(out, &Laying { side, ..one.clone() }, 41, 9);
+        put(out, &Laying { side, ..one.clone() }, 51, 9);
     }
     put(out, &one, room(3) - 1, 9);
-    put(out, &laying(1, 0, &[]), 81, 9);
+    put(out, &laying(1, 0, &[]), 101, 9);
     put(out, &laying(1024, 0, &[]), 100, 9);
     put(out, &wide, room(41) - 1, 9);
     put(out, &Laying { ys: vec![], ..one.clone() }, room(3), 9);
@@ -109,6 +116,10 @@ fn refusals(out: &mut List) {
     for (kept, rejected) in [(16385, 0), (0, 16385), (16385, 16385), (u32::MAX, 0), (0, u32::MAX)] {
         put(out, &Laying { kept, rejected, xs: vec![7], ..one.clone() }, room(3), 9);
     }
+    for held in [1_048_577, usize::MAX] {
+        put(out, &Laying { held, xs: vec![7], ..one.clone() }, room(3), 9);
+    }
+    put(out, &Laying { held: 1_048_576, xs: vec![7], ..one.clone() }, room(3), 9);
     put(out, &Laying { kept: 16385, xs: vec![-1], ..wide.clone() }, room(41), 9);
     for place in [-1, 3, i32::MIN, i32::MAX] {
         put(out, &Laying { xs: vec![place], terms: 5, ..one.clone() }, room(3), 9);
@@ -138,13 +149,15 @@ fn one(out: &mut List, rng: &mut Rng) {
     p.terms = rng.pick(&[4, 9]);
     p.kept = rng.below(16_385) as u32 >> rng.below(15);
     p.rejected = rng.below(16_385) as u32 >> rng.below(15);
+    p.held = rng.below(1_048_577) >> rng.below(21);
     // One in four has something spoiled.
     if rng.chance(4) {
-        match rng.below(5) {
+        match rng.below(6) {
             0 => p.terms = rng.below(12),
             1 => p.kept += 16_384,
             2 => p.rejected += 16_384,
             3 => p.grid = rng.below(modules + 3),
+            4 => p.held += 1_048_576,
             _ => p.luma.truncate(rng.below(modules + 1)),
         }
         if modules > 0 && rng.chance(2) {

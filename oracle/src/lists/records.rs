@@ -16,7 +16,7 @@ pub const KIND: Kind = Kind {
         fit |flat| n side version len fill = no MODEL zeros     f32, eight a reference (x, y, observed, nominal), n
             references, all of them there; the scratch has `len` elements, each `fill` before; after the call its first
             `zeros` are +0 and the rest `fill`; refused 2, 5, 6, 7, 8, 11 (11 too has zeroed the scratch)
-        measure |flat| n side MODEL |palette| hues len fill = no STATS zeros     the same; refused 2, 3, 5, 6, 7, 8, 10, 12
+        measure |flat| n side MODEL |palette| hues len fill = no STATS held zeros     the same; refused 2, 3, 5, 6, 7, 8, 10, 12
     ",
     structured,
     one,

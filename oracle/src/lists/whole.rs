@@ -17,10 +17,11 @@ pub const KIND: Kind = Kind {
         MODEL is: terms side rms rejected kept width, then f64: affine 3 x 4, gain 3 x width, flare 3 x width (see illum)
         STATS is: l0 l1 sigma_l sigma_ab level0 level1 (f32), samples (a count)
         whole side hues size mask |xs| |ys| grid |raw| |cxs| |cys| |cell_raw| |palette| MODEL STATS chroma
-            = no |luma| |colours| |chroma| |luma bits| |chroma bits|
+            = no modules cells |luma| |colours| |chroma| |luma bits| |chroma bits|
             A card read from its raw colours: score, then add_local_luma, then unmask_luma, then read_list of the unmasked
             luma scores and of the chroma scores. luma (before unmasking), colours and chroma are those that the Rust's
-            `demodulate` gives in one piece, its last call included. `no` is the number of the first call refused.
+            `demodulate` gives in one piece, its last call included. `no` is the number of the first call refused;
+            modules and cells are how many have a mark.
             xs and ys i32, cxs and cys u16, colours three f32 each; every output as long as it must be, which for the
             chroma scores is the last word before `=`
     ",
@@ -48,23 +49,24 @@ fn put_whole(out: &mut List, q: &Scoring, mask: u8) {
     let record = record.slice(&q.raw).slice(&q.cxs).slice(&q.cys).slice(&q.cell_raw).slice(&q.palette);
     let chroma = bits_a_cell(q.k) * q.entries();
     let record = put_stats(put_model(record, &q.model), &q.stats).w(chroma).is();
-    if let Err(number) = accepted(q, chroma) {
-        return record.w(number).end(out);
-    }
+    let held = match accepted(q, chroma) {
+        Ok(held) => held,
+        Err(number) => return record.w(number).end(out),
+    };
     let whole = q.demodulated(true);
     let colours: Vec<f32> = whole.colours.iter().flat_map(|c| [c.r, c.g, c.b]).collect();
     let mut unmasked = whole.luma.clone();
     unmask_luma(&mut unmasked, q.side, &q.xs, &q.ys, q.grid, mask).expect("what scoring accepts");
     let bits = |scores: &[f32]| -> Vec<u8> { scores.iter().map(|&s| read(s)).collect() };
-    let record = record.w(0u8).slice(&whole.luma).slice(&colours).slice(&whole.chroma);
+    let record = record.w(0u8).all(held).slice(&whole.luma).slice(&colours).slice(&whole.chroma);
     record.slice(&bits(&unmasked)).slice(&bits(&whole.chroma)).end(out);
 }
 
-/// The number of the first call refused.
-fn accepted(q: &Scoring, chroma: usize) -> Result<(), u32> {
+/// How many modules and cells have a mark, or the number of the first call refused.
+fn accepted(q: &Scoring, chroma: usize) -> Result<[usize; 2], u32> {
     let m = q.xs.len();
     let (mut luma, mut colours) = (vec![0.0; m], vec![0.0; 3 * m]);
-    score(q, &mut luma, &mut colours, &mut vec![0.0; chroma])?;
+    let held = score(q, &mut luma, &mut colours, &mut vec![0.0; chroma])?;
     let refining = Refining {
         side: q.side,
         k: q.k,
@@ -75,7 +77,8 @@ fn accepted(q: &Scoring, chroma: usize) -> Result<(), u32> {
         palette: q.palette.clone(),
         stats: q.stats,
     };
-    refine(&refining, &mut luma, &mut vec![0.0; (q.side + 12) * (q.side + 12)])
+    refine(&refining, &mut luma, &mut vec![0.0; (q.side + 12) * (q.side + 12)])?;
+    Ok(held)
 }
 
 /// The upper and the left side of the square that stands `ring` outside the grid.
@@ -169,6 +172,10 @@ fn structured(out: &mut List) {
     put(plan(5, 2, 1, 0), 0.1, &|q| (q.stats.sigma_l, q.stats.sigma_ab) = (0.75, 0.75));
     put(plan(5, 1, 1, 0), 0.1, &|q| (q.stats.l0, q.stats.l1) = (75.0, 30.0));
     put(plan(5, 2, 1, 0), 0.1, &|q| q.palette[..2].copy_from_slice(&[75.0, 30.0]));
+    // Too dark to correct over a part of the card.
+    for (k, ring) in [(1, 0), (2, 1)] {
+        put(plan(3, k, 1, ring), 0.1, &|q| q.model.gain[1][..2].copy_from_slice(&[0.05, 0.2]));
+    }
 }
 
 fn one(out: &mut List, rng: &mut Rng) {

@@ -173,6 +173,7 @@ fn read_list(t: &mut Record) {
 fn page(t: &mut Record) {
     let i = &mut t.inputs;
     let (side, terms, kept, rejected) = (i.count(), i.count(), i.count() as u32, i.count() as u32);
+    let held = i.count();
     let (xs, ys) = (Lent::new(i.places()), Lent::new(i.places()));
     let grid = i.count();
     let luma = Lent::new(i.singles());
@@ -184,6 +185,7 @@ fn page(t: &mut Record) {
             terms,
             kept,
             rejected,
+            held,
             xs.ptr(),
             xs.len(),
             ys.ptr(),
@@ -199,7 +201,7 @@ fn page(t: &mut Record) {
     if r != 0 {
         same &= out.untouched();
     }
-    same &= out.is(&t.answer.bytes(), if r == 0 { 41 * (side + 1) } else { 0 });
+    same &= out.is(&t.answer.bytes(), if r == 0 { 51 * (side + 1) } else { 0 });
     t.add(r, same);
 }
 

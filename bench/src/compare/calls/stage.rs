@@ -101,6 +101,9 @@ fn correct(t: &mut Record) {
         for v in [r.colour.r, r.colour.g, r.colour.b] {
             same &= if r.number == 0 && same { v.same(t.answer.single()) } else { v.bits() == 0 };
         }
+        for mark in r.held {
+            same &= if r.number == 0 && same { mark as u64 == t.answer.word() } else { !mark };
+        }
         t.add(r.number, same);
     }
 }
@@ -264,7 +267,8 @@ fn measure(t: &mut Record) {
             work.len(),
         )
     };
-    let mut same = noise(t, r) && flat.untouched() && palette.untouched();
+    let mut same = noise(t, NoiseAnswer { number: r.number, noise: r.noise });
+    same = same && counts(t, r.number, [r.held]) && flat.untouched() && palette.untouched();
     if r.number != 0 {
         same &= work.untouched();
     }
@@ -274,9 +278,14 @@ fn measure(t: &mut Record) {
         let mut other = work.again();
         let (n, p, w) = (flat.len() / 8, palette.ptr(), other.len());
         let q = unsafe { purdolve_measure(refs, n, side, model, p, palette.len(), hues, other.ptr_mut(), w) };
-        let alike = q.number == r.number && same_noise(&q.noise, &r.noise);
+        let alike = (q.number, q.held) == (r.number, r.held) && same_noise(&q.noise, &r.noise);
         t.add(q.number, alike && other.left(&work) && flat.untouched() && palette.untouched());
     }
+}
+
+/// How many colours have a mark: in the record where the call is accepted, and zeros where it is refused.
+fn counts<const N: usize>(t: &mut Record, number: u32, held: [usize; N]) -> bool {
+    held.into_iter().all(|n| n as u64 == if number == 0 { t.answer.word() } else { 0 })
 }
 
 fn score(t: &mut Record) {
@@ -320,16 +329,17 @@ fn score(t: &mut Record) {
             chroma.len(),
         )
     };
-    let mut same = r as u64 == t.answer.word() && xs.untouched() && ys.untouched() && raw.untouched();
+    let mut same = r.number as u64 == t.answer.word() && counts(t, r.number, r.held);
+    same &= xs.untouched() && ys.untouched() && raw.untouched();
     same &= cxs.untouched() && cys.untouched() && craw.untouched() && palette.untouched();
-    if r != 0 {
+    if r.number != 0 {
         same &= luma.untouched() && colours.untouched() && chroma.untouched();
     }
     if same {
         same &= luma.is(&t.answer.singles(), xs.len()) && colours.is(&t.answer.singles(), 3 * xs.len());
         same &= chroma.is(&t.answer.singles(), chroma.len());
     }
-    t.add(r, same);
+    t.add(r.number, same);
 }
 
 fn refine(t: &mut Record) {
@@ -420,9 +430,10 @@ fn read_bits(t: &mut Record) {
             symbols.len(),
         )
     };
-    let mut same = r as u64 == t.answer.word() && xs.untouched() && ys.untouched() && raw.untouched();
+    let mut same = r.number as u64 == t.answer.word() && counts(t, r.number, r.held);
+    same &= xs.untouched() && ys.untouched() && raw.untouched();
     same &= cxs.untouched() && cys.untouched() && craw.untouched() && palette.untouched();
-    if r != 0 {
+    if r.number != 0 {
         // Where all is lent that the calls need, only scoring refuses.
         same &= luma.untouched() && colours.untouched() && chroma.untouched() && work.untouched();
         same &= bits.untouched() && symbols.untouched();
@@ -433,5 +444,5 @@ fn read_bits(t: &mut Record) {
         same &= chroma.is(&t.answer.singles(), places) && work.zeroed(square);
         same &= bits.is(&t.answer.bytes(), modules) && symbols.is(&t.answer.bytes(), places);
     }
-    t.add(r, same);
+    t.add(r.number, same);
 }

@@ -1,4 +1,4 @@
--- `score` meets its contract: a refused call gives its number and writes nothing; an accepted one writes every score. Assumes nothing.
+-- `score` meets its contract: a refused call gives its number and writes nothing; an accepted one writes every score and reports. Assumes nothing.
 use mathlib.Core.Path.{_≡_, _∙_}
 use borrow.Author.Needs.{needs}
 use mathlib.Core.List.{List}
@@ -7,7 +7,8 @@ use lib.IntN.{ℤ}
 use lib.Ieee.{Float}
 use Rattle.sentences.specs.Sentences.{refusal}
 use Rattle.layout.specs.declared.Layout.{Layout}
-use Rattle.answers.specs.declared.Outcome.the-variants.{Refused, Done}
+use Rattle.demod.specs.declared.ScoreReport.{ScoreReport}
+use Rattle.demod.specs.declared.Scored.the-variants.{Refused, Done}
 use Rattle.illum.specs.declared.IlluminationModel.{IlluminationModel}
 use Rattle.stats.specs.declared.ChannelStats.{ChannelStats}
 use Rattle.demod.specs.Ready.{Scorable}
@@ -20,8 +21,8 @@ module _ (q : Request) (n : ℕ) (luma colours chroma : List Float) (e : n ≡ r
   away : (n ≡ 0 → ⊥) → luma ≡ q .luma → colours ≡ q .colours → chroma ≡ q .chroma → final (Refused n) luma colours chroma ≡ scoredOf q
   away z el ec eh = rw (el, ec, eh) (turned-away q n e z)
 
-  wrote : n ≡ 0 → final Done luma colours chroma ≡ done q → final Done luma colours chroma ≡ scoredOf q
-  wrote z h = h ∙ taken q n e z
+  wrote : (r : ScoreReport) → n ≡ 0 → final (Done r) luma colours chroma ≡ done q → final (Done r) luma colours chroma ≡ scoredOf q
+  wrote r z h = h ∙ taken q n e z
 
 -- an accepted call hands over what can be scored
 scorable : (layout : Layout) (xs ys : List ℤ) (raw : List Float) (cxs cys : List ℕ) (craw palette : List Float) (model : IlluminationModel) (noise : ChannelStats) (luma colours chroma : List Float) (n : ℕ) →

@@ -14,6 +14,7 @@ use Rattle.color.specs.declared.Linear.{Linear}
 use Rattle.color.specs.Palette.{wildLinear}
 use Rattle.illum.specs.declared.IlluminationModel.{IlluminationModel}
 use Rattle.illum.specs.declared.Unshaded.{Unshaded}
+use Rattle.illum.specs.declared.Marked.{Marked}
 use Rattle.illum.specs.Correct.{unshaded, mixed, corrected}
 use Rattle.illum.specs.Refusals.{badShape, notFiniteAffine, notFiniteGains, notFiniteFlares, notFiniteModel, badModel, sentencesOf, correctOf}
 use Rattle.illum.specs.Shown.{leavesOpen}
@@ -30,20 +31,20 @@ module _ (m : IlluminationModel) (x y : Float) (c : Linear) where
   by-8 : wildLinear c ≡ true → refusedBy 8 ≡ correctOf m x y c
   unfolding correctOf sentencesOf
   by-8 w =
-      says-refused (sentencesOf m c) (corrected m x y c .colour) 8 (holds 8 true (wildLinear c) ((10 when badModel m) ∷ []) (sym w) refl)
+      says-refused (sentencesOf m c) (corrected m x y c) 8 (holds 8 true (wildLinear c) ((10 when badModel m) ∷ []) (sym w) refl)
       (λ z. absurd (omega arith))
 
   by-10 : wildLinear c ≡ false → badModel m ≡ true → refusedBy 10 ≡ correctOf m x y c
   unfolding correctOf sentencesOf
   by-10 w b =
-      says-refused (sentencesOf m c) (corrected m x y c .colour) 10
+      says-refused (sentencesOf m c) (corrected m x y c) 10
       (passed 8 false (wildLinear c) ((10 when badModel m) ∷ []) 10 (sym w) refl (holds 10 true (badModel m) [] (sym b) refl))
       (λ z. absurd (omega arith))
 
-  by-0 : wildLinear c ≡ false → badModel m ≡ false → (out : Linear) → out ≡ corrected m x y c .colour → gives out ≡ correctOf m x y c
+  by-0 : wildLinear c ≡ false → badModel m ≡ false → (out : Marked) → out ≡ corrected m x y c → gives out ≡ correctOf m x y c
   unfolding correctOf sentencesOf
   by-0 w b out h =
-      says-given (sentencesOf m c) (corrected m x y c .colour) 0
+      says-given (sentencesOf m c) (corrected m x y c) 0
       (passed 8 false (wildLinear c) ((10 when badModel m) ∷ []) 0 (sym w) refl (passed 10 false (badModel m) [] 0 (sym b) refl none)) out refl h
 
   -- the tests of the code, in their order: the colour, the shape, then either what the corrected colour shows or the numbers
@@ -60,9 +61,9 @@ module _ (m : IlluminationModel) (x y : Float) (c : Linear) where
       number-bad : (n : Bool) → n ≡ notFiniteModel m → n ≡ true → refusedBy 10 ≡ correctOf m x y c
       number-bad n e t = by-10 (sym ew ∙ l) (numbers ∙ (sym e ∙ t))
 
-      module _ (d : Unshaded) (out : Linear) (u : d ≡ unshaded m x y c) (v : out ≡ mixed m d .colour) where
-        same : out ≡ corrected m x y c .colour
-        same = v ∙ ap (λ (z : Unshaded). mixed m z .colour) u
+      module _ (d : Unshaded) (out : Marked) (u : d ≡ unshaded m x y c) (v : out ≡ mixed m d) where
+        same : out ≡ corrected m x y c
+        same = v ∙ ap (mixed m) u
 
         good : notFiniteModel m ≡ false → gives out ≡ correctOf m x y c
         good e = by-0 (sym ew ∙ l) (numbers ∙ e) out same
@@ -70,12 +71,12 @@ module _ (m : IlluminationModel) (x y : Float) (c : Linear) where
         looked-at : (n : Bool) → n ≡ notFiniteModel m → n ≡ false → gives out ≡ correctOf m x y c
         looked-at n e t = good (sym e ∙ t)
 
-        seen : (o : Bool) → o ≡ leavesOpen (m .«residual_rms») d out → not o ≡ true → gives out ≡ correctOf m x y c
+        seen : (o : Bool) → o ≡ leavesOpen (m .«residual_rms») d (out .colour) → not o ≡ true → gives out ≡ correctOf m x y c
         seen o e t =
             good
             (shown m x y c
-            (sym (ap (leavesOpen (m .«residual_rms») (unshaded m x y c)) same)
-            ∙ (sym (ap (λ (z : Unshaded). leavesOpen (m .«residual_rms») z out) u) ∙ (sym e ∙ opposite o t))))
+            (sym (ap (λ (z : Marked). leavesOpen (m .«residual_rms») (unshaded m x y c) (z .colour)) same)
+            ∙ (sym (ap (λ (z : Unshaded). leavesOpen (m .«residual_rms») z (out .colour)) u) ∙ (sym e ∙ opposite o t))))
 
 returns : tie.Need-returns
 returns c = by-8 _ _ _ _ (sym (c .before .wild-linear .ensures) ∙ c .if1 .taken)

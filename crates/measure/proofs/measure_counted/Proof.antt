@@ -12,9 +12,9 @@ use Rattle.answers.specs.Answers.{refusedBy, gives}
 use Rattle.order.specs.Median.{zero32}
 use Rattle.order.specs.Deviation.{cleared}
 use Rattle.illum.specs.declared.IlluminationModel.{IlluminationModel}
-use Rattle.stats.specs.declared.ChannelStats.{ChannelStats}
 use Rattle.references.specs.References.{wildColours}
-use Rattle.measure.specs.Measure.{badCorrected, measured, final, request, sentencesFor, measureOf}
+use Rattle.measure.specs.declared.Measurement.{Measurement}
+use Rattle.measure.specs.Measure.{badCorrected, measurement, final, request, sentencesFor, measureOf}
 use Rattle.measure.specs.Ready.{Given}
 use Rattle.measure.proofs.Accepted.{accepted, turned-away, taken}
 use borrow.Author.Needs.{needs}
@@ -43,9 +43,9 @@ module _ (flat palette s : List Float) (n side hues k : ℕ) (m : IlluminationMo
     past = ap (λ (l : List Float). replicate (4 * n) zero32 ++ l) (drop-at u (drop (4 * n) s) (4 * n) (lu ∙ sym four))
 
     -- and t what is left after clearing
-    ends : (t : List Float) (r : ChannelStats) → r ≡ measured m palette flat n → t ≡ cleared (4 * n) (u ++ drop (4 * n) s) → final (gives r) t ≡ measureOf (request flat false n side m palette hues s)
+    ends : (t : List Float) (r : Measurement) → r ≡ measurement m palette flat n → t ≡ cleared (4 * n) (u ++ drop (4 * n) s) → final (gives r) t ≡ measureOf (request flat false n side m palette hues s)
     ends t r er ec =
-        ap (final (gives r)) (ec ∙ past) ∙ ap (λ (x : ChannelStats). final (gives x) (cleared (4 * n) s)) er
+        ap (final (gives r)) (ec ∙ past) ∙ ap (λ (x : Measurement). final (gives x) (cleared (4 * n) s)) er
         ∙ taken (request flat false n side m palette hues s) k e z
 
 turned : (flat palette s : List Float) (n side hues k : ℕ) (m : IlluminationModel) → k ≡ refusal (sentencesFor flat false n side m palette hues (length s)) → (k ≡ 0 → ⊥)
@@ -55,17 +55,17 @@ turned flat palette s n side hues k m e h = turned-away (request flat false n si
 returns : tie.Need-returns
 returns c = search (turned)
 
-mul-measured : tie.Need-mul-measured
-mul-measured c = omega (arith, accepted _ _ _ _ _ _ _ _ _ (c .before .refused .ensures) (c .if1 .left) .few)
+mul-measurement-of : tie.Need-mul-measurement-of
+mul-measurement-of c = omega (arith, accepted _ _ _ _ _ _ _ _ _ (c .before .refused .ensures) (c .if1 .left) .few)
 
-slice-relend-prefix-measured : tie.Need-slice-relend-prefix-measured
-slice-relend-prefix-measured c = search (room)
+slice-relend-prefix-measurement-of : tie.Need-slice-relend-prefix-measurement-of
+slice-relend-prefix-measurement-of c = search (room)
 
-slice-aggregate-measured : tie.Need-slice-aggregate-measured
-slice-aggregate-measured c = search (four)
+slice-aggregate-measurement-of : tie.Need-slice-aggregate-measurement-of
+slice-aggregate-measurement-of c = search (four)
 
-measured-requires : tie.Need-measured-requires
-measured-requires c κs =
+measurement-of-requires : tie.Need-measurement-of-requires
+measurement-of-requires c κs =
     let k = c .before .before in
     ready _ _ _ _ _ _ _ _ (k .refused .ensures) (c .before .if1 .left) (k .before .before .before .before .pre)
 
@@ -81,7 +81,7 @@ clear-requires c κs =
     let a = k .before .before .before .before .args in
     let w =
     long (a .flat .now) (a .palette .now) (a .scratch .now) (a .n) (a .side) (a .hues) _ (a .model) (k .refused .ensures) (l .before .before .if1 .left)
-    (l .measured .last .1 .1 .1 .1 .0) (l .measured .kept .1 .1 .1 .1 .0) in
+    (l .measurement-of .last .1 .1 .1 .1 .0) (l .measurement-of .kept .1 .1 .1 .1 .0) in
     omega (arith, w)
 
 returns-2 : tie.Need-returns-2
@@ -90,5 +90,5 @@ returns-2 c = search (ends)
 pub measure-counted-spec : {M : Type 1} → statement M
 measure-counted-spec =
     tie.close
-    (tie.spec (λ c κs. search needs) returns mul-measured slice-relend-prefix-measured slice-aggregate-measured measured-requires mul-clear
+    (tie.spec (λ c κs. search needs) returns mul-measurement-of slice-relend-prefix-measurement-of slice-aggregate-measurement-of measurement-of-requires mul-clear
     clear-requires (λ c. search needs) returns-2)

@@ -1,4 +1,4 @@
--- `measure::note` meets its contract: the model that corrected the colours is its own, and the roots are taken of the squares. Assumes nothing.
+-- `measure::note` meets its contract: the model that corrected the colours is its own, and the roots are taken of the squares; the count is that of the corrected colours. Assumes nothing.
 use Rattle.measure.proofs.Noting.{all-noted}
 use borrow.Author.Needs.{needs}
 use Rattle.measure.proofs.note.Statement.{statement}
@@ -8,7 +8,8 @@ returns : tie.Need-returns
 returns c =
     let r = c .before .before in
     let v = r .before .before .before .before in
-    all-noted (r .roots .ensures) (v .convert .ensures) (v .before .before .before .before .correct .ensures)
+    let k = v .before .before .before .before .correct .ensures in
+    (all-noted (r .roots .ensures) (v .convert .ensures) (k .0), k .1)
 
 pub note-spec : {M : Type 1} → statement M
 note-spec =

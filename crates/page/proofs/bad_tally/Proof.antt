@@ -7,4 +7,4 @@ use Rattle.page.proofs.bad_tally.Tie as tie
 
 pub bad-tally-spec : {M : Type 1} → statement M
 unfolding badTally
-bad-tally-spec = tie.close (tie.spec (λ c. search (ors)) (λ c. search (ors, needs)))
+bad-tally-spec = tie.close (tie.spec (λ c. search (ors)) (λ c. search (ors, needs)) (λ c. search (ors, needs)))

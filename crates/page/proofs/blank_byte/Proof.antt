@@ -10,22 +10,22 @@ use Rattle.page.proofs.blank_byte.Statement.{statement}
 use Rattle.page.proofs.blank_byte.Tie as tie
 
 module _ (numbers : List ℕ) (side k : ℕ) where
-  line-feed : k % (40 + 1) ≡ 40 → 10 ≡ blankByte numbers side k
+  line-feed : k % (50 + 1) ≡ 50 → 10 ≡ blankByte numbers side k
   unfolding blankByte
-  line-feed e = rw (eq-eqb (k % 41) 40 e)
+  line-feed e = rw (eq-eqb (k % 51) 50 e)
 
-  module _ (n : k % (40 + 1) ≡ 40 → ⊥) where
-    number : (r : ℕ) → k < 40 → r ≡ fieldByte (9 - k % 10) (getD numbers (k / 10) 0) → r ≡ blankByte numbers side k
+  module _ (n : k % (50 + 1) ≡ 50 → ⊥) where
+    number : (r : ℕ) → k < 50 → r ≡ fieldByte (9 - k % 10) (getD numbers (k / 10) 0) → r ≡ blankByte numbers side k
     unfolding blankByte
-    number r l e = rw (ne-eqb (k % 41) 40 n, lt-ltb k 40 l) e
+    number r l e = rw (ne-eqb (k % 51) 50 n, lt-ltb k 50 l) e
 
-    dot : 40 ≤ k → k % (40 + 1) < side → 46 ≡ blankByte numbers side k
+    dot : 50 ≤ k → k % (50 + 1) < side → 46 ≡ blankByte numbers side k
     unfolding blankByte
-    dot l h = rw (ne-eqb (k % 41) 40 n, le-ltb k 40 l, lt-ltb (k % 41) side h)
+    dot l h = rw (ne-eqb (k % 51) 50 n, le-ltb k 50 l, lt-ltb (k % 51) side h)
 
-    space : 40 ≤ k → side ≤ k % (40 + 1) → 32 ≡ blankByte numbers side k
+    space : 50 ≤ k → side ≤ k % (50 + 1) → 32 ≡ blankByte numbers side k
     unfolding blankByte
-    space l h = rw (ne-eqb (k % 41) 40 n, le-ltb k 40 l, le-ltb (k % 41) side h)
+    space l h = rw (ne-eqb (k % 51) 50 n, le-ltb k 50 l, le-ltb (k % 51) side h)
 
 pub blank-byte-spec : {M : Type 1} → statement M
 blank-byte-spec =

@@ -12,23 +12,23 @@ use Rattle.places.specs.Places.{misplacedAt}
 use Rattle.layout.specs.Groups.{Positions}
 use Rattle.page.specs.Lines.{modules, pageText, overlaid}
 use Rattle.page.specs.Steps.{RoomFor, blankPage, showAll}
-use Rattle.page.proofs.Text.{Numbers, four-numbers}
+use Rattle.page.proofs.Text.{Numbers, five-numbers}
 use Rattle.page.proofs.Laid.{laid-out}
 use Rattle.page.proofs.lay_out.Statement.{statement}
 use Rattle.page.proofs.lay_out.Tie as tie
 
-module _ (side terms kept rejected g : ℕ) (xs ys : List ℤ) (luma : List Float) (out : List ℕ) (room : RoomFor side out) (p : Positions side g xs ys) where
-  laid : (a b : List ℕ) → terms < 10 ^ 10 → kept < 10 ^ 10 → rejected < 10 ^ 10 → a ≡ blankPage (side ∷ terms ∷ kept ∷ rejected ∷ []) side out → b ≡ showAll (modules side xs ys luma) a →
-      b ≡ overlaid (pageText (side ∷ terms ∷ kept ∷ rejected ∷ []) (modules side xs ys luma)) out
-  laid a b ht hk hr ea eb =
+module _ (side terms kept rejected held g : ℕ) (xs ys : List ℤ) (luma : List Float) (out : List ℕ) (room : RoomFor side out) (p : Positions side g xs ys) where
+  laid : (a b : List ℕ) → terms < 10 ^ 10 → kept < 10 ^ 10 → rejected < 10 ^ 10 → held < 10 ^ 10 → a ≡ blankPage (side ∷ terms ∷ kept ∷ rejected ∷ held ∷ []) side out → b ≡ showAll (modules side xs ys luma) a →
+      b ≡ overlaid (pageText (side ∷ terms ∷ kept ∷ rejected ∷ held ∷ []) (modules side xs ys luma)) out
+  laid a b ht hk hr hh ea eb =
       eb ∙ ap (showAll (modules side xs ys luma)) ea
-      ∙ laid-out (side ∷ terms ∷ kept ∷ rejected ∷ []) (four-numbers side terms kept rejected (omega (arith, room .narrow)) ht hk hr) (modules side xs ys luma) g (room .narrow)
+      ∙ laid-out (side ∷ terms ∷ kept ∷ rejected ∷ held ∷ []) (five-numbers side terms kept rejected held (omega (arith, room .narrow)) ht hk hr hh) (modules side xs ys luma) g (room .narrow)
       (λ i h. anyUp-false (misplacedAt side g xs ys) (length xs) (p .places-good) i h) out (room .long)
 
 returns : tie.Need-returns
 returns c =
     let p = c .before .before .before .before .before .before .before .before .before .before .before .pre in
-    laid _ _ _ _ _ _ _ _ _ (p .0) (p .1) _ _ (p .3) (search needs) (search needs) (c .before .before .before .before .before .before .lay-blank .ensures) (c .before .before .show-all .ensures)
+    laid _ _ _ _ _ _ _ _ _ _ (p .0) (p .1) _ _ (p .3) (search needs) (search needs) (p .4) (c .before .before .before .before .before .before .lay-blank .ensures) (c .before .before .show-all .ensures)
 
 pub lay-out-spec : {M : Type 1} → statement M
 lay-out-spec =

@@ -20,9 +20,9 @@ use Rattle.page.proofs.Accepted.{accepted}
 use Rattle.page.proofs.page.Statement.{statement}
 use Rattle.page.proofs.page.Tie as tie
 
-module _ (side terms kept rejected : ℕ) (xs ys : List ℤ) (grid : ℕ) (luma : List Float) (out : List ℕ) where
+module _ (side terms kept rejected held : ℕ) (xs ys : List ℤ) (grid : ℕ) (luma : List Float) (out : List ℕ) where
   abbrev q : Request
-  q = request side terms kept rejected xs ys grid luma out
+  q = request side terms kept rejected held xs ys grid luma out
 
   module _ (n : ℕ) (e : n ≡ refusal (sentencesOf q)) where
     away : (l : List ℕ) → (n ≡ 0 → ⊥) → l ≡ out → ended (Refused n) l ≡ pageOf q
@@ -30,14 +30,14 @@ module _ (side terms kept rejected : ℕ) (xs ys : List ℤ) (grid : ℕ) (luma 
     away l z h = list-kept (sentencesOf q) out (laidOut q) n e l z h
 
     module _ (z : n ≡ 0) where
-      wrote : (l : List ℕ) → l ≡ overlaid (pageText (side ∷ terms ∷ kept ∷ rejected ∷ []) (modules side xs ys luma)) out → ended Done l ≡ pageOf q
+      wrote : (l : List ℕ) → l ≡ overlaid (pageText (side ∷ terms ∷ kept ∷ rejected ∷ held ∷ []) (modules side xs ys luma)) out → ended Done l ≡ pageOf q
       unfolding pageOf
       wrote l h = list-written (sentencesOf q) out (laidOut q) n e l z h
 
 lay-out-requires : tie.Need-lay-out-requires
 lay-out-requires c κs =
     let a = accepted _ _ (c .before .before .refused .ensures) (c .before .if1 .left) in
-    (record { narrow = a .narrow; long = a .long .room }, a .positions, a .long .scores, omega (arith, terms-in _ (a .terms-good)))
+    (record { narrow = a .narrow; long = a .long .room }, a .positions, a .long .scores, omega (arith, terms-in _ (a .terms-good)), omega (arith, a .tally .2))
 
 pub page-spec : {M : Type 1} → statement M
 page-spec =

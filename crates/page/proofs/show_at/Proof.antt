@@ -30,7 +30,7 @@ module _ (side : ℕ) (x y : ℤ) (r : Bool) (e : r ≡ offGrid side x y) (f : r
   on-y : outside side 0 y ≡ false
   on-y = neither (outside side 0 x) (outside side 0 y) (sym e ∙ f) .1
 
-  place-in : (a b n : ℕ) → pos a ≡ x → pos b ≡ y → side ≤ 40 → pageLength side ≤ n → (40 + 1) * (b + 1) + a < n
+  place-in : (a b n : ℕ) → pos a ≡ x → pos b ≡ y → side ≤ 50 → pageLength side ≤ n → (50 + 1) * (b + 1) + a < n
   place-in a b n ea eb w l =
       let p = on-grid side x on-x .0 in
       let q = on-grid side y on-y .0 in
@@ -43,7 +43,7 @@ module _ (side : ℕ) (xs ys : List ℤ) (luma : List Float) (i : ℕ) (out : Li
   unfolding showAt
   stays t = rw (← e, t)
 
-  wrote : (a b v : ℕ) → r ≡ false → pos a ≡ getD xs i (pos 0) → pos b ≡ getD ys i (pos 0) → v ≡ reads (getD luma i nan) → set out ((40 + 1) * (b + 1) + a) (48 + v) ≡ showAt (modules side xs ys luma) i out
+  wrote : (a b v : ℕ) → r ≡ false → pos a ≡ getD xs i (pos 0) → pos b ≡ getD ys i (pos 0) → v ≡ reads (getD luma i nan) → set out ((50 + 1) * (b + 1) + a) (48 + v) ≡ showAt (modules side xs ys luma) i out
   unfolding showAt
   wrote a b v f ea eb ev = rw (← e, f, ← ea, ← eb, ev)
 

@@ -8,10 +8,10 @@ use borrow.Author.Tests.{lt-ltb, le-ltb, eq-eqb}
 use lib.ListN.{length, getD}
 use lib.Ieee.{nan}
 use Rattle.limits.specs.Chroma.{chromaOn, symbolBits, chromaEntries, chromaLength}
-use Rattle.answers.specs.declared.Outcome.the-variants.{Done}
+use Rattle.demod.specs.declared.Scored.the-variants.{Done}
 use Rattle.color.specs.Palette.{linearAt}
 use Rattle.modulate.specs.declared.Cell.the-variants.{Unmasked, At}
-use Rattle.demod.specs.Call.{Request, Final, moduleColours, cellColours, writtenChroma, scoredOf}
+use Rattle.demod.specs.Call.{Request, Final, moduleColours, cellColours, writtenChroma, reportOf, scoredOf}
 use Rattle.demod.proofs.Accepted.{number, done-answer}
 use Rattle.demod.proofs.Outcome.{at-done, at-refused}
 use Rattle.guarantee.proofs.Scored as entries
@@ -20,7 +20,7 @@ use Rattle.promises.proofs.scoring_answers.Statement.{statement}
 use Rattle.promises.proofs.scoring_answers.Tie as tie
 
 module _ (q : Request) (z : scoredOf q .number ≡ 0) where
-  e : scoredOf q .answer ≡ Done
+  e : scoredOf q .answer ≡ Done (reportOf q)
   e = done-answer q z
 
   -- the chroma list keeps its length, with chroma on or off
@@ -55,6 +55,7 @@ module _ (q : Request) (z : scoredOf q .number ≡ 0) where
       let d = at-done q e in
       record {
         no-sentence = sym (number q) ∙ z;
+        reports = e;
         luma-long = ap (λ (f : Final). length (f .luma)) (d .left) ∙ d .wrote .luma-long;
         luma = λ i l. ap (λ (f : Final). getD (f .luma) i nan) (d .left) ∙ d .wrote .scored i l;
         luma-kept = λ i l. ap (λ (f : Final). getD (f .luma) i nan) (d .left) ∙ d .wrote .luma-kept i l;

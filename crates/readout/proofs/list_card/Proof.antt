@@ -5,7 +5,9 @@ use Rattle.readout.proofs.list_card.Statement.{statement}
 use Rattle.readout.proofs.list_card.Tie as tie
 
 list-read-requires : tie.Need-list-read-requires
-list-read-requires c κs = listable _ _ _ _ _ _ _ _ _ _ _ _ _ _ _ _ _ _ _ _ _ _ _ _ (c .before .before .before .before .before .before .before .before .before .before .before .before .before .before .before .before .before .before .before .read-bits .ensures .0) (search needs)
+list-read-requires c κs =
+    let told = c .before .before .before .before .before .enum-told .given in
+    listable _ _ _ _ _ _ _ _ _ _ _ _ _ _ _ _ _ _ _ _ _ _ _ _ (c .before .before .before .before .before .before .before .before .before .before .before .before .before .before .before .before .before .before .before .read-bits .ensures .0) (told .0 .0) (told .1)
 
 returns : tie.Need-returns
 returns c = search (not-read)

@@ -49,10 +49,9 @@ use denote.Triple.Table.{entered, cited}
 use denote.Triple.Walked.{says, Stays, stay-none, stay-none-slice, gave-slice, walkOf, goes-none, goes-none-slice, goes-gave-slice, Walks, ends-at, walked, walk-meets}
 use denote.Exit.{yes}
 use Rattle.illum.specs.declared.IlluminationModel.{IlluminationModel}
-use Rattle.stats.specs.declared.Noise.{Noise}
-use Rattle.stats.specs.Calls.{noiseSaid}
+use Rattle.measure.specs.declared.Measured.{Measured}
 use Rattle.measure.specs.Measure as measuring
-use Rattle.measure.specs.Measure.{measureOf}
+use Rattle.measure.specs.Measure.{measuredSaid, measureOf}
 use Rattle.records.specs.declared.Reference.{Reference}
 use Rattle.records.specs.Records.{flattened, copied}
 use Rattle.records.proofs.LocalArray.{slice-at, array-some, array-room, big-lit}
@@ -62,8 +61,8 @@ use Rattle.records.proofs.Entry.{word, z, z-fits}
 use Rattle.records.proofs.Reference as R
 use Rattle.illum.proofs.IlluminationModel as P
 use Rattle.illum.proofs.IlluminationModel.Laws as P′
-use Rattle.stats.proofs.Noise as S
-use Rattle.stats.proofs.Noise.Laws as S′
+use Rattle.measure.proofs.Measured as S
+use Rattle.measure.proofs.Measured.Laws as S′
 use Rattle.records.proofs.copied.Symbol as copied-def
 use Rattle.records.proofs.copied.Symbol.{name as #records·copied}
 use Rattle.records.proofs.copied.Met as copied-thm
@@ -151,14 +150,14 @@ module _ {M : Type 1} (𝓤 : URA M) (H : Heap 𝓤) (A : Atoms 𝓤) (W : Given
   to-gather = E.to-gather 𝓤 H A mem′ run W κ₀ q₀ b o γ ys
 
   -- what `measure_copied` says of the floats zs, and what the contract says of the records
-  abbrev Says : Noise → List Float → List Float → Type 0
-  Says r ss′ zs = measuring.final (noiseSaid r) ss′ ≡ measureOf (measuring.request (take (8 * copied n) zs) false n side model ps hues ss)
+  abbrev Says : Measured → List Float → List Float → Type 0
+  Says r ss′ zs = measuring.final (measuredSaid r) ss′ ≡ measureOf (measuring.request (take (8 * copied n) zs) false n side model ps hues ss)
 
-  concluded : (m : ℕ) (zs ss′ : List Float) (r : Noise) → m ≡ copied n → take (8 * m) zs ≡ flattened (take m ys) → Says r ss′ zs → measuring.final (noiseSaid r) ss′ ≡ measureOf (measuring.flatRequest (flattened ys) side model ps hues ss)
+  concluded : (m : ℕ) (zs ss′ : List Float) (r : Measured) → m ≡ copied n → take (8 * m) zs ≡ flattened (take m ys) → Says r ss′ zs → measuring.final (measuredSaid r) ss′ ≡ measureOf (measuring.flatRequest (flattened ys) side model ps hues ss)
   concluded m zs ss′ r em e c = c ∙ measure-laid ys zs (subst (λ (k : ℕ). take (8 * k) zs ≡ flattened (take k ys)) em e) side model ps hues ss
 
   module _ (room : Room R.the-row (length ys)) (side-fits : side < 2 ^ 64) (model-is : Is P.the-row model (mv ∷ [])) (p-room : Room f32 (length ps)) (hues-fits : hues < 2 ^ 64) (s-room : Room f32 (length ss)) where
-    exits : (r : Noise) (u : Val) (ss′ : List Float) → measuring.final (noiseSaid r) ss′ ≡ measureOf (measuring.flatRequest (flattened ys) side model ps hues ss) → length ss′ ≡ length ss → ent 𝓤 (⋆ 𝓤 H A (‵ (flft κ₀ q₀) ∷ (‵ (flft κ₁ q₁) ⊛ (‵ (flft κ₂ q₂) ⊛ ‵ ftrue)) ∷ ‵ Own ∷ ‵ Palette ∷ ‵ (finally f32 σ ss′) ∷ ‵ (S.the-row .own r (u ∷ [])) ∷ [])) (Post u)
+    exits : (r : Measured) (u : Val) (ss′ : List Float) → measuring.final (measuredSaid r) ss′ ≡ measureOf (measuring.flatRequest (flattened ys) side model ps hues ss) → length ss′ ≡ length ss → ent 𝓤 (⋆ 𝓤 H A (‵ (flft κ₀ q₀) ∷ (‵ (flft κ₁ q₁) ⊛ (‵ (flft κ₂ q₂) ⊛ ‵ ftrue)) ∷ ‵ Own ∷ ‵ Palette ∷ ‵ (finally f32 σ ss′) ∷ ‵ (S.the-row .own r (u ∷ [])) ∷ [])) (Post u)
     exits r u ss′ e l =
         qed W (‵ (flft κ₀ q₀) ∷ (‵ (flft κ₁ q₁) ⊛ (‵ (flft κ₂ q₂) ⊛ ‵ ftrue)) ∷ ‵ Own ∷ ‵ Palette ∷ ‵ (finally f32 σ ss′) ∷ ‵ (S.the-row .own r (u ∷ [])) ∷ []) ∵
         suffices ! _ (ends-at 𝓤 H A measure.ended stayed (measure.clauses 𝓤 H A mem′ run) W (((κ₀, (κ₁, (κ₂, tt))), (q₀, (q₁, (q₂, tt))), tt, a, vals), tt) u r (tt, (tt, (tt, (tt, (tt, (ss′, tt)))))) (tt, (tt, (tt, (tt, (tt, (l, tt))))))) $ says ! e $ join ! $ frame ! $
@@ -229,7 +228,7 @@ module _ {M : Type 1} (𝓤 : URA M) (H : Heap 𝓤) (A : Atoms 𝓤) (W : Given
           move ! (10 ∷ 12 ∷ []) $ join ! $ move ! (3 ∷ 9 ∷ 7 ∷ 1 ∷ 0 ∷ []) $ join ! $ join ! $
           use3 W (raw (Called .pre (to-called l₉ ν′ δ′ (us .1 .1 .0)))) (goes-called l₉ ν′ δ′ (us .1 .1 .0) (l ∙ lz)) $
           calls-at ! fm Called known-called (to-called l₉ ν′ δ′ (us .1 .1 .0)) (and-then ! (load ! (from ! (stop !)) (look ! 13 refl)) (and-then ! (load ! (from ! (stop !)) (look ! 26 refl)) (and-then ! (load ! (from ! (stop !)) (look ! 36 refl)) (and-then ! (load ! (from ! (stop !)) (look ! 34 refl)) (and-then ! (load ! (from ! (stop !)) (look ! 32 refl)) (and-then ! (load ! (from ! (stop !)) (look ! 30 refl)) (and-then ! (load ! (from ! (stop !)) (look ! 9 refl)) (no-more !)))))))) (λ u.
-          use1 W (later (some (λ (r : Noise). ((‵ (flft (ν′ ∷ []) fullShare) ⊛ (‵ (flft κ₁ q₁) ⊛ (‵ (flft κ₂ q₂) ⊛ ‵ ftrue))) ⊛ ‵ (S.the-row .own r (u ∷ []))) ⊛ raw (ensured 𝓤 H A called.ended (called.clauses 𝓤 H A mem′ run) (ν′ ∷ [], (κ₁, (κ₂, tt))) (slice-at l₉ 0 δ′ (us .1 .1 .0), (n, (side, (model, (p, (hues, (y, tt))))))) tt r)))) (id⊢ 𝓤 _) $ await ! tt $ pick ! (λ r.
+          use1 W (later (some (λ (r : Measured). ((‵ (flft (ν′ ∷ []) fullShare) ⊛ (‵ (flft κ₁ q₁) ⊛ (‵ (flft κ₂ q₂) ⊛ ‵ ftrue))) ⊛ ‵ (S.the-row .own r (u ∷ []))) ⊛ raw (ensured 𝓤 H A called.ended (called.clauses 𝓤 H A mem′ run) (ν′ ∷ [], (κ₁, (κ₂, tt))) (slice-at l₉ 0 δ′ (us .1 .1 .0), (n, (side, (model, (p, (hues, (y, tt))))))) tt r)))) (id⊢ 𝓤 _) $ await ! tt $ pick ! (λ r.
           split ! $ move ! (1 ∷ []) $ use1 W (some (λ (ts : List Float × (Unit {0} × (Unit {0} × (Unit {0} × (Unit {0} × (Unit {0} × (List Float × Unit {0}))))))). ‵ (lasts called.ended (ν′ ∷ [], (κ₁, (κ₂, tt))) (slice-at l₉ 0 δ′ (us .1 .1 .0), (n, (side, (model, (p, (hues, (y, tt))))))) ts) ⊛ raw (fact 𝓤 (Says r (ts .1 .1 .1 .1 .1 .1 .0) (us .1 .1 .0))))) (id⊢ 𝓤 _) $ pick ! (λ ts.
           split ! $ move ! (1 ∷ []) $ heard ! (Says r (ts .1 .1 .1 .1 .1 .1 .0) (us .1 .1 .0)) (λ c. fsplit ! $ fsplit ! $ move ! (1 ∷ []) $ feqL ! (λ l′. move ! (1 ∷ []) $ fsplit ! $ drop ! $ fsplit ! $ drop ! $ fsplit ! $ drop ! $ fsplit ! $ drop ! $ fsplit ! $ drop ! $ fsplit ! $ fsplit ! $ move ! (1 ∷ []) $ feqL ! (λ l″.
           -- [scratch's last list; true; the array's; the tokens and the result; what is kept of the array; …]

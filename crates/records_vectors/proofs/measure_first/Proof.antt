@@ -45,8 +45,8 @@ use denote.Triple.Table.{entered, cited}
 use denote.Triple.Walked.{says, needs, Stays, stay-none, stay-none-slice, gave-slice, walkOf, goes-none, goes-none-slice, goes-gave-slice, Walks, ends-at, walked, walk-meets}
 use denote.Exit.{yes}
 use Rattle.illum.specs.declared.IlluminationModel.{IlluminationModel}
-use Rattle.stats.specs.declared.Noise.{Noise}
-use Rattle.stats.specs.Calls.{noiseSaid}
+use Rattle.measure.specs.declared.Measured.{Measured}
+use Rattle.measure.specs.Measure.{measuredSaid}
 use Rattle.measure.specs.Measure as measuring
 use Rattle.measure.specs.Measure.{measureOf}
 use Rattle.records.specs.declared.Reference.{Reference}
@@ -56,8 +56,8 @@ use Rattle.records.proofs.Reference as R
 use Rattle.records.proofs.Reference.Laws as R′
 use Rattle.illum.proofs.IlluminationModel as P
 use Rattle.illum.proofs.IlluminationModel.Laws as P′
-use Rattle.stats.proofs.Noise as S
-use Rattle.stats.proofs.Noise.Laws as S′
+use Rattle.measure.proofs.Measured as S
+use Rattle.measure.proofs.Measured.Laws as S′
 use Rattle.records.proofs.measure as called
 use Rattle.records.proofs.measure.Symbol as called-def
 use Rattle.records.proofs.measure.Symbol.{name as #records·measure}
@@ -120,11 +120,11 @@ module _ {M : Type 1} (𝓤 : URA M) (H : Heap 𝓤) (A : Atoms 𝓤) (W : Given
   abbrev Called : Contract 𝓤
   Called = Record 𝓤 H A mem run
 
-  abbrev Says : Noise → List Float → Type 0
-  Says r ss′ = measuring.final (noiseSaid r) ss′ ≡ measureOf (measuring.flatRequest (flattened ys) side model ps hues ss)
+  abbrev Says : Measured → List Float → Type 0
+  Says r ss′ = measuring.final (measuredSaid r) ss′ ≡ measureOf (measuring.flatRequest (flattened ys) side model ps hues ss)
 
   module _ (g : Is All xs (v ∷ [])) (n-fits : n < 2 ^ 64) (side-fits : side < 2 ^ 64) (model-is : Is P.the-row model (mv ∷ [])) (p-room : Room f32 (length ps)) (hues-fits : hues < 2 ^ 64) (s-room : Room f32 (length ss)) (n≤ : n ≤ 64) where
-    exits : (r : Noise) (u : Val) (ss′ : List Float) → Says r ss′ → length ss′ ≡ length ss → ent 𝓤 (⋆ 𝓤 H A ((‵ (flft κ₀ q₀) ⊛ (‵ (flft κ₁ q₁) ⊛ ‵ ftrue)) ∷ ‵ Palette ∷ ‵ (finally f32 σ ss′) ∷ ‵ (S.the-row .own r (u ∷ [])) ∷ [])) (Post u)
+    exits : (r : Measured) (u : Val) (ss′ : List Float) → Says r ss′ → length ss′ ≡ length ss → ent 𝓤 (⋆ 𝓤 H A ((‵ (flft κ₀ q₀) ⊛ (‵ (flft κ₁ q₁) ⊛ ‵ ftrue)) ∷ ‵ Palette ∷ ‵ (finally f32 σ ss′) ∷ ‵ (S.the-row .own r (u ∷ [])) ∷ [])) (Post u)
     exits r u ss′ e l =
         qed W ((‵ (flft κ₀ q₀) ⊛ (‵ (flft κ₁ q₁) ⊛ ‵ ftrue)) ∷ ‵ Palette ∷ ‵ (finally f32 σ ss′) ∷ ‵ (S.the-row .own r (u ∷ [])) ∷ []) ∵
         suffices ! _ (ends-at 𝓤 H A first.ended stayed (first.clauses 𝓤 H A mem run) W (((κ₀, (κ₁, tt)), (q₀, (q₁, tt)), tt, a, vals), tt) u r (tt, (tt, (tt, (tt, (tt, (tt, (ss′, tt))))))) (tt, (tt, (tt, (tt, (tt, (tt, (l, tt)))))))) $ says ! e $ frame ! $
@@ -167,7 +167,7 @@ module _ {M : Type 1} (𝓤 : URA M) (H : Heap 𝓤) (A : Atoms 𝓤) (W : Given
           move ! (7 ∷ 8 ∷ []) $ join ! $ move ! (3 ∷ 6 ∷ 4 ∷ 1 ∷ 0 ∷ []) $ join ! $ join ! $
           use3 W (raw (Called .pre (to-called l₈ ν δ))) (goes-called l₈ ν δ) $
           calls-at ! fm Called known (to-called l₈ ν δ) (and-then ! (load ! (from ! (stop !)) (look ! 9 refl)) (and-then ! (load ! (from ! (stop !)) (look ! 22 refl)) (and-then ! (load ! (from ! (stop !)) (look ! 20 refl)) (and-then ! (load ! (from ! (stop !)) (look ! 18 refl)) (and-then ! (load ! (from ! (stop !)) (look ! 16 refl)) (and-then ! (load ! (from ! (stop !)) (look ! 5 refl)) (no-more !))))))) (λ u.
-          use1 W (later (some (λ (r : Noise). ((‵ (flft (ν ∷ []) fullShare) ⊛ (‵ (flft κ₀ q₀) ⊛ (‵ (flft κ₁ q₁) ⊛ ‵ ftrue))) ⊛ ‵ (S.the-row .own r (u ∷ []))) ⊛ raw (ensured 𝓤 H A called.ended (called.clauses 𝓤 H A mem run) (ν ∷ [], (κ₀, (κ₁, tt))) (slice-at l₈ 0 δ ys, (side, (model, (p, (hues, (y, tt)))))) tt r)))) (id⊢ 𝓤 _) $ await ! tt $ pick ! (λ r.
+          use1 W (later (some (λ (r : Measured). ((‵ (flft (ν ∷ []) fullShare) ⊛ (‵ (flft κ₀ q₀) ⊛ (‵ (flft κ₁ q₁) ⊛ ‵ ftrue))) ⊛ ‵ (S.the-row .own r (u ∷ []))) ⊛ raw (ensured 𝓤 H A called.ended (called.clauses 𝓤 H A mem run) (ν ∷ [], (κ₀, (κ₁, tt))) (slice-at l₈ 0 δ ys, (side, (model, (p, (hues, (y, tt)))))) tt r)))) (id⊢ 𝓤 _) $ await ! tt $ pick ! (λ r.
           split ! $ move ! (1 ∷ []) $ use1 W (some (λ (ts : Unit {0} × (Unit {0} × (Unit {0} × (Unit {0} × (Unit {0} × (List Float × Unit {0})))))). ‵ (lasts called.ended (ν ∷ [], (κ₀, (κ₁, tt))) (slice-at l₈ 0 δ ys, (side, (model, (p, (hues, (y, tt)))))) ts) ⊛ raw (fact 𝓤 (Says r (ts .1 .1 .1 .1 .1 .0))))) (id⊢ 𝓤 _) $ pick ! (λ ts.
           split ! $ move ! (1 ∷ []) $ heard ! (Says r (ts .1 .1 .1 .1 .1 .0)) (λ c. fsplit ! $ drop ! $ fsplit ! $ drop ! $ fsplit ! $ drop ! $ fsplit ! $ drop ! $ fsplit ! $ drop ! $ fsplit ! $ fsplit ! $ move ! (1 ∷ []) $ feqL ! (λ l.
           -- [scratch's last list; true; the tokens and the result; what is kept of the records; …]

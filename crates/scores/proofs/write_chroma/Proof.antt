@@ -1,4 +1,4 @@
--- `write_chroma` meets its contract: with chroma on the cells' entries and then the ring's, else nothing. Assumes nothing.
+-- `write_chroma` meets its contract: with chroma on the cells' entries and then the ring's, and the cells that have a mark; else nothing, and none. Assumes nothing.
 use mathlib.Core.Path.{_≡_}
 use mathlib.Core.Bool.{Bool, true, false, cond}
 use borrow.Author.Needs.{needs}
@@ -12,8 +12,10 @@ use lib.Ieee.{Float}
 use Rattle.limits.specs.Chroma.{symbolBits, chromaOn, chromaEntries, chromaLength}
 use Rattle.layout.specs.declared.Layout.{Layout}
 use Rattle.color.specs.declared.Linear.{Linear}
+use Rattle.illum.specs.declared.IlluminationModel.{IlluminationModel}
 use Rattle.stats.specs.declared.ChannelStats.{ChannelStats}
-use Rattle.scores.specs.Score.{writeCells, ringChroma, chromaWritten}
+use Rattle.observed.specs.Colours.{heldCells}
+use Rattle.scores.specs.Score.{writeCells, ringChroma, chromaWritten, chromaHeld}
 use Rattle.scores.proofs.write_chroma.Statement.{statement}
 use Rattle.scores.proofs.write_chroma.Tie as tie
 
@@ -39,6 +41,15 @@ module _ (l : Layout) (n : ChannelStats) (palette : List Float) (modules : ℕ �
   unfolding chromaWritten
   off t = rw (← e, t)
 
+module _ (l : Layout) (model : IlluminationModel) (cxs cys : List ℕ) (o : Bool) (e : o ≡ chromaOn (l .hues)) where
+  counted : (k : ℕ) → o ≡ true → k ≡ heldCells model (l .size) cxs cys (length cxs) → k ≡ chromaHeld l model cxs cys
+  unfolding chromaHeld
+  counted k t h = rw (← e, t) h
+
+  not-counted : o ≡ false → 0 ≡ chromaHeld l model cxs cys
+  unfolding chromaHeld
+  not-counted t = rw (← e, t)
+
 write-cells-requires : tie.Need-write-cells-requires
 write-cells-requires c κs = (search needs, search needs, search (cells-long))
 
@@ -46,10 +57,10 @@ ring-chroma-requires : tie.Need-ring-chroma-requires
 ring-chroma-requires c κs = (search needs, search needs, search (still))
 
 returns : tie.Need-returns
-returns c = search (scored)
+returns c = (search (scored), search (counted))
 
 returns-2 : tie.Need-returns-2
-returns-2 c = search (off)
+returns-2 c = (search (off), search (not-counted))
 
 pub write-chroma-spec : {M : Type 1} → statement M
 write-chroma-spec =

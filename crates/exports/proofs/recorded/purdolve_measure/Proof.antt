@@ -1,4 +1,4 @@
--- `exports::recorded::purdolve_measure` meets its contract: it is `records::measure`, its answer turned for C by `noise_answer`. A walk of its MIR, by hand: the first call is handed all that the function is, with one of two copies of each shared slice, and `scratch` for good (`gave-slice`); the second the first's answer.
+-- `exports::recorded::purdolve_measure` meets its contract: it is `records::measure`, its answer turned for C by `measure_answer`. A walk of its MIR, by hand: the first call is handed all that the function is, with one of two copies of each shared slice, and `scratch` for good (`gave-slice`); the second the first's answer.
 -- Assumes nothing.
 use mathlib.Core.Path.{_≡_, refl}
 use mathlib.Core.List.{List, [], _∷_}
@@ -39,31 +39,31 @@ use denote.Triple.Table.{entered, cited}
 use denote.Triple.Walked.{says, Stays, stay-none, stay-none-slice, gave-slice, walkOf, goes-none, goes-none-slice, goes-gave-slice, Walks, ends-at, walked, walk-meets}
 use denote.Exit.{yes}
 use Rattle.illum.specs.declared.IlluminationModel.{IlluminationModel}
-use Rattle.stats.specs.declared.Noise.{Noise}
-use Rattle.stats.specs.Calls.{noiseSaid}
+use Rattle.measure.specs.declared.Measured.{Measured}
 use Rattle.measure.specs.Measure as measuring
+use Rattle.measure.specs.Measure.{measuredSaid}
 use Rattle.records.specs.declared.Reference.{Reference}
 use Rattle.records.specs.Records.{flattened}
 use Rattle.records.proofs.LocalArray.{slice-at}
 use Rattle.records.proofs.Reference as R
 use Rattle.illum.proofs.IlluminationModel as P
 use Rattle.illum.proofs.IlluminationModel.Laws as P′
-use Rattle.stats.proofs.Noise as N
-use Rattle.stats.proofs.Noise.Laws as N′
-use Rattle.exports.specs.declared.replies.NoiseAnswer.{NoiseAnswer}
-use Rattle.exports.specs.Replies.{noiseAnswer}
+use Rattle.measure.proofs.Measured as N
+use Rattle.measure.proofs.Measured.Laws as N′
+use Rattle.exports.specs.declared.replies.MeasureAnswer.{MeasureAnswer}
+use Rattle.exports.specs.Replies.{measureAnswer}
 use Rattle.exports.specs.Exits.{exit1, measureExit}
 use Rattle.exports.proofs.Laws.{measure-exit}
-use Rattle.exports.proofs.replies.NoiseAnswer as S
-use Rattle.exports.proofs.replies.NoiseAnswer.Laws as S′
+use Rattle.exports.proofs.replies.MeasureAnswer as S
+use Rattle.exports.proofs.replies.MeasureAnswer.Laws as S′
 use Rattle.records.proofs.measure as called
 use Rattle.records.proofs.measure.Symbol as called-def
 use Rattle.records.proofs.measure.Symbol.{name as #records·measure}
 use Rattle.records.proofs.measure.Met as called-thm
-use Rattle.exports.proofs.replies.noise_answer as answer
-use Rattle.exports.proofs.replies.noise_answer.Symbol as answer-def
-use Rattle.exports.proofs.replies.noise_answer.Symbol.{name as #noise-answer}
-use Rattle.exports.proofs.replies.noise_answer.Met as answer-thm
+use Rattle.exports.proofs.replies.measure_answer as answer
+use Rattle.exports.proofs.replies.measure_answer.Symbol as answer-def
+use Rattle.exports.proofs.replies.measure_answer.Symbol.{name as #measure-answer}
+use Rattle.exports.proofs.replies.measure_answer.Met as answer-thm
 use Rattle.exports.proofs.recorded.purdolve_measure.Key.{name as #own}
 use Rattle.exports.proofs.recorded.purdolve_measure as own
 use Rattle.exports.proofs.recorded.purdolve_measure.Statement as stated
@@ -72,7 +72,7 @@ use Rattle.exports.proofs.recorded.purdolve_measure.Code as code
 abbrev stayed : Stays (own.ended .signature .params) (own.ended .kept)
 stayed = (stay-none-slice (0 ∷ []) tt (plain (λ _. R.the-row)) yes, (stay-none (λ _. usize) yes, (stay-none (λ _. P.the-row) yes, (stay-none-slice (1 ∷ []) tt (plain (λ _. f32)) yes, (stay-none (λ _. usize) yes, (gave-slice (2 ∷ []) tt (plain (λ _. f32)), tt))))))
 
--- the contracts of `records::measure` and of `noise_answer`
+-- the contracts of `records::measure` and of `measure_answer`
 abbrev Handed : {M : Type 1} (𝓤 : URA M) (H : Heap 𝓤) (A : Atoms 𝓤) (mem′ : Memory → SProp 𝓤) (run : Routine → Fun 𝓤) → Contract 𝓤
 Handed 𝓤 H A mem′ run = tripleOf 𝓤 H A called.signature (called.spec 𝓤 H A mem′ run)
 
@@ -130,28 +130,28 @@ module _ {M : Type 1} (𝓤 : URA M) (H : Heap 𝓤) (A : Atoms 𝓤) (W : Given
   measured = measuring.measureOf (measuring.flatRequest (flattened ys) side model ps hues ss)
 
   -- what `records::measure` says
-  abbrev Says : Noise → List Float → Type 0
-  Says n ss′ = measuring.final (noiseSaid n) ss′ ≡ measured
+  abbrev Says : Measured → List Float → Type 0
+  Says n ss′ = measuring.final (measuredSaid n) ss′ ≡ measured
 
   -- what the triples of the calls bind outside
   abbrev to-called : Called .Ghost
   to-called = (((κ₀, (κ₁, (κ₂, tt))), (q₀, (q₁, (q₂, tt))), tt, a, vals), tt)
 
-  abbrev to-answer : Noise → Val → Answer .Ghost
+  abbrev to-answer : Measured → Val → Answer .Ghost
   to-answer n u = ((tt, tt, tt, (n, tt), (u ∷ [], tt)), tt)
 
-  -- `noise_answer`: the caller has what it asks, and what it says
-  goes-answer : (n : Noise) (u : Val) → ent 𝓤 (sem 𝓤 H A (N.the-row .own n (u ∷ []))) (Answer .pre (to-answer n u))
+  -- `measure_answer`: the caller has what it asks, and what it says
+  goes-answer : (n : Measured) (u : Val) → ent 𝓤 (sem 𝓤 H A (N.the-row .own n (u ∷ []))) (Answer .pre (to-answer n u))
   goes-answer n u = qed W (‵ (N.the-row .own n (u ∷ [])) ∷ []) ∵ nothing ! $ move ! (1 ∷ 0 ∷ []) $ fjoin ! $ nothing ! $ join ! $ frame ! $ done !
 
-  abbrev said-answer : Noise → NoiseAnswer → SProp 𝓤
+  abbrev said-answer : Measured → MeasureAnswer → SProp 𝓤
   said-answer n r = ensured 𝓤 H A answer.ended (answer.clauses 𝓤 H A mem′ run) tt (n, tt) tt r
 
-  answer-said : (n : Noise) (r : NoiseAnswer) → ent 𝓤 (said-answer n r) (fact 𝓤 (r ≡ noiseAnswer (noiseSaid n)))
-  answer-said n r = exE 𝓤 _ (λ ws. snd∗ 𝓤 (sem 𝓤 H A (lasts answer.ended tt (n, tt) ws)) (fact 𝓤 (r ≡ noiseAnswer (noiseSaid n))))
+  answer-said : (n : Measured) (r : MeasureAnswer) → ent 𝓤 (said-answer n r) (fact 𝓤 (r ≡ measureAnswer (measuredSaid n)))
+  answer-said n r = exE 𝓤 _ (λ ws. snd∗ 𝓤 (sem 𝓤 H A (lasts answer.ended tt (n, tt) ws)) (fact 𝓤 (r ≡ measureAnswer (measuredSaid n))))
 
   module _ (room : Room R.the-row (length ys)) (side-fits : side < 2 ^ 64) (model-is : Is P.the-row model (mv ∷ [])) (p-room : Room f32 (length ps)) (hues-fits : hues < 2 ^ 64) (s-room : Room f32 (length ss)) where
-    exits : (r : NoiseAnswer) (u : Val) (ss′ : List Float) → exit1 r ss′ ≡ measureExit measured → length ss′ ≡ length ss
+    exits : (r : MeasureAnswer) (u : Val) (ss′ : List Float) → exit1 r ss′ ≡ measureExit measured → length ss′ ≡ length ss
         → ent 𝓤 (⋆ 𝓤 H A ((‵ (flft κ₀ q₀) ⊛ (‵ (flft κ₁ q₁) ⊛ (‵ (flft κ₂ q₂) ⊛ ‵ ftrue))) ∷ ‵ Own ∷ ‵ Palette ∷ ‵ (finally f32 σ ss′) ∷ ‵ (S.the-row .own r (u ∷ [])) ∷ [])) (Post u)
     exits r u ss′ e l =
         qed W ((‵ (flft κ₀ q₀) ⊛ (‵ (flft κ₁ q₁) ⊛ (‵ (flft κ₂ q₂) ⊛ ‵ ftrue))) ∷ ‵ Own ∷ ‵ Palette ∷ ‵ (finally f32 σ ss′) ∷ ‵ (S.the-row .own r (u ∷ [])) ∷ []) ∵
@@ -167,7 +167,7 @@ module _ {M : Type 1} (𝓤 : URA M) (H : Heap 𝓤) (A : Atoms 𝓤) (W : Given
         owned ! P.the-row (Is P.the-row) (LL.makes P.the-type P′.the-plain 𝓤 H A) model _ model-is $ fjoin ! $ owned ! usize (Is usize) (uint-makes 𝓤 H A W w64) side _ (refl, side-fits) $ fjoin ! $ move ! (2 ∷ 0 ∷ []) $ fjoin ! $
         move ! (1 ∷ 0 ∷ []) $ join ! $ frame ! $ done !
 
-    module _ (C : Calls 𝓤 H) (Λ : Loops 𝓤 H) (fm : FmC 𝓤 H (W .laws) C) (known-called : Triple 𝓤 (C #records·measure) Called) (known-answer : Triple 𝓤 (C #noise-answer) Answer) where
+    module _ (C : Calls 𝓤 H) (Λ : Loops 𝓤 H) (fm : FmC 𝓤 H (W .laws) C) (known-called : Triple 𝓤 (C #records·measure) Called) (known-answer : Triple 𝓤 (C #measure-answer) Answer) where
       walk : ent 𝓤 (onEntry 𝓤 H A own.signature (κ₀, (κ₁, (κ₂, tt))) (q₀, (q₁, (q₂, tt))) a vals) (WpFn 𝓤 H C Λ code.function (v ∷ vint w64 side ∷ mv ∷ pv ∷ vint w64 hues ∷ w ∷ []) Post)
       walk =
           qed W ((‵ (flft κ₀ q₀) ⊛ (‵ (flft κ₁ q₁) ⊛ (‵ (flft κ₂ q₂) ⊛ ‵ ftrue))) ∷ ‵ (owns (ShrSlice (named 0) κ₀ R.the-row ∷ usize ∷ P.the-row ∷ ShrSlice (named 1) κ₁ f32 ∷ usize ∷ MutSlice (named 2) κ₂ f32 ∷ []) a vals) ∷ []) ∵ enter ! C Λ code.function (v ∷ vint w64 side ∷ mv ∷ pv ∷ vint w64 hues ∷ w ∷ []) _ $
@@ -181,17 +181,17 @@ module _ {M : Type 1} (𝓤 : URA M) (H : Heap 𝓤) (A : Atoms 𝓤) (W : Given
           -- [palette; palette; refs; refs; scratch; true; _9; …; the tokens]
           move ! (0 ∷ 4 ∷ []) $ join ! $ move ! (25 ∷ 2 ∷ 0 ∷ []) $ use3 W (raw (Called .pre to-called)) goes-called $
           calls-at ! fm Called known-called to-called (and-then ! (load ! (from ! (stop !)) (look ! 20 refl)) (and-then ! (load ! (from ! (stop !)) (look ! 18 refl)) (and-then ! (load ! (from ! (stop !)) (look ! 16 refl)) (and-then ! (load ! (from ! (stop !)) (look ! 14 refl)) (and-then ! (load ! (from ! (stop !)) (look ! 12 refl)) (and-then ! (load ! (from ! (stop !)) (look ! 4 refl)) (no-more !))))))) (λ u₀.
-          use1 W (later (some (λ (n : Noise). ((‵ (flft κ₀ q₀) ⊛ (‵ (flft κ₁ q₁) ⊛ (‵ (flft κ₂ q₂) ⊛ ‵ ftrue))) ⊛ ‵ (N.the-row .own n (u₀ ∷ []))) ⊛ raw (ensured 𝓤 H A called.ended (called.clauses 𝓤 H A mem′ run) (κ₀, (κ₁, (κ₂, tt))) a tt n)))) (id⊢ 𝓤 _) $ await ! tt $ pick ! (λ n.
+          use1 W (later (some (λ (n : Measured). ((‵ (flft κ₀ q₀) ⊛ (‵ (flft κ₁ q₁) ⊛ (‵ (flft κ₂ q₂) ⊛ ‵ ftrue))) ⊛ ‵ (N.the-row .own n (u₀ ∷ []))) ⊛ raw (ensured 𝓤 H A called.ended (called.clauses 𝓤 H A mem′ run) (κ₀, (κ₁, (κ₂, tt))) a tt n)))) (id⊢ 𝓤 _) $ await ! tt $ pick ! (λ n.
           split ! $ move ! (1 ∷ []) $ use1 W (some (λ (ts : Unit {0} × (Unit {0} × (Unit {0} × (Unit {0} × (Unit {0} × (List Float × Unit {0})))))). ‵ (lasts called.ended (κ₀, (κ₁, (κ₂, tt))) a ts) ⊛ raw (fact 𝓤 (Says n (ts .1 .1 .1 .1 .1 .0))))) (id⊢ 𝓤 _) $ pick ! (λ ts.
           split ! $ move ! (1 ∷ []) $ heard ! (Says n (ts .1 .1 .1 .1 .1 .0)) (λ c. fsplit ! $ drop ! $ fsplit ! $ drop ! $ fsplit ! $ drop ! $ fsplit ! $ drop ! $ fsplit ! $ drop ! $ fsplit ! $ fsplit ! $ move ! (1 ∷ []) $ feqL ! (λ l.
           -- [scratch's last list; true; the tokens and the answer; palette; refs; true; _9; …]
           move ! (2 ∷ []) $ split ! $ move ! (1 ∷ []) $ peeks ! N.the-row (Is N.the-row) (shows 𝓤 H A N.the-row) n (u₀ ∷ []) (λ is₀.
           land ! (from ! (stop !)) (init ! 11 refl (EL.lawful N.the-type N′.the-laws 𝓤 H A W tt .typed n _ is₀ .0)) $
-          -- `noise_answer`
+          -- `measure_answer`
           use1 W (raw (Answer .pre (to-answer n u₀))) (goes-answer n u₀) $
           calls-at ! fm Answer known-answer (to-answer n u₀) (and-then ! (load ! (from ! (stop !)) (look ! 11 refl)) (no-more !)) (λ u.
-          use1 W (later (some (λ (r : NoiseAnswer). (‵ ftrue ⊛ ‵ (S.the-row .own r (u ∷ []))) ⊛ raw (said-answer n r)))) (id⊢ 𝓤 _) $ await ! tt $ pick ! (λ r.
-          split ! $ move ! (1 ∷ []) $ use1 W (raw (fact 𝓤 (r ≡ noiseAnswer (noiseSaid n)))) (answer-said n r) $ heard ! (r ≡ noiseAnswer (noiseSaid n)) (λ d. split ! $ move ! (1 ∷ []) $
+          use1 W (later (some (λ (r : MeasureAnswer). (‵ ftrue ⊛ ‵ (S.the-row .own r (u ∷ []))) ⊛ raw (said-answer n r)))) (id⊢ 𝓤 _) $ await ! tt $ pick ! (λ r.
+          split ! $ move ! (1 ∷ []) $ use1 W (raw (fact 𝓤 (r ≡ measureAnswer (measuredSaid n)))) (answer-said n r) $ heard ! (r ≡ measureAnswer (measuredSaid n)) (λ d. split ! $ move ! (1 ∷ []) $
           peeks ! S.the-row (Is S.the-row) (shows 𝓤 H A S.the-row) r (u ∷ []) (λ is. land ! (from ! (stop !)) (init ! 26 refl (LL.lawful S.the-type S′.the-laws 𝓤 H A W .typed r _ is .0)) $
           -- [the result; true; the tokens; scratch's last list; true; palette; refs; true; _9; …]
           returns ! (look ! 26 refl) $ forget ! 8 refl $ forget ! 10 refl $ forget ! 12 refl $ forget ! 14 refl $ forget ! 16 refl $ forget ! 18 refl $ forget ! 20 refl $ forget ! 22 refl $ forget ! 24 refl $ forget ! 26 refl $
@@ -200,7 +200,7 @@ module _ {M : Type 1} (𝓤 : URA M) (H : Heap 𝓤) (A : Atoms 𝓤) (W : Given
           keep ! (2 ∷ 6 ∷ 5 ∷ 3 ∷ 0 ∷ []) $ by ! (exits r u (ts .1 .1 .1 .1 .1 .0) (measure-exit d c) l)))))))))))))))))))))
 
 module _ {M : Type 1} (𝓤 : URA M) (H : Heap 𝓤) (A : Atoms 𝓤) (W : Given 𝓤 H A) (mem′ : Memory → SProp 𝓤) (run : Routine → Fun 𝓤) where
-  measure-walks : (C : Calls 𝓤 H) (Λ : Loops 𝓤 H) → FmC 𝓤 H (W .laws) C → Triple 𝓤 (C #records·measure) (Handed 𝓤 H A mem′ run) → Triple 𝓤 (C #noise-answer) (Turned 𝓤 H A mem′ run)
+  measure-walks : (C : Calls 𝓤 H) (Λ : Loops 𝓤 H) → FmC 𝓤 H (W .laws) C → Triple 𝓤 (C #records·measure) (Handed 𝓤 H A mem′ run) → Triple 𝓤 (C #measure-answer) (Turned 𝓤 H A mem′ run)
       → Walks 𝓤 H A own.ended stayed (WpFn 𝓤 H C Λ code.function) (own.clauses 𝓤 H A mem′ run)
   measure-walks C Λ fm known-called known-answer =
       walked 𝓤 H A own.ended stayed (own.clauses 𝓤 H A mem′ run) (WpFn 𝓤 H C Λ code.function) (λ κs. (slice-vals, (uint-vals w64, (LL.vals P.the-type P′.the-laws, (slice-vals, (uint-vals w64, (slice-vals, tt)))))))
@@ -209,7 +209,7 @@ module _ {M : Type 1} (𝓤 : URA M) (H : Heap 𝓤) (A : Atoms 𝓤) (W : Given
       (are .0 .0 .1) (are .1 .0 .1) (are .1 .1 .0) (are .1 .1 .1 .0 .0 .1) (are .1 .1 .1 .1 .0 .1) (are .1 .1 .1 .1 .1 .0 .0 .1) C Λ fm known-called known-answer))
 
 measure-meets : {M : Type 1} (𝓤 : URA M) (H : Heap 𝓤) (A : Atoms 𝓤) (W : Given 𝓤 H A) (mem′ : Memory → SProp 𝓤) (run : Routine → Fun 𝓤) (𝓣 : Tables 𝓤 H)
-    → Triple 𝓤 (𝓣 .C #records·measure) (Handed 𝓤 H A mem′ run) → Triple 𝓤 (𝓣 .C #noise-answer) (Turned 𝓤 H A mem′ run)
+    → Triple 𝓤 (𝓣 .C #records·measure) (Handed 𝓤 H A mem′ run) → Triple 𝓤 (𝓣 .C #measure-answer) (Turned 𝓤 H A mem′ run)
     → Meets 𝓤 H A own.signature (WpFn 𝓤 H (𝓣 .C) (𝓣 .Λ) code.function) (own.spec 𝓤 H A mem′ run)
 measure-meets 𝓤 H A W mem′ run 𝓣 known-called known-answer =
     walk-meets 𝓤 H A own.ended stayed W (goes-none-slice 𝓤 H A W 3 (0 ∷ []) tt (plain (λ _. R.the-row)) yes, (goes-none 𝓤 H A W 3 (λ _. usize) yes (λ κs x f. refl), (goes-none 𝓤 H A W 3 (λ _. P.the-row) yes (λ κs x f. refl), (goes-none-slice 𝓤 H A W 3 (1 ∷ []) tt (plain (λ _. f32)) yes, (goes-none 𝓤 H A W 3 (λ _. usize) yes (λ κs x f. refl), (goes-gave-slice 𝓤 H A W 3 2 tt (plain (λ _. f32)), tt)))))) (own.clauses 𝓤 H A mem′ run)
@@ -222,4 +222,4 @@ purdolve-measure-spec 𝓤 H 𝓜 𝓖 𝓡 =
     (tables 𝓤 H 𝓜 𝓡 code.env .C) (tables 𝓤 H 𝓜 𝓡 code.env .Λ) #own code.function (code.unfolded 𝓤 H 𝓜 𝓡)
     (measure-meets 𝓤 H (𝓖 .A) (givenOf 𝓤 H 𝓜 𝓖) (𝓜 .mem) (𝓡 .run) (tablesOf 𝓤 H 𝓜 (tables 𝓤 H 𝓜 𝓡 code.env))
     (cited 𝓤 H (Handed 𝓤 H (𝓖 .A) (𝓜 .mem) (𝓡 .run)) 𝓜 𝓡 code.env #records·measure called-def.routine code.calls-records·measure (called-thm.met 𝓤 H 𝓜 𝓖 𝓡))
-    (cited 𝓤 H (Turned 𝓤 H (𝓖 .A) (𝓜 .mem) (𝓡 .run)) 𝓜 𝓡 code.env #noise-answer answer-def.routine code.calls-exports·replies·noise-answer (answer-thm.met 𝓤 H 𝓜 𝓖 𝓡)))
+    (cited 𝓤 H (Turned 𝓤 H (𝓖 .A) (𝓜 .mem) (𝓡 .run)) 𝓜 𝓡 code.env #measure-answer answer-def.routine code.calls-exports·replies·measure-answer (answer-thm.met 𝓤 H 𝓜 𝓖 𝓡)))

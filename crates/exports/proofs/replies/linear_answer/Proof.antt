@@ -2,19 +2,19 @@
 use mathlib.Core.Path.{_≡_}
 use borrow.Author.Needs.{needs}
 use Prim.Native.Nat.{ℕ}
-use Rattle.color.specs.declared.Linear.{Linear}
+use Rattle.illum.specs.declared.Marked.{Marked}
 use Rattle.illum.specs.declared.Correction.{Correction}
 use Rattle.illum.specs.declared.Correction.the-variants.{Refused, Corrected}
 use Rattle.illum.specs.Refusals.{correctionSaid}
-use Rattle.exports.specs.Replies.{noColour, structOf, corrected, linearAnswer}
+use Rattle.exports.specs.Replies.{noMarked, structOf, corrected, linearAnswer}
 use Rattle.exports.proofs.replies.linear_answer.Statement.{statement}
 use Rattle.exports.proofs.replies.linear_answer.Tie as tie
 
-refused : {o : Correction} {n : ℕ} → o ≡ Refused n → corrected n noColour ≡ linearAnswer (correctionSaid o)
+refused : {o : Correction} {n : ℕ} → o ≡ Refused n → corrected n noMarked ≡ linearAnswer (correctionSaid o)
 unfolding structOf
 refused e = rw e
 
-colour : {o : Correction} {c : Linear} → o ≡ Corrected c → corrected 0 c ≡ linearAnswer (correctionSaid o)
+colour : {o : Correction} {c : Marked} → o ≡ Corrected c → corrected 0 c ≡ linearAnswer (correctionSaid o)
 unfolding structOf
 colour e = rw e
 

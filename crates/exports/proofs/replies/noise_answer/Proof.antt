@@ -6,15 +6,15 @@ use Rattle.stats.specs.declared.ChannelStats.{ChannelStats}
 use Rattle.stats.specs.declared.Noise.{Noise}
 use Rattle.stats.specs.declared.Noise.the-variants.{Refused, Record}
 use Rattle.stats.specs.Calls.{noiseSaid}
-use Rattle.exports.specs.Replies.{noRecord, structOf, measured, noiseAnswer}
+use Rattle.exports.specs.Replies.{noRecord, structOf, noted, noiseAnswer}
 use Rattle.exports.proofs.replies.noise_answer.Statement.{statement}
 use Rattle.exports.proofs.replies.noise_answer.Tie as tie
 
-refused : {o : Noise} {n : ℕ} → o ≡ Refused n → measured n noRecord ≡ noiseAnswer (noiseSaid o)
+refused : {o : Noise} {n : ℕ} → o ≡ Refused n → noted n noRecord ≡ noiseAnswer (noiseSaid o)
 unfolding structOf
 refused e = rw e
 
-known : {o : Noise} {c : ChannelStats} → o ≡ Record c → measured 0 c ≡ noiseAnswer (noiseSaid o)
+known : {o : Noise} {c : ChannelStats} → o ≡ Record c → noted 0 c ≡ noiseAnswer (noiseSaid o)
 unfolding structOf
 known e = rw e
 
