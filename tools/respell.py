@@ -69,6 +69,18 @@ def words(files):
     return {w for w in found if "-" not in w}
 
 
+def foreign(files):
+    """The names that files import from the library, which keep its spelling."""
+    own = {p.split("/")[1] for p in glob.glob("crates/*/src")}
+    found = set()
+    for path in files:
+        for m in re.finditer(r"^(?:ghost )?use ([^{\n]*)\.\{([^}]*)\}", read(path), re.M):
+            parts = m.group(1).split(".")
+            if not (parts[0] == "Rattle" and parts[1] in own):
+                found.update(x.strip().split(" as ")[0].strip() for x in m.group(2).split(","))
+    return found
+
+
 def respelled(name, known):
     parts = [snake(p) for p in name.split("-")]
     out = parts[0]
@@ -100,11 +112,12 @@ def renaming(antt, rust):
     alone = [(bare(read(p)), p) for p in antt]
     clauses = hides(rust)
     imported = words(antt)
+    library = foreign(antt + rust)
     turned, kept = {}, {}
     taken = set(names) | imported
     order = sorted(names, key=lambda n: ("-" in n, n))
     for n in order:
-        if n in made or n[:1].isupper() or n.startswith("◌"):
+        if n in made or n in library or n[:1].isupper() or n.startswith("◌"):
             continue
         for m in (OWN.get(n) or respelled(n, known), "-".join(snake(p) for p in n.split("-"))):
             if m == n:

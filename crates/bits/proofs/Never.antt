@@ -6,7 +6,7 @@ use mathlib.Core.List.{List}
 use Prim.Native.Nat.{ℕ, zero, suc, ◌+◌, ◌-◌, ◌*◌, ◌/◌, ◌%◌, ◌≤◌, ◌<◌}
 use native.Mathlib.Omega.{arith}
 use native.Mathlib.Nat.{add-zero}
-use borrow.Author.Tests.{le-ltb, eq_eqb}
+use borrow.Author.Tests.{le-ltb, eq-eqb}
 use lib.Dec.{T}
 use lib.IntN.{ℤ}
 use lib.ListN.{length, get_or}
@@ -55,7 +55,7 @@ read_done scores bits h = rw (le-ltb (length bits) (length scores) h)
 unmask-done : (luma : List Float) (side : ℕ) (xs ys : List ℤ) (g mask : ℕ) → bad_side side ≡ false → length xs ≡ length ys → length xs ≤ length luma →
     refusal (module_placement side g xs ys) ≡ 0 → unmask_luma_of luma side xs ys g mask ≡ ended outcome.Done (unmasked mask xs ys g luma)
 unfolding unmask_luma_of unmask_sentences bad_luma_lengths refusal decided
-unmask-done luma side xs ys g mask a b c d = rw (a, eq_eqb (length xs) (length ys) b, le-ltb (length luma) (length xs) c, d)
+unmask-done luma side xs ys g mask a b c d = rw (a, eq-eqb (length xs) (length ys) b, le-ltb (length luma) (length xs) c, d)
 
 refine-done : (q : refining.Request) → bad_side q.side ≡ false → bad_hues q.hues ≡ false →
     refining.short_slices q.side q.hues (length q.xs) (length q.ys) (length q.colours) (length q.luma) q.palette (length q.scratch) ≡ false →
@@ -125,7 +125,7 @@ module _ (s : Setting) (c : Card) (z : (scored_card s c).number ≡ 0) where
     slices_long =
         let l = facts.fit.lengths in
         rw (
-          eq_eqb (length s.xs) (length s.ys) l.pairs.modules,
+          eq-eqb (length s.xs) (length s.ys) l.pairs.modules,
           le-ltb (length (scored_card s c).colours) (3 * length s.xs) (omega (arith, colours-long, l.places)),
           le-ltb (length (scored_card s c).luma) (length s.xs) (omega (arith, luma-long, l.scores)),
           le-ltb (length s.palette) _ l.palette-long,

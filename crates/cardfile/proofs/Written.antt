@@ -6,7 +6,7 @@ use mathlib.Core.List.{List, [], ◌∷◌, ◌++◌, append_assoc}
 use Prim.Native.Nat.{ℕ, zero, suc, ◌+◌, ◌-◌, ◌*◌, ◌/◌, ◌%◌, ◌≤◌, ◌<◌}
 use native.Mathlib.Nat.{mul-suc}
 use native.Mathlib.Omega.{arith}
-use borrow.Author.Tests.{lt-ltb, le-ltb, eq_eqb}
+use borrow.Author.Tests.{lt-ltb, le-ltb, eq-eqb}
 use lib.Dec.{ltb, eqb, T}
 use lib.IntN.{ℤ, pos, negsuc}
 use lib.Signed.{mag}
@@ -127,7 +127,7 @@ or_false : (a b : Bool) → a ≡ false → b ≡ false → a || b ≡ false
 or_false a b e f = rw (e, f)
 
 same_eqb : (a b : ℕ) → a ≡ b → not (eqb a b) ≡ false
-same_eqb a b e = rw (eq_eqb a b e)
+same_eqb a b e = rw (eq-eqb a b e)
 
 none_of_five : (p : ℕ → Bool) → p 0 ≡ false → p 1 ≡ false → p 2 ≡ false → p 3 ≡ false → p 4 ≡ false → any_up 0 5 p ≡ false
 unfolding any_up some_of

@@ -4,7 +4,7 @@ use mathlib.Core.Bool.{Bool, true, false, cond}
 use mathlib.Core.List.{List}
 use Prim.Native.Nat.{ℕ, suc, ◌+◌, ◌≤◌, ◌<◌}
 use native.Mathlib.Omega.{arith}
-use borrow.Author.Tests.{eqb-true, eq_eqb}
+use borrow.Author.Tests.{eqb-true, eq-eqb}
 use lib.Dec.{eqb}
 use lib.ListN.{length, get_or, set, length-set}
 use lib.Seq.{get_or-set_same, get_or-set_other}
@@ -29,7 +29,7 @@ module _ (n : ChannelStats) (palette : List Float) (k : ℕ) (out : List ℕ) (o
 
   raised : (l : List ℕ) (d c t : ℕ) (b : Bool) → d < length l → get_or l c 0 ≡ t → eqb d c ≡ b → get_or (set l d (get_or l d 0 + 1)) c 0 ≡ t + cond b 1 0
   raised l d c t true h g e = let z = eqb-true d c e in rw (← z) (get_or-set_same l d (get_or l d 0 + 1) 0 h ∙ ap (λ (x : ℕ). x + 1) (rw z g))
-  raised l d c t false h g e = get_or-set_other l d c (get_or l d 0 + 1) 0 (λ z. let w = eq_eqb d c (sym z) in let y : ◌≡◌ {A = ℕ} 0 1 = cc in omega arith) ∙ omega arith
+  raised l d c t false h g e = get_or-set_other l d c (get_or l d 0 + 1) 0 (λ z. let w = eq-eqb d c (sym z) in let y : ◌≡◌ {A = ℕ} 0 1 = cc in omega arith) ∙ omega arith
 
   next : (i : ℕ) (l : List ℕ) → Reached i l → Reached (suc i) (count_at n palette k i l)
   unfolding count_at fallen

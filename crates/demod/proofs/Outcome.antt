@@ -6,7 +6,7 @@ use mathlib.Core.List.{List}
 use Prim.Native.Nat.{ℕ, ◌+◌, ◌-◌, ◌*◌, ◌≤◌, ◌<◌, zero-le}
 use native.Mathlib.Nat.{mul_comm, suc-mul, mul-le-mul_right, le_trans, le_of_eq}
 use native.Mathlib.Omega.{arith}
-use borrow.Author.Tests.{eq_eqb}
+use borrow.Author.Tests.{eq-eqb}
 use lib.Dec.{eqb}
 use lib.ListN.{length, get_or}
 use lib.Ieee.{Float, nan}
@@ -95,7 +95,7 @@ module _ (q : Request) (a : Accepted q) (o : chroma_on q.layout.hues ≡ true) w
       record {
         long = ap length w ∙ p.long;
         cell = λ i b h f. ap (λ (s : List Float). get_or s (place q.layout.hues i b) nan) w ∙ p.has i b zero-le h f;
-        ring = λ z i b g h f. let d = eq_eqb q.layout.size 1 z in let y : ◌≡◌ {A = ℕ} 0 1 = cc in absurd (omega arith);
+        ring = λ z i b g h f. let d = eq-eqb q.layout.size 1 z in let y : ◌≡◌ {A = ℕ} 0 1 = cc in absurd (omega arith);
         kept = λ j h. ap (λ (s : List Float). get_or s j nan) w ∙ p.past j (le_trans (mul-le-mul_right k (more c 0)) (past false e j h));
       }
 

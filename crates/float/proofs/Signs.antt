@@ -1,6 +1,6 @@
 -- What a program's tests `x < 0` and `x == 0` say of |x|: below 0 it is -x, and a float that equals 0 is a zero, which as a value of its format has
 -- the exponent 0. Assumes nothing.
-use Rattle.std.proofs.Common.{◌≡◌, ℕ, zero, suc, ◌+◌, ◌*◌, ◌^◌, ◌≤◌, Bool, true, false, ◌&&◌, ◌||◌, eqb, ℤ, pos, negsuc, sym, refl, ap, ◌∙◌, zero-lt-suc, mul-pos, one-mul, zero-mul, mul-one, arith, pow_pos, ltb-false, ltb-true, eq_eqb, eqb-true}
+use Rattle.std.proofs.Common.{◌≡◌, ℕ, zero, suc, ◌+◌, ◌*◌, ◌^◌, ◌≤◌, Bool, true, false, ◌&&◌, ◌||◌, eqb, ℤ, pos, negsuc, sym, refl, ap, ◌∙◌, zero-lt-suc, mul-pos, one-mul, zero-mul, mul-one, arith, pow_pos, ltb-false, ltb-true, eq-eqb, eqb-true}
 use native.Mathlib.Nat.{pow-succ'}
 use lib.Ieee.{Float, nan, inf, fin, Format, up, down, lt, eq, neg, fits}
 use lib.Ieee.Fits.{up_pos}
@@ -61,5 +61,5 @@ positive (fin true m e) t u =
     let a = m * up e * 1 in
     let b = 0 * 1 * down e in
     let none : a + b ≤ 0 = ltb-false 0 (a + b) t in
-    let z : true ≡ false = sym (both (eqb a b) (eqb a 0) (eq_eqb a b (omega (arith, nought e))) (eq_eqb a 0 (omega arith))) ∙ u in
+    let z : true ≡ false = sym (both (eqb a b) (eqb a 0) (eq-eqb a b (omega (arith, nought e))) (eq-eqb a 0 (omega arith))) ∙ u in
     no (sym z)

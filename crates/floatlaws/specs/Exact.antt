@@ -2,7 +2,7 @@
 -- (`scale`, `halve`), a whole number as a float (`int-exact`); and the difference of two values that are not the same is not 0 and has the right
 -- sign (gradual underflow). Assumes nothing.
 use Rattle.std.specs.Prelude.{◌≡◌, refl, ◌⊎◌, ℕ, suc, ◌+◌, ◌-◌, ◌*◌, ◌^◌, ◌≤◌, ◌<◌, pos, T, Float}
-use Rattle.std.proofs.Common.{sym, ap, ◌∙◌, inl, inr, le_refl, le_trans, le_of_eq, lt_of_lt_of_le, lt_of_le_of_lt, add_comm, add-le-add, sub_le, sub-add_cancel, mul-le-mul_left, zero-mul, mul-one, mul_comm, mul_assoc, mul-pos, arith, lit<, le→leb, pow-add, pow_pos, pow_mono, shl_lt}
+use Rattle.std.proofs.Common.{sym, ap, ◌∙◌, inl, inr, le_refl, le_trans, le_of_eq, lt_of_lt_of_le, lt_of_le_of_lt, add_comm, add-le-add, sub-le, sub-add_cancel, mul-le-mul_left, zero-mul, mul-one, mul_comm, mul_assoc, mul-pos, arith, lit<, le→leb, pow-add, pow_pos, pow_mono, shl_lt}
 use Rattle.std.proofs.Math.Nat.{sub-zero, zero-sub}
 use Rattle.std.specs.Float.{nan, inf, fin, Format, binary32, binary64}
 use Rattle.std.specs.Float.Ieee.{prec, emax, low, neg, add, sub, mul, div, of_int, in_float}
@@ -117,7 +117,7 @@ near-halve f (fin s m e) k p h =
     room (prec f) g.j k (two-le_pos (prec f) (two f)) (exp_lt (lt_of_le_of_lt (rw w at h) (shl_lt (prec f) g.j g.small))) in
     let a : m * 2 ^ (g.j - k) * 2 ^ k ≡ m * 2 ^ g.j =
     mul_assoc m (2 ^ (g.j - k)) (2 ^ k) ∙ ap (λ (z : ℕ). m * z) (sym (pow-add 2 (g.j - k) k) ∙ ap (λ (z : ℕ). 2 ^ z) (sub-add_cancel l)) in
-    let b : m * 2 ^ (g.j - k) < overflow f = lt_of_le_of_lt (mul-le-mul_left m (pow_mono (sub_le g.j k))) g.under in
+    let b : m * 2 ^ (g.j - k) < overflow f = lt_of_le_of_lt (mul-le-mul_left m (pow_mono (sub-le g.j k))) g.under in
     ap (λ (z : ℕ). z * 2 ^ k) (near-exact f (mag f (fin s m e)) (2 ^ k) m (g.j - k) (pow_pos k) g.small b (w ∙ sym a)) ∙ a ∙ sym w
 
 half-sides : {f : Format} {x : Float} (k : ℕ) → Fin f x → 2 ^ (prec f - 1 + k) ≤ hi f x + lo f x

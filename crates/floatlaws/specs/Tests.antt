@@ -20,8 +20,8 @@ module _ {f : Format} {x y z : Float} (p : Fin f x) (q : Fin f y) (r : Fin f z) 
       let a = add-num p (num r) in let b = add-num q (num r) in to_le a b
       (add_mono (num p) (num q) (num r) (num r) a b (of_le (num p) (num q) t) (le_refl f z))
 
-  pub sub_le : T (le x y) → T (le (sub f x z) (sub f y z))
-  sub_le t =
+  pub sub-le : T (le x y) → T (le (sub f x z) (sub f y z))
+  sub-le t =
       let a = sub-num p (num r) in let b = sub-num q (num r) in to_le a b
       (sub_mono (num p) (num q) (num r) (num r) a b (of_le (num p) (num q) t) (le_refl f z))
 

@@ -6,7 +6,7 @@ use mathlib.Core.Bool.{Bool, true, false, not, ◌&&◌, ◌||◌, cond}
 use mathlib.Core.List.{List}
 use Prim.Native.Nat.{ℕ, zero, suc, ◌+◌, ◌*◌, ◌^◌, ◌≤◌, ◌<◌}
 use native.Mathlib.Omega.{arith}
-use borrow.Author.Tests.{ltb-true, ltb-false, leb-false, eqb-true, eqb-false, lt-ltb, le-ltb, eq_eqb, ne_eqb}
+use borrow.Author.Tests.{ltb-true, ltb-false, leb-false, eqb-true, eqb-false, lt-ltb, le-ltb, eq-eqb, ne_eqb}
 use lib.Dec.{T, ltb, leb, eqb}
 use lib.IntN.{ℤ, pos, negsuc}
 use lib.ListN.{length, get_or}
@@ -140,7 +140,7 @@ of_test a b i j h = by (ltb a b) (eqb a b) refl refl h
 
 to_test : (a b i j : ℕ) → (a < b) ⊎ ((a ≡ b) × (i < j)) → tested a b i j ≡ true
 to_test a b i j (inl h) = rw (lt-ltb a b h)
-to_test a b i j (inr h) = let e = h.0 in rw (le-ltb a b (omega arith), eq_eqb a b e, lt-ltb i j h.1)
+to_test a b i j (inr h) = let e = h.0 in rw (le-ltb a b (omega arith), eq-eqb a b e, lt-ltb i j h.1)
 
 not_test : (a b i j : ℕ) → tested a b i j ≡ false → (b < a) ⊎ ((a ≡ b) × (j ≤ i))
 not_test a b i j h = by (ltb a b) (eqb a b) refl refl h

@@ -6,7 +6,7 @@ use mathlib.Core.List.{List}
 use mathlib.Core.Option.{Option, none, some}
 use Prim.Native.Nat.{ℕ, zero, suc, ◌+◌, ◌-◌, ◌*◌, ◌/◌, ◌%◌, ◌^◌, ◌≤◌, ◌<◌}
 use native.Mathlib.Omega.{arith}
-use borrow.Author.Tests.{ltb-true, ltb-false, eq_eqb, ne_eqb}
+use borrow.Author.Tests.{ltb-true, ltb-false, eq-eqb, ne_eqb}
 use lib.Dec.{ltb}
 use lib.IntN.{pos}
 use lib.ListN.{length, get_or}
@@ -87,7 +87,7 @@ module _ (q : Request) (a : Accepted q) (left : (page_of q).list ≡ laid_out_by
 
     standing : (i : ℕ) → StandsAt q x y i → here i ≡ true
     standing i s =
-        eq_eqb (square_of q.side q.xs q.ys i) (index_of q.side (pos x) (pos y))
+        eq-eqb (square_of q.side q.xs q.ys i) (index_of q.side (pos x) (pos y))
         (position-square (modules_of q) q.grid i a.positions.side-most (each_placed q a i s.listed) x y hx hy s.column s.row)
 
     elsewhere : (i : ℕ) → i < length q.xs → (StandsAt q x y i → ⊥) → here i ≡ false

@@ -6,7 +6,7 @@ use mathlib.Core.List.{List, ◌++◌}
 use mathlib.Core.Option.{none, some}
 use Prim.Native.Nat.{ℕ, suc, ◌+◌, ◌-◌, ◌*◌, ◌/◌, ◌%◌, ◌≤◌, ◌<◌}
 use native.Mathlib.Omega.{arith}
-use borrow.Author.Tests.{eqb-true, eqb-false, eq_eqb, ne_eqb, ltb-true, ltb-false, lt-ltb, le-ltb}
+use borrow.Author.Tests.{eqb-true, eqb-false, eq-eqb, ne_eqb, ltb-true, ltb-false, lt-ltb, le-ltb}
 use lib.Dec.{eqb, ltb}
 use lib.IntN.{ℤ, pos, nat_abs}
 use lib.ListN.{length, get_or, set, drop, length-set, length-append, length-drop, get_or-append}
@@ -138,7 +138,7 @@ module _ (m : Modules) (g : ℕ) (s : m.side ≤ columns) (good : (i : ℕ) → 
 module _ (numbers : List ℕ) (side k : ℕ) (narrow : side ≤ columns) where
   blank_end : k % (columns + 1) ≡ columns → blank_byte numbers side k ≡ 10
   unfolding blank_byte
-  blank_end e = rw (eq_eqb (k % 51) 50 e)
+  blank_end e = rw (eq-eqb (k % 51) 50 e)
 
   blank_head : k < columns → blank_byte numbers side k ≡ field_byte (field_columns - 1 - k % field_columns) (get_or numbers (k / field_columns) 0)
   unfolding blank_byte

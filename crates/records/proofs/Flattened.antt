@@ -5,7 +5,7 @@ use mathlib.Core.List.{List, [], ◌∷◌, ◌++◌, append_assoc, append-nil}
 use Prim.Native.Nat.{ℕ, zero, suc, ◌+◌, ◌*◌, ◌/◌, ◌%◌, ◌<◌}
 use native.Mathlib.Omega.{arith}
 use native.Mathlib.Nat.{not-suc-le-zero, le_of_suc-le-suc}
-use borrow.Author.Tests.{eq_eqb}
+use borrow.Author.Tests.{eq-eqb}
 use lib.Dec.{eqb}
 use lib.ListN.{length, get_or, take, length-append, get_or-append}
 use lib.Seq.{get_or-append-add}
@@ -33,7 +33,7 @@ module _ (ps : List Reference) where
   as_many = omega (arith, flattened-length ps)
 
   pub none-cut : not (eqb (length (flattened ps) % 8) 0) ≡ false
-  none-cut = ap not (eq_eqb (length (flattened ps) % 8) 0 (omega (arith, flattened-length ps)))
+  none-cut = ap not (eq-eqb (length (flattened ps) % 8) 0 (omega (arith, flattened-length ps)))
 
 -- ---- reference i of the floats is record i
 

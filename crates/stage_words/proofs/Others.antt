@@ -4,7 +4,7 @@ use mathlib.Core.Bool.{Bool, true, false, cond}
 use mathlib.Core.List.{List}
 use Prim.Native.Nat.{ℕ, ◌+◌, ◌≤◌, ◌<◌}
 use native.Mathlib.Omega.{arith}
-use borrow.Author.Tests.{eq_eqb, ne_eqb}
+use borrow.Author.Tests.{eq-eqb, ne_eqb}
 use lib.ListN.{length, get_or}
 use lib.Ieee.{Float, Format, nan, binary32, to_bits}
 use Rattle.loops.specs.Loops.{Turn, go, out, for_try}
@@ -19,7 +19,7 @@ module _ (f : Format) (values : List Float) (bits k w : ℕ) (e : w ≡ to_bits 
 
   same : w ≡ bits → false ≡ other_at f values bits k
   unfolding other_at
-  same h = cc (eq_eqb w bits h)
+  same h = cc (eq-eqb w bits h)
 
   module _ {n : ℕ} {t : Bool} (inv : LeftAny (other_at f values bits) n k t) (h : k < n) where
     pub found : (w ≡ bits → ⊥) → true ≡ t

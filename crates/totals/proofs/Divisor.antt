@@ -6,7 +6,7 @@ use Prim.Native.Nat.{ℕ, zero, suc, ◌*◌, ◌/◌, ◌%◌, ◌≤◌, ◌<�
 use native.Mathlib.Nat.{lt_irrefl, zero-mul, one-mul, mul_assoc, mul_comm, mul_right_comm, eq_of_mul-eq-mul_right, mod-lt, eq-zero-or-pos, pos_of_dvd_of_pos, eq-one_of_dvd-one}
 use native.Mathlib.Nat.{dvd_refl, dvd-zero, dvd-mul_left, dvd-mul_right, dvd_antisymm, dvd-mod_iff, div-mul_cancel, mul-dvd-mul_right, dvd_of_mul-dvd-mul_right}
 use native.Mathlib.Omega.{arith}
-use borrow.Author.Tests.{eqb-true, eq_eqb, ne_eqb}
+use borrow.Author.Tests.{eqb-true, eq-eqb, ne_eqb}
 use lib.Dec.{eqb}
 use Rattle.loops.specs.Loops.{while_go, while_do}
 use Rattle.loops.proofs.Laws.{LeftWhile, turn_while, done_while}
@@ -19,7 +19,7 @@ use Rattle.totals.specs.Batch.{Good}
 
 on_above : (y : ℕ) (b : Bool) → eqb y 0 ≡ b → not b ≡ true → 0 < y
 on_above y true e h = let z : ◌≡◌ {A = ℕ} 0 1 = cc in absurd (omega arith)
-on_above zero false e h = let z : ◌≡◌ {A = ℕ} 0 1 = cc (eq_eqb 0 0 refl) in absurd (omega arith)
+on_above zero false e h = let z : ◌≡◌ {A = ℕ} 0 1 = cc (eq-eqb 0 0 refl) in absurd (omega arith)
 on_above (suc y) false e h = omega arith
 
 falls : (p : Pair) → goes_further p ≡ true → rest (next p) < rest p
@@ -33,7 +33,7 @@ module _ {x y : ℕ} {r : Pair} (inv : LeftWhile rest goes_further next (pair x 
 
   pub last : y ≡ 0 → x ≡ r.x
   unfolding goes_further
-  last h = ap (λ (p : Pair). p.x) (done_while inv (ap not (eq_eqb y 0 h)))
+  last h = ap (λ (p : Pair). p.x) (done_while inv (ap not (eq-eqb y 0 h)))
 
 -- ---- the greatest common divisor
 
@@ -124,7 +124,7 @@ module _ (a b g : ℕ) (G : Greatest a b g) (B : 0 < b) where
 module _ (t : Totals) where
   pub ratio-none : t.modules ≡ 0 → over 0 1 ≡ ratio_of t
   unfolding ratio_of
-  ratio-none e = rw (eq_eqb t.modules 0 e)
+  ratio-none e = rw (eq-eqb t.modules 0 e)
 
   pub ratio-some : (g : ℕ) → (t.modules ≡ 0 → ⊥) → g ≡ gcd t.sum t.modules → over (t.sum / g) (t.modules / g) ≡ ratio_of t
   unfolding ratio_of

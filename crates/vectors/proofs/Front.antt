@@ -1,5 +1,5 @@
 -- A text, or a row, from one place on: at its front is the byte at that place, and what is left behind that gives the loop's answer. Assumes nothing.
-use Rattle.std.proofs.Common.{◌≡◌, ℕ, suc, ◌+◌, ◌*◌, ◌%◌, ◌<◌, ◌≤◌, min, Bool, true, false, cond, eqb, ltb, leb, List, [], ◌∷◌, length, get_or, take, drop, sym, refl, ap, ◌∙◌, add-zero, add-one, arith, drop_of_length-le, length-take-le, take_all, drop-cons, ltb-false, ltb-true, le-ltb, lt-ltb, eq_eqb, ne_eqb, leb-false, leb-true}
+use Rattle.std.proofs.Common.{◌≡◌, ℕ, suc, ◌+◌, ◌*◌, ◌%◌, ◌<◌, ◌≤◌, min, Bool, true, false, cond, eqb, ltb, leb, List, [], ◌∷◌, length, get_or, take, drop, sym, refl, ap, ◌∙◌, add-zero, add-one, arith, drop_of_length-le, length-take-le, take_all, drop-cons, ltb-false, ltb-true, le-ltb, lt-ltb, eq-eqb, ne_eqb, leb-false, leb-true}
 use lib.ListN.{get_or-eq_default}
 use Rattle.vectors.specs.Words.{digit_of, spelled, digits_from}
 use Rattle.vectors.specs.Answers.{shared_front}
@@ -63,7 +63,7 @@ module _ {got wanted : List ℕ} {k t : ℕ} (inv : LeftShared got wanted k t) w
   stop_shared g w n = sym (add-zero k) ∙ cc (both g w, ne_eqb (get_or got k 0) (get_or wanted k 0) n)
 
   pub turn_shared : k < length got → k < length wanted → get_or got k 0 ≡ get_or wanted k 0 → LeftShared got wanted (k + 1) t
-  turn_shared g w e = record { same = shift ∙ cc (both g w, eq_eqb (get_or got k 0) (get_or wanted k 0) e) }
+  turn_shared g w e = record { same = shift ∙ cc (both g w, eq-eqb (get_or got k 0) (get_or wanted k 0) e) }
     where
       shift : k + 1 + shared_front (drop (k + 1) got) (drop (k + 1) wanted) ≡ k + suc (shared_front (drop (k + 1) got) (drop (k + 1) wanted))
       shift = omega arith

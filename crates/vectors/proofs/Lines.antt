@@ -1,5 +1,5 @@
 -- Lines and names end where `bytes::scan::find` finds their last byte, and nothing is found past the end of the text. Assumes nothing.
-use Rattle.std.proofs.Common.{◌≡◌, ℕ, suc, ◌+◌, ◌-◌, ◌<◌, ◌≤◌, min, Bool, true, false, cond, not, ◌&&◌, eqb, ltb, List, [], ◌∷◌, length, take, drop, sym, refl, ap, ◌∙◌, add-zero, arith, length-drop, drop_of_length-le, length-take, length-take-le, ltb-false, ltb-true, le-ltb, lt-ltb, eq_eqb, eqb-true}
+use Rattle.std.proofs.Common.{◌≡◌, ℕ, suc, ◌+◌, ◌-◌, ◌<◌, ◌≤◌, min, Bool, true, false, cond, not, ◌&&◌, eqb, ltb, List, [], ◌∷◌, length, take, drop, sym, refl, ap, ◌∙◌, add-zero, arith, length-drop, drop_of_length-le, length-take, length-take-le, ltb-false, ltb-true, le-ltb, lt-ltb, eq-eqb, eqb-true}
 use lib.Seq.{take-nil}
 use lib.Dec.{eqb-suc-zero}
 use Rattle.loops.specs.Loops.{while_do}
@@ -117,7 +117,7 @@ bytes_same (x ∷ xs) [] e = let z : ◌≡◌ {A = ℕ} 0 1 = cc in absurd (ome
 bytes_same (x ∷ xs) (y ∷ ys) e =
     let h : x ≡ y = cc in
     let t : xs ≡ ys = cc in
-    cc (eq_eqb x y h, bytes_same xs ys t)
+    cc (eq-eqb x y h, bytes_same xs ys t)
 
 same_bytes : (xs ys : List ℕ) → equal_bytes xs ys ≡ true → xs ≡ ys
 unfolding equal_bytes

@@ -5,7 +5,7 @@ use mathlib.Core.Bool.{Bool, true, false, not}
 use mathlib.Core.List.{List}
 use Prim.Native.Nat.{ℕ, ◌/◌, ◌%◌}
 use native.Mathlib.Omega.{arith}
-use borrow.Author.Tests.{eq_eqb, ne_eqb}
+use borrow.Author.Tests.{eq-eqb, ne_eqb}
 use lib.ListN.{length}
 use lib.Ieee.{Float}
 use Rattle.sentences.specs.Sentences.{refusal}
@@ -23,7 +23,7 @@ use Rattle.fit.proofs.fit_flat.Tie as tie
 
 module _ (flat : List Float) (side version : ℕ) (kept : List ℕ) (scratch : List Float) where
   counted : (f : Final) → length flat % 8 ≡ 0 → f ≡ fit_of (request flat false (length flat / 8) side version kept scratch) → f ≡ fit_of (flat_request flat side version kept scratch)
-  counted f h e = e ∙ ap (λ (b : Bool). fit_of (request flat (not b) (length flat / 8) side version kept scratch)) (sym (eq_eqb (length flat % 8) 0 h))
+  counted f h e = e ∙ ap (λ (b : Bool). fit_of (request flat (not b) (length flat / 8) side version kept scratch)) (sym (eq-eqb (length flat % 8) 0 h))
 
   counted_adds_up : (r : Modelled) (k : List ℕ) (s : List Float) → final r k s ≡ fit_of (flat_request flat side version kept scratch) → r.number ≡ 0 → MarksAddUp (length flat / 8) r.model k
   counted_adds_up r k s e = marks-add_up (flat_request flat side version kept scratch) r k s e

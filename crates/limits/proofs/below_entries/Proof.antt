@@ -3,7 +3,7 @@ use mathlib.Core.Path.{◌≡◌, refl, sym, ◌∙◌}
 use mathlib.Core.Bool.{Bool, true, false, cond}
 use Prim.Native.Nat.{ℕ, ◌+◌, ◌-◌, ◌≤◌, ◌<◌}
 use native.Mathlib.Omega.{arith}
-use borrow.Author.Tests.{lt-ltb, le-ltb, ltb-true, ltb-false, eq_eqb, ne_eqb}
+use borrow.Author.Tests.{lt-ltb, le-ltb, ltb-true, ltb-false, eq-eqb, ne_eqb}
 use lib.Dec.{ltb, eqb}
 use Rattle.limits.specs.Chroma.{chroma_entries}
 use Rattle.limits.proofs.below_entries.Statement.{statement}
@@ -20,7 +20,7 @@ module _ (n c r size : ℕ) where
 
   in_ring : c ≤ n → size ≡ 1 → ltb (n - c) r ≡ ltb n (chroma_entries c r size)
   unfolding chroma_entries
-  in_ring h e = rw (eq_eqb size 1 e) (rest_below n c r (ltb (n - c) r) h refl)
+  in_ring h e = rw (eq-eqb size 1 e) (rest_below n c r (ltb (n - c) r) h refl)
 
   past : c ≤ n → (size ≡ 1 → ⊥) → false ≡ ltb n (chroma_entries c r size)
   unfolding chroma_entries

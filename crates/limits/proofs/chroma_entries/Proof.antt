@@ -3,7 +3,7 @@ use mathlib.Core.Path.{◌≡◌, sym}
 use Prim.Native.Nat.{ℕ, ◌+◌}
 use native.Mathlib.Nat.{add-zero}
 use borrow.Author.Rules.{rules}
-use borrow.Author.Tests.{eq_eqb, ne_eqb}
+use borrow.Author.Tests.{eq-eqb, ne_eqb}
 use Rattle.limits.specs.Chroma.{chroma_entries}
 use Rattle.limits.proofs.chroma_entries.Statement.{statement}
 use Rattle.limits.proofs.chroma_entries.Tie as tie
@@ -11,7 +11,7 @@ use Rattle.limits.proofs.chroma_entries.Tie as tie
 module _ (c r size : ℕ) where
   both : size ≡ 1 → c + r ≡ chroma_entries c r size
   unfolding chroma_entries
-  both e = rw (eq_eqb size 1 e)
+  both e = rw (eq-eqb size 1 e)
 
   cells : (size ≡ 1 → ⊥) → c ≡ chroma_entries c r size
   unfolding chroma_entries

@@ -4,7 +4,7 @@ use mathlib.Core.Bool.{Bool, true}
 use mathlib.Core.List.{List}
 use borrow.Author.Rules.{rules}
 use Prim.Native.Nat.{ℕ}
-use borrow.Author.Tests.{eq_eqb, ne_eqb}
+use borrow.Author.Tests.{eq-eqb, ne_eqb}
 use lib.Ieee.{Float}
 use Rattle.color.specs.declared.Lab.{Lab}
 use Rattle.margin.specs.Margin.{far, other_far}
@@ -14,7 +14,7 @@ use Rattle.margin.proofs.other_far.Tie as tie
 module _ (palette : List Float) (c : Lab) (s : Float) (own h : ℕ) where
   same : h ≡ own → true ≡ other_far palette c s own h
   unfolding other_far
-  same e = rw (eq_eqb h own e)
+  same e = rw (eq-eqb h own e)
 
   other : (r : Bool) → (h ≡ own → ⊥) → r ≡ far palette c s h → r ≡ other_far palette c s own h
   unfolding other_far

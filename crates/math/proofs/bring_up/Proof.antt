@@ -3,7 +3,7 @@ use mathlib.Core.Path.{◌≡◌}
 use mathlib.Core.List.{List}
 use Prim.Native.Nat.{ℕ}
 use borrow.Author.Rules.{rules}
-use borrow.Author.Tests.{eq_eqb, ne_eqb}
+use borrow.Author.Tests.{eq-eqb, ne_eqb}
 use lib.Ieee.{Float}
 use Rattle.math.specs.Gauss.{System, system, swap, swap_rows, bring_up}
 use Rattle.math.proofs.bring_up.Statement.{statement}
@@ -11,7 +11,7 @@ use Rattle.math.proofs.bring_up.Tie as tie
 
 stays : (n col p : ℕ) (s : System) → p ≡ col → s ≡ bring_up n col p s
 unfolding bring_up
-stays n col p s e = cc (eq_eqb p col e)
+stays n col p s e = cc (eq-eqb p col e)
 
 moves : (n col p : ℕ) (a b a' b' : List Float) → (p ≡ col → ⊥) → a' ≡ swap_rows n col p a → b' ≡ swap b col p → system a' b' ≡ bring_up n col p (system a b)
 unfolding bring_up

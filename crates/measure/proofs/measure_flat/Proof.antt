@@ -4,7 +4,7 @@ use mathlib.Core.Bool.{Bool, true, false, not}
 use mathlib.Core.List.{List}
 use Prim.Native.Nat.{ℕ, ◌/◌, ◌%◌}
 use native.Mathlib.Omega.{arith}
-use borrow.Author.Tests.{eq_eqb, ne_eqb}
+use borrow.Author.Tests.{eq-eqb, ne_eqb}
 use lib.ListN.{length}
 use lib.Ieee.{Float}
 use Rattle.sentences.specs.Sentences.{refusal}
@@ -19,7 +19,7 @@ use Rattle.measure.proofs.measure_flat.Tie as tie
 
 module _ (flat scratch palette : List Float) (side hues : ℕ) (m : IlluminationModel) where
   counted : (f : Final) → length flat % 8 ≡ 0 → f ≡ measure_of (request flat false (length flat / 8) side m palette hues scratch) → f ≡ measure_of (flat_request flat side m palette hues scratch)
-  counted f h e = e ∙ ap (λ (b : Bool). measure_of (request flat (not b) (length flat / 8) side m palette hues scratch)) (sym (eq_eqb (length flat % 8) 0 h))
+  counted f h e = e ∙ ap (λ (b : Bool). measure_of (request flat (not b) (length flat / 8) side m palette hues scratch)) (sym (eq-eqb (length flat % 8) 0 h))
 
   module _ (r : Bool) (e : r ≡ bad_side side) where
     two : r ≡ true → final (refused_by 2) scratch ≡ measure_of (flat_request flat side m palette hues scratch)

@@ -3,7 +3,7 @@ use mathlib.Core.Path.{◌≡◌, sym}
 use mathlib.Core.List.{List}
 use Prim.Native.Nat.{ℕ, ◌+◌, ◌-◌, ◌/◌, ◌%◌, ◌≤◌, ◌<◌}
 use borrow.Author.Rules.{rules}
-use borrow.Author.Tests.{eq_eqb, ne_eqb, lt-ltb, le-ltb}
+use borrow.Author.Tests.{eq-eqb, ne_eqb, lt-ltb, le-ltb}
 use lib.ListN.{get_or}
 use Rattle.page.specs.Steps.{field_byte, blank_byte}
 use Rattle.page.proofs.blank_byte.Statement.{statement}
@@ -12,7 +12,7 @@ use Rattle.page.proofs.blank_byte.Tie as tie
 module _ (numbers : List ℕ) (side k : ℕ) where
   line-feed : k % (50 + 1) ≡ 50 → 10 ≡ blank_byte numbers side k
   unfolding blank_byte
-  line-feed e = rw (eq_eqb (k % 51) 50 e)
+  line-feed e = rw (eq-eqb (k % 51) 50 e)
 
   module _ (n : k % (50 + 1) ≡ 50 → ⊥) where
     number : (r : ℕ) → k < 50 → r ≡ field_byte (9 - k % 10) (get_or numbers (k / 10) 0) → r ≡ blank_byte numbers side k

@@ -4,7 +4,7 @@ use mathlib.Core.Bool.{Bool, true, false}
 use Prim.Native.Nat.{ℕ, ◌+◌, ◌-◌, ◌≤◌, ◌<◌}
 use native.Mathlib.Nat.{mul_comm, le_trans, le_of_eq}
 use native.Mathlib.Omega.{arith}
-use borrow.Author.Tests.{lt-ltb, le-ltb, eq_eqb}
+use borrow.Author.Tests.{lt-ltb, le-ltb, eq-eqb}
 use lib.ListN.{length, get_or}
 use lib.Ieee.{nan}
 use Rattle.limits.specs.Chroma.{chroma_on, symbol_bits, chroma_entries, chroma_length}
@@ -48,7 +48,7 @@ module _ (q : Request) (z : (scored_of q).number ≡ 0) where
         let j = c + (i - q.layout.grid) in
         let back : q.layout.grid + (j - c) ≡ i = omega arith in
         let past : c ≤ j = omega arith in
-        rw (le-ltb j c past, back) at (entry j b (rw (eq_eqb q.layout.size 1 z) (omega arith)) l)
+        rw (le-ltb j c past, back) at (entry j b (rw (eq-eqb q.layout.size 1 z) (omega arith)) l)
 
   scored : Scored q
   scored =

@@ -4,7 +4,7 @@ use mathlib.Core.List.{List}
 use native.Mathlib.Omega.{arith}
 use Prim.Native.Nat.{ℕ, ◌-◌, ◌*◌, ◌/◌, ◌≤◌, ◌<◌}
 use borrow.Author.Rules.{rules}
-use borrow.Author.Tests.{le-leb, lt-leb, eq_eqb, ne_eqb}
+use borrow.Author.Tests.{le-leb, lt-leb, eq-eqb, ne_eqb}
 use lib.ListN.{length, take}
 use lib.Seq.{length-take-le}
 use lib.Ieee.{Float}
@@ -21,7 +21,7 @@ module _ (k n : ℕ) where
   module _ (h : k / 8 < n) where
     none : k / 8 ≡ 0 → k ≡ lent_of k n
     unfolding lent_of
-    none e = cc (lt-leb n (k / 8) h, eq_eqb (k / 8) 0 e)
+    none e = cc (lt-leb n (k / 8) h, eq-eqb (k / 8) 0 e)
 
     cut : (k / 8 ≡ 0 → ⊥) → 8 * (k / 8) - 1 ≡ lent_of k n
     unfolding lent_of

@@ -4,7 +4,7 @@ use mathlib.Core.List.{List}
 use Prim.Native.Nat.{ℕ, ◌+◌, ◌≤◌}
 use native.Mathlib.Omega.{arith}
 use borrow.Author.Rules.{rules}
-use borrow.Author.Tests.{eq_eqb, ne_eqb}
+use borrow.Author.Tests.{eq-eqb, ne_eqb}
 use lib.ListN.{get_or}
 use Rattle.stage_words.specs.Records.{width_at}
 use Rattle.stage_words.proofs.width.Statement.{statement}
@@ -13,7 +13,7 @@ use Rattle.stage_words.proofs.width.Tie as tie
 module _ (row : List ℕ) (at w : ℕ) (e : w ≡ get_or row (at + 5) 0) where
   four : w ≡ 4 → 4 ≡ width_at row at
   unfolding width_at
-  four h = cc (eq_eqb w 4 h)
+  four h = cc (eq-eqb w 4 h)
 
   nine : (w ≡ 4 → ⊥) → 9 ≡ width_at row at
   unfolding width_at

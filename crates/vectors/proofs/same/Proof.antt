@@ -1,5 +1,5 @@
 -- `vectors::same` meets its contract: its tests are those of the definition. Assumes nothing.
-use Rattle.std.proofs.Common.{◌≡◌, false, eqb, eq_eqb, ne_eqb}
+use Rattle.std.proofs.Common.{◌≡◌, false, eqb, eq-eqb, ne_eqb}
 use Rattle.vectors.specs.declared.Compared.{Compared}
 use Rattle.vectors.specs.Answers.{same_of}
 use Rattle.vectors.proofs.same.Statement.{statement}
@@ -8,7 +8,7 @@ use Rattle.vectors.proofs.same.Tie as tie
 module _ (c : Compared) where
   unread : c.function ≡ 31 → false ≡ same_of c
   unfolding same_of
-  unread h = cc (eq_eqb c.function 31 h)
+  unread h = cc (eq-eqb c.function 31 h)
 
   module _ (h : c.function ≡ 31 → ⊥) where
     short : (c.agree ≡ c.answers → ⊥) → false ≡ same_of c
@@ -17,7 +17,7 @@ module _ (c : Compared) where
 
     all : c.agree ≡ c.answers → eqb c.agree c.due ≡ same_of c
     unfolding same_of
-    all k = cc (ne_eqb c.function 31 h, eq_eqb c.agree c.answers k)
+    all k = cc (ne_eqb c.function 31 h, eq-eqb c.agree c.answers k)
 
 pub same_spec : {M : Type 1} → statement M
 same_spec = tie.close (tie.spec (λ c. search (unread)) (λ c. search (short)) (λ c. search (all)))
