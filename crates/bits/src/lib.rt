@@ -3,6 +3,8 @@
 //
 // The functions stand from the last call to the first; each makes one call, `read_scores` the last two, and hands what it left to
 // the next.
+#![tactic(auto)]
+
 ghost use Rattle.std.specs.Prelude.{◌≡◌, List, Float};
 ghost use Rattle.demod.specs.declared.ScoreReport.{ScoreReport};
 ghost use Rattle.guarantee.specs.Guarantee.{ReadGuarantee, ReadGuaranteeAtNine};

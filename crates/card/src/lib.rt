@@ -3,6 +3,8 @@
 //
 // A first use: `open` a file; where it answers `Accepted(card)`, decode the palette and the references by `floats`, the
 // modules by `positions` and `colours`, the cells by `coordinates` and `colours`, each at the offset that `card` names.
+#![tactic(auto)]
+
 ghost use Rattle.std.specs.Prelude.{◌≡◌, ◌*◌, ◌^◌, ◌≤◌, ◌<◌, get_or};
 ghost use Rattle.card.specs.Number.{u16_at, u32_at, f32_of, f32_at, i16_of, i16_at};
 ghost use Rattle.card.specs.File as layout;
@@ -13,7 +15,7 @@ ghost use Rattle.card.specs.Ready.{Room};
 const PAIRS: usize = 5;
 
 // What a card file says of the card as a whole; of the mask, the low three bits.
-#[derive(Drop)]
+#[derive(Clone, Copy)]
 pub struct Settings {
     pub side: usize,
     pub version: u8,
@@ -24,14 +26,14 @@ pub struct Settings {
 }
 
 // Where a section's records start, and how many they are.
-#[derive(Drop)]
+#[derive(Clone, Copy)]
 pub struct Section {
     pub at: usize,
     pub count: usize,
 }
 
 // What a card file holds: its settings, where its palette starts, and its lists.
-#[derive(Drop)]
+#[derive(Clone, Copy)]
 pub struct Card {
     pub settings: Settings,
     pub palette: usize,
@@ -41,7 +43,7 @@ pub struct Card {
 }
 
 // The answer of `open`.
-#[derive(Drop)]
+#[derive(Clone, Copy)]
 pub enum Opened {
     Refused(u32),
     Accepted(Card),

@@ -2,6 +2,8 @@
 // stored one, every byte.
 //
 // A line of the list is the name of a card file, a space, and the name of the file that holds its listing.
+#![tactic(auto)]
+
 ghost use Rattle.io.specs.Counts.{IsPrefixLen};
 
 use vectors::{Compared, Tally};

@@ -2,6 +2,8 @@
 // what is opened is what the writer writes of the card that was read. Each promise is the contract of a function without
 // code: it takes nothing, does nothing and ensures the promise, so a promise whose proof is gone, or that a changed
 // definition makes false, fails this crate.
+#![tactic(auto)]
+
 
 ghost use Rattle.cardfile.specs.Laws.{CaseIsRead, FileOpens, FileReturns, OpenedReturns};
 

@@ -3,6 +3,8 @@
 //
 // A first use: `linear_to_lab(srgb8_to_linear(Srgb8::from_hex(0x8bd377)))` is the Lab of a light green, and
 // `lab_to_linear` takes it back.
+#![tactic(auto)]
+
 ghost use Rattle.std.specs.Prelude.{◌≡◌};
 ghost use Rattle.color.specs.Color as spec;
 
@@ -13,7 +15,7 @@ pub use srgb::srgb_to_linear;
 
 // Non-linear sRGB, a byte for each channel.
 #[repr(C)]
-#[derive(Drop)]
+#[derive(Clone, Copy)]
 pub struct Srgb8 {
     pub r: u8,
     pub g: u8,
@@ -22,7 +24,7 @@ pub struct Srgb8 {
 
 // Linear-light RGB, from 0 to 1 within the sRGB gamut, and not held to it.
 #[repr(C)]
-#[derive(Drop)]
+#[derive(Clone, Copy)]
 pub struct Linear {
     pub r: f32,
     pub g: f32,
@@ -31,7 +33,7 @@ pub struct Linear {
 
 // CIE XYZ, with Y 1 at white.
 #[repr(C)]
-#[derive(Drop)]
+#[derive(Clone, Copy)]
 pub struct Xyz {
     pub x: f32,
     pub y: f32,
@@ -40,7 +42,7 @@ pub struct Xyz {
 
 // CIELAB under D65: lightness, the green to red axis, the blue to yellow axis.
 #[repr(C)]
-#[derive(Drop)]
+#[derive(Clone, Copy)]
 pub struct Lab {
     pub l: f32,
     pub a: f32,

@@ -10,14 +10,14 @@ use answers::Number;
 
 // A hue's point in the plane of a and b.
 #[repr(C)]
-#[derive(Drop)]
+#[derive(Clone, Copy)]
 pub struct Ab {
     pub a: f32,
     pub b: f32,
 }
 
 // What a call that answers yes or no gives.
-#[derive(Drop)]
+#[derive(Clone, Copy)]
 pub enum Flag {
     Refused(u32),
     Is(bool),

@@ -1,4 +1,6 @@
 // Replays the stored answers of the crate `color`: each component of each answer, every bit.
+#![tactic(auto)]
+
 use answers::Number;
 use color::palette::Flag;
 use color::{Lab, Linear, Srgb8, Xyz};

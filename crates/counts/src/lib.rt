@@ -3,6 +3,8 @@
 //
 // A first use: with `let mut counts = [0u32; 9];`, the call `colour_counts(noise, palette, 4, &mut counts)` writes how
 // many are dark, by hue, then how many are light, by hue, and last how many are neither.
+#![tactic(auto)]
+
 ghost use Rattle.std.specs.Prelude.{◌≡◌, false, ◌+◌, ◌<◌, ◌≤◌, length};
 ghost use Rattle.sentences.specs.Sentences.{refusal};
 ghost use Rattle.limits.specs.Limits.{bad_hues};

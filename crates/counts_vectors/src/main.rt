@@ -1,4 +1,6 @@
 // Replays the stored answers of the crate `counts`: how palettes divide the colours, refused calls too.
+#![tactic(auto)]
+
 use answers::outcome_number;
 use stats::ChannelStats;
 use vectors::{Compared, Tally};

@@ -4,6 +4,8 @@
 // modules and cells and writes a luma score a module, its corrected colour, and the chroma scores of the cells and, at
 // cell size 1, of the ring modules. Scores are positive for a 0. It answers how many of these colours were corrected by a gain
 // that was held at 0.05.
+#![tactic(auto)]
+
 ghost use Rattle.std.specs.Prelude.{◌≡◌, ◌*◌, ◌≤◌, length};
 ghost use Rattle.sentences.specs.Sentences.{refusal};
 ghost use Rattle.layout.specs.Groups.{Shaped};
@@ -23,14 +25,14 @@ use stats::ChannelStats;
 // What `score` reports: how many modules and how many cells have a mark, a channel's gain, where they stand, being held at 0.05. A
 // ring module that carries chroma is one module. With chroma off no cell is corrected, and none has a mark.
 #[repr(C)]
-#[derive(Drop)]
+#[derive(Clone, Copy)]
 pub struct ScoreReport {
     pub held_modules: usize,
     pub held_cells: usize,
 }
 
 // What `score` answers: a refusal by its number, or that it is done, with its report.
-#[derive(Drop)]
+#[derive(Clone, Copy)]
 pub enum Scored {
     Refused(u32),
     Done(ScoreReport),

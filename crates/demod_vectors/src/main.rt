@@ -1,5 +1,7 @@
 // Replays the stored answers of the crate `demod`: the answer of each call, and the three slices that it leaves behind,
 // every bit.
+#![tactic(auto)]
+
 use demod::Scored;
 use illum::IlluminationModel;
 use layout::Layout;
@@ -10,7 +12,7 @@ use vectors::{Compared, Tally};
 // ---- the call
 
 // What a card is scored from, but for its slices.
-#[derive(Drop)]
+#[derive(Clone, Copy)]
 struct Card {
     layout: Layout,
     model: IlluminationModel,

@@ -1,5 +1,7 @@
 // One pass's equations of the fit (illum.rs, `fit_once`): the gain and flare surfaces of each channel, then the affine part over
 // the de-shaded observations. The rows of live references go into one matrix of 324 doubles as they come.
+#![tactic(auto)]
+
 ghost use Rattle.std.specs.Prelude.{◌≡◌, ◌+◌, ◌*◌, ◌<◌, ◌≤◌, length};
 ghost use Rattle.math.specs.Gauss.{system, settled};
 ghost use Rattle.math.specs.Normal as normal;
@@ -12,7 +14,7 @@ pub mod live;
 use illum::IlluminationModel;
 
 // The shape of a channel's surfaces: their terms, the card's side, and whether flare is fitted.
-#[derive(Drop)]
+#[derive(Clone, Copy)]
 pub struct Plan {
     pub terms: usize,
     pub side: f32,
@@ -20,21 +22,21 @@ pub struct Plan {
 }
 
 // A channel's surfaces.
-#[derive(Drop)]
+#[derive(Clone, Copy)]
 pub struct Surface {
     pub gain: [f64; 9],
     pub flare: [f64; 9],
 }
 
 // A channel's row of the affine part, where it has a solution.
-#[derive(Drop)]
+#[derive(Clone, Copy)]
 pub struct Row {
     pub solved: bool,
     pub row: [f64; 4],
 }
 
 // The affine part, where every channel has a solution; else zeros.
-#[derive(Drop)]
+#[derive(Clone, Copy)]
 pub struct Affine {
     pub solved: bool,
     pub r: [f64; 4],
@@ -43,7 +45,7 @@ pub struct Affine {
 }
 
 // What one pass's equations give: the fitted model, or the one that it began with.
-#[derive(Drop)]
+#[derive(Clone, Copy)]
 pub struct Once {
     pub solved: bool,
     pub model: IlluminationModel,

@@ -3,6 +3,8 @@
 //
 // A slice is a pointer and then a length; a struct goes by value and has C's layout. An answer that is an enum becomes a struct of
 // document 01's number, 0 where the call is accepted, and the values, which are zeros where there are none.
+#![tactic(auto)]
+
 mod cardfile; // cardfile.rt: a whole card file
 mod colour; // colour.rt: colours and the palette
 mod drawing; // drawing.rt: bits and hues, drawing and reading

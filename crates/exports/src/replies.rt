@@ -29,7 +29,7 @@ use totals::{Average, Ratio, Sums, Totals};
 
 // Whether a linear system was solved.
 #[repr(C)]
-#[derive(Drop)]
+#[derive(Clone, Copy)]
 pub struct SolveAnswer {
     pub number: u32,
     pub solved: bool,
@@ -37,7 +37,7 @@ pub struct SolveAnswer {
 
 // A whole number.
 #[repr(C)]
-#[derive(Drop)]
+#[derive(Clone, Copy)]
 pub struct NumberAnswer {
     pub number: u32,
     pub value: usize,
@@ -45,7 +45,7 @@ pub struct NumberAnswer {
 
 // Yes or no.
 #[repr(C)]
-#[derive(Drop)]
+#[derive(Clone, Copy)]
 pub struct FlagAnswer {
     pub number: u32,
     pub yes: bool,
@@ -53,7 +53,7 @@ pub struct FlagAnswer {
 
 // A float.
 #[repr(C)]
-#[derive(Drop)]
+#[derive(Clone, Copy)]
 pub struct FloatAnswer {
     pub number: u32,
     pub value: f32,
@@ -61,7 +61,7 @@ pub struct FloatAnswer {
 
 // A corrected colour, and the channels whose gain was held.
 #[repr(C)]
-#[derive(Drop)]
+#[derive(Clone, Copy)]
 pub struct LinearAnswer {
     pub number: u32,
     pub colour: Linear,
@@ -72,7 +72,7 @@ pub struct LinearAnswer {
 
 // A noise record.
 #[repr(C)]
-#[derive(Drop)]
+#[derive(Clone, Copy)]
 pub struct NoiseAnswer {
     pub number: u32,
     pub noise: ChannelStats,
@@ -80,7 +80,7 @@ pub struct NoiseAnswer {
 
 // Totals.
 #[repr(C)]
-#[derive(Drop)]
+#[derive(Clone, Copy)]
 pub struct TotalsAnswer {
     pub number: u32,
     pub totals: Totals,
@@ -88,7 +88,7 @@ pub struct TotalsAnswer {
 
 // A fraction.
 #[repr(C)]
-#[derive(Drop)]
+#[derive(Clone, Copy)]
 pub struct RatioAnswer {
     pub number: u32,
     pub ratio: Ratio,
@@ -96,7 +96,7 @@ pub struct RatioAnswer {
 
 // A measured noise record, and how many of its references have a mark.
 #[repr(C)]
-#[derive(Drop)]
+#[derive(Clone, Copy)]
 pub struct MeasureAnswer {
     pub number: u32,
     pub noise: ChannelStats,
@@ -105,7 +105,7 @@ pub struct MeasureAnswer {
 
 // How many modules and how many cells have a mark.
 #[repr(C)]
-#[derive(Drop)]
+#[derive(Clone, Copy)]
 pub struct ScoreAnswer {
     pub number: u32,
     pub held_modules: usize,

@@ -8,6 +8,8 @@
 //     let mut scratch = [0.0f32; 1024];
 //     let fitted = fit::fit_flat(&flat, 21, 1, &mut kept, &mut scratch);      // up to 256 references of a card of side 21, version 1
 //     if fitted.number == 0 { .. fitted.model .. kept[i] .. }
+#![tactic(auto)]
+
 ghost use Rattle.std.specs.Prelude.{◌≡◌, true, false, ◌*◌, ◌/◌, ◌<◌, ◌≤◌, length, take, drop};
 ghost use Rattle.sentences.specs.Sentences.{refusal};
 ghost use Rattle.references.specs.Ready.{Scratch, Lent};
@@ -23,7 +25,7 @@ use illum::{IlluminationModel, Modelled};
 // touches.
 
 // What a pass gives: whether it has a solution, whether sentence 11 holds after it, and the model.
-#[derive(Drop)]
+#[derive(Clone, Copy)]
 pub struct Pass {
     pub solved: bool,
     pub bad: bool,

@@ -1,6 +1,8 @@
 // What IEEE 754 arithmetic needs beyond the language: the sign cleared, the larger, the smaller, a range,
 // f32 to f64 and back, and the square and cube roots. Each function takes every float: a NaN, an infinity
 // or a subnormal value reaches no undefined cast.
+#![tactic(auto)]
+
 ghost use Rattle.std.specs.Prelude.{◌≡◌, ◌+◌, ◌*◌, ◌^◌, ◌<◌, ◌≤◌};
 ghost use Rattle.std.specs.Float.Ieee.Nearest.{closest};
 ghost use Rattle.float.specs.Select.{abs, max, min, clamp};
@@ -124,7 +126,7 @@ pub fn narrow(x: f64) -> f32
 }
 
 // An f32 above zero: m * 2 ^ (s - 24) units of 2 ^ -149, where m has exactly 24 binary digits.
-#[derive(Drop)]
+#[derive(Clone, Copy)]
 struct Parts {
     pub m: u32,
     pub s: u32,

@@ -3,7 +3,7 @@
 // built anew at each use.)
 
 // The parabola (r.0 * x + r.1) * x + r.2.
-#[derive(Drop)]
+#[derive(Clone, Copy)]
 pub struct Row(pub f64, pub f64, pub f64);
 
 // Core: near k / √x to 2.5 parts in a million, where k ^ 3 = -1 / 2, for x from 2 ^ 48 to 2 ^ 50.

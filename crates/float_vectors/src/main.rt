@@ -1,4 +1,6 @@
 // Replays the stored answers of the crate `float`: each function's answer, every bit.
+#![tactic(auto)]
+
 use vectors::{Compared, Tally};
 
 // What a function from f64 to f64 or f32 answers to x, as a word.

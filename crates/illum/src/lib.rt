@@ -3,6 +3,8 @@
 //
 //     fit:      observed  ≈  gain(x, y) * nominal + flare(x, y)                 for each channel
 //     correct:  nominal   =  affine * [(observed - flare(x, y)) / gain(x, y)]
+#![tactic(auto)]
+
 ghost use Rattle.std.specs.Prelude.{◌≡◌, ◌+◌, ◌<◌, ◌≤◌, not, ◌||◌, length};
 ghost use Rattle.std.specs.Float.Ieee.Scale.{finite};
 ghost use Rattle.float.specs.Single.{to_single};
@@ -19,7 +21,7 @@ use color::Linear;
 // a channel has `terms` coefficients, 4 or 9. Coefficients past `terms` are no numbers of the model: `identity` and the fit
 // write 0 there, and nothing reads them.
 #[repr(C)]
-#[derive(Drop)]
+#[derive(Clone, Copy)]
 pub struct IlluminationModel {
     // nominal r = affine_r[0] * r + affine_r[1] * g + affine_r[2] * b + affine_r[3], and so for g and b
     pub affine_r: [f64; 4],
@@ -44,21 +46,21 @@ pub struct IlluminationModel {
 // A model beside document 01's number: 0 where the call was accepted. Where it was refused the model is all zeros, which
 // sentence 10 refuses in turn.
 #[repr(C)]
-#[derive(Drop)]
+#[derive(Clone, Copy)]
 pub struct Modelled {
     pub number: u32,
     pub model: IlluminationModel,
 }
 
 // One channel's inverse, and whether the gain was held at 0.05.
-#[derive(Drop)]
+#[derive(Clone, Copy)]
 pub struct Inverse {
     pub value: f64,
     pub held: bool,
 }
 
 // The three channels' inverses.
-#[derive(Drop)]
+#[derive(Clone, Copy)]
 pub struct Unshaded {
     pub r: Inverse,
     pub g: Inverse,
@@ -66,7 +68,7 @@ pub struct Unshaded {
 }
 
 // Core: the affine part over the three channels' inverses, a row a channel, before it is rounded to f32.
-#[derive(Drop)]
+#[derive(Clone, Copy)]
 pub struct Unrounded {
     pub r: f64,
     pub g: f64,
@@ -76,7 +78,7 @@ pub struct Unrounded {
 // A corrected colour, with a mark a channel: whether the gain, as the surface sums it at the position, was under 0.05 in magnitude and
 // so was held at 0.05. Either zero is; 0.05 itself, an infinity and a NaN are not.
 #[repr(C)]
-#[derive(Drop)]
+#[derive(Clone, Copy)]
 pub struct Marked {
     pub colour: Linear,
     pub held_r: bool,
@@ -85,14 +87,14 @@ pub struct Marked {
 }
 
 // Core: the positions from lo to hi on each axis; none where lo is above hi.
-#[derive(Drop)]
+#[derive(Clone, Copy)]
 pub struct Span {
     pub lo: f32,
     pub hi: f32,
 }
 
 // What `correct` answers: a refusal by its number, or the corrected colour with its marks.
-#[derive(Drop)]
+#[derive(Clone, Copy)]
 pub enum Correction {
     Refused(u32),
     Corrected(Marked),

@@ -5,6 +5,8 @@
 // A group is a list of sentences (specs/Groups.antt), which a call's own list is joined from by `++`; a function that
 // answers the number of its first sentence that holds, or 0; and a record of what holds where it is passed. The ruleset
 // `layouts` (proofs/Laws.antt) proves a call's `refused` over groups and sentences of its own, one test for each.
+#![tactic(auto)]
+
 ghost use Rattle.std.specs.Prelude.{◌≡◌, ◌≤◌, length};
 ghost use Rattle.sentences.specs.Sentences.{refusal};
 ghost use Rattle.layout.specs.Groups.{Shaped, Paired, shape, placement, module_placement, bad_positions};
@@ -12,7 +14,7 @@ ghost use Rattle.layout.specs.Groups.{Shaped, Paired, shape, placement, module_p
 // A card's side in modules, its hue count, the size of its chroma cells in modules, and how many of its listed modules
 // are grid modules. Any numbers: the calls that take a layout refuse those that are none.
 #[repr(C)]
-#[derive(Drop)]
+#[derive(Clone, Copy)]
 pub struct Layout {
     pub side: usize,
     pub hues: usize,

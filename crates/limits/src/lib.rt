@@ -1,5 +1,7 @@
 // What several calls test of the numbers that they take, each test one sentence of document 01; and the counts that
 // follow from a card's numbers: the bits of a symbol and the length of the chroma score list.
+#![tactic(auto)]
+
 ghost use Rattle.std.specs.Prelude.{◌≡◌, ◌+◌, ◌^◌, ◌<◌, ltb, length};
 ghost use Rattle.limits.specs.Limits.{bad_side, bad_hues, bad_cell_size, bad_modules, bad_counts, bad_cell, bad_cells};
 ghost use Rattle.limits.specs.Chroma.{log2, chroma_on, weighted, symbol_bits, hue_classes, ring_modules, chroma_entries, chroma_length};

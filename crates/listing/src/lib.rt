@@ -4,6 +4,8 @@
 //
 // Every function writes at `at` and answers the place after what it wrote. A byte that has no room is left out and the
 // place stays; in a slice of LISTING_ROOM bytes that happens to no card file (proofs/Room.antt).
+#![tactic(auto)]
+
 ghost use Rattle.std.specs.Prelude.{◌≡◌, [], ◌∷◌, ◌≤◌, ◌<◌, length};
 ghost use Rattle.std.specs.Float.{binary32};
 ghost use Rattle.std.specs.Float.Ieee.{to_bits};

@@ -1,5 +1,7 @@
 // The margin check: whether a palette and a noise record leave so much room that a card whose corrected
 // colours lie within half a sigma of its drawn ones is read as it was drawn.
+#![tactic(auto)]
+
 ghost use Rattle.std.specs.Prelude.{◌≡◌, ◌<◌, ◌≤◌, length};
 ghost use Rattle.color.specs.Palette.{palette_len};
 ghost use Rattle.margin.specs.Margin as spec;
@@ -13,14 +15,14 @@ use stats::ChannelStats;
 // The settings of the margin check: how far from 0 the luma score of every palette colour must lie half a
 // sigma off. Thirteen is document 01's; Nine is the second one, of which the read guarantee asks besides
 // that no refined score is a NaN.
-#[derive(Drop)]
+#[derive(Clone, Copy)]
 pub enum Threshold {
     Thirteen,
     Nine,
 }
 
 // What the margin check answers.
-#[derive(Drop)]
+#[derive(Clone, Copy)]
 pub enum Verdict {
     Refused(u32),
     Yes,

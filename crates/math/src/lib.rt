@@ -3,6 +3,8 @@
 // bit for bit and in the order of the Rust's operations.
 //
 // Matrices are row by row: row r and column k of an n by n matrix stand at r * n + k.
+#![tactic(auto)]
+
 ghost use Rattle.std.specs.Prelude.{◌≡◌, ◌*◌, ◌<◌, ◌≤◌, ltb, length};
 ghost use Rattle.loops.specs.Loops.{turn_of};
 ghost use Rattle.float.specs.Select.{abs};
@@ -14,7 +16,7 @@ ghost use Rattle.math.specs.Normal.{grown, fitted};
 ghost use Rattle.math.specs.Ready.{Cell, Equations};
 
 // The answer of `solve`, `finish` and `least_squares`. Refused has the number of the sentence that is broken.
-#[derive(Drop)]
+#[derive(Clone, Copy)]
 pub enum Solving {
     Solved,
     NoSolution,

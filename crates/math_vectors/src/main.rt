@@ -1,5 +1,7 @@
 // Replays the stored answers of the crates `math` and `order`: the answer of each call, and every slice that it leaves
 // behind, every bit.
+#![tactic(auto)]
+
 use math::Solving;
 use order::Sigma;
 use vectors::{Compared, Tally};

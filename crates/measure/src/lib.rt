@@ -7,6 +7,8 @@
 //     match measure::measure_flat(&flat, 21, model, &palette, hues, &mut scratch) { .. }      // up to 256 references
 //
 // Beside the record stands how many of the references were corrected by a gain that was held at 0.05.
+#![tactic(auto)]
+
 ghost use Rattle.std.specs.Prelude.{◌≡◌, true, false, ◌++◌, map, ◌+◌, ◌*◌, ◌<◌, ◌≤◌, length, take, drop};
 ghost use Rattle.sentences.specs.Sentences.{refusal};
 ghost use Rattle.color.specs.Color.{linear_to_lab};
@@ -27,14 +29,14 @@ use stats::ChannelStats;
 // The noise record, and how many of the references have a mark: a channel's gain, where they stand, was held at 0.05. Under 8
 // references none is corrected, and the count is 0.
 #[repr(C)]
-#[derive(Drop)]
+#[derive(Clone, Copy)]
 pub struct Measurement {
     pub noise: ChannelStats,
     pub held: usize,
 }
 
 // What the calls answer: a refusal by its number, or the record with the count.
-#[derive(Drop)]
+#[derive(Clone, Copy)]
 pub enum Measured {
     Refused(u32),
     Record(Measurement),
@@ -43,7 +45,7 @@ pub enum Measured {
 // ---- one reference
 
 // Where a reference stands, and its observed colour.
-#[derive(Drop)]
+#[derive(Clone, Copy)]
 struct Seen {
     x: f32,
     y: f32,
@@ -141,7 +143,7 @@ fn mark_for(palette: &[f32], mid: f32, nominal: Lab) -> f32
 // first.
 
 // What is known of a nominal colour: a and b of its Lab, and the mark of a reference that has it.
-#[derive(Drop)]
+#[derive(Clone, Copy)]
 struct Known {
     a: f32,
     b: f32,
@@ -329,7 +331,7 @@ fn note(model: IlluminationModel, palette: &[f32], flat: &[f32], n: usize, s: &m
 // ---- the lists
 
 // The form in which a number is listed: as it is, or less l.
-#[derive(Drop)]
+#[derive(Clone, Copy)]
 enum Form {
     Plain,
     Less(f32),
@@ -452,7 +454,7 @@ fn chroma_sigma(s: &mut [f32], n: usize, lo: f32, hi: f32, least: usize, other: 
 // ---- the record
 
 // How many references count for a level, and their median lightness.
-#[derive(Drop)]
+#[derive(Clone, Copy)]
 struct Level {
     count: usize,
     l: f32,

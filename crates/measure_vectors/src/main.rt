@@ -5,6 +5,8 @@
 // eight floats for each, which in all records but five are all that stand there. In one of the five, 9 references in 64 floats,
 // they are not there: it is lent a part whose last reference is not whole, which sentence 5 refuses as well. In one the count
 // is above 16,384, and `measure::measure_counted` is called with it.
+#![tactic(auto)]
+
 use illum::IlluminationModel;
 use measure::Measured;
 use vectors::{Compared, Tally};

@@ -3,6 +3,8 @@
 // A first use: `draw` gives each module its level and each cell its hue from a card's bits. On the way back
 // `chroma_bit_llrs` turns hue likelihoods into bit scores, and `unmask_luma` takes the mask off the luma scores, which
 // `reading::read_list` makes bits of.
+#![tactic(auto)]
+
 ghost use Rattle.std.specs.Prelude.{◌≡◌, false, ◌+◌, ◌*◌, ◌%◌, ◌≤◌, ◌<◌, length};
 ghost use Rattle.std.specs.Float.{nan};
 ghost use Rattle.sentences.specs.Sentences.{refusal};
@@ -19,7 +21,7 @@ use answers::{Number, Outcome};
 use layout::Layout;
 
 // Where a chroma entry is drawn: a ring module, on which no mask lies, or a cell of the grid, by its coordinates.
-#[derive(Drop)]
+#[derive(Clone, Copy)]
 pub enum Cell {
     Unmasked,
     At(u16, u16),
@@ -28,7 +30,7 @@ pub enum Cell {
 // ---- bit scores
 
 // The best likelihood so far of the hues whose bit is 0, and of those whose bit is 1.
-#[derive(Drop)]
+#[derive(Clone, Copy)]
 struct Best {
     zero: f32,
     one: f32,

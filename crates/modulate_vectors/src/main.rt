@@ -1,5 +1,7 @@
 // Replays the stored answers of the crate `modulate`: the answer of each call, and every slice that it leaves behind,
 // every bit.
+#![tactic(auto)]
+
 use answers::{Number, outcome_number};
 use layout::Layout;
 use modulate::Cell;

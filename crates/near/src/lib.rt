@@ -6,6 +6,8 @@
 //
 // A list runs from the nearest on, and of equal distances the earlier reference comes first. That is a strict order, so
 // the list is the only one with these places in this order, however it is found.
+#![tactic(auto)]
+
 ghost use Rattle.std.specs.Prelude.{◌≡◌, ◌+◌, ◌*◌, ◌/◌, ◌<◌, ◌≤◌, length, get_or};
 ghost use Rattle.sentences.specs.Sentences.{refusal};
 ghost use Rattle.answers.specs.Answers.{said};
@@ -16,7 +18,7 @@ ghost use Rattle.near.specs.declared.Query.TheVariants as query;
 use answers::Number;
 
 // What is asked of the kept references: the three nearest, all within a radius, or all that a column cuts off.
-#[derive(Drop)]
+#[derive(Clone, Copy)]
 pub enum Query {
     Nearest,
     Within(f32),

@@ -1,5 +1,7 @@
 // Replays the stored answers of the crate `near`, and which references `fit::fit_flat` kept: each call's number and count, and the
 // whole of what it was lent.
+#![tactic(auto)]
+
 ghost use Rattle.std.specs.Prelude.{◌≤◌};
 ghost use Rattle.vectors.specs.Slices.{Fills};
 

@@ -1,6 +1,8 @@
 // The colours of a card's modules and cells: where each stands, how it was observed, and the colour corrected. `demod`, which
 // scores a card, looks with it for colours that break sentence 12 and then writes the corrected ones, counting those that have a
 // mark.
+#![tactic(auto)]
+
 ghost use Rattle.std.specs.Prelude.{◌≡◌, ◌+◌, ◌*◌, ◌<◌, ◌≤◌, T, pos, length, get_or};
 ghost use Rattle.std.specs.Float.{binary32};
 ghost use Rattle.std.specs.Float.Ieee.{in_float};
@@ -65,7 +67,7 @@ fn cell_centre(size: usize, cx: u16) -> f32
 }
 
 // Where a colour stands, and the colour as it was observed.
-#[derive(Drop)]
+#[derive(Clone, Copy)]
 pub struct Spot {
     pub x: f32,
     pub y: f32,

@@ -7,6 +7,8 @@
 //     let mut out = [0u8; page::PAGE_ROOM];
 //     page::page(side, model.terms, model.kept, model.rejected, report.held_modules, &xs, &ys, grid, &luma, &mut out)
 // lays the card out in the first 51 × (side + 1) bytes.
+#![tactic(auto)]
+
 ghost use Rattle.std.specs.Prelude.{◌≡◌, [], ◌∷◌, ◌<◌, ◌≤◌, ◌^◌, length};
 ghost use Rattle.sentences.specs.Sentences.{refusal};
 ghost use Rattle.layout.specs.Groups.{Positions};

@@ -1,4 +1,6 @@
 // Replays the stored answers of the crate `page`: the answer of each call, and the slice that it leaves behind, every byte.
+#![tactic(auto)]
+
 ghost use Rattle.vectors.specs.Slices.{Fills};
 
 use answers::outcome_number;

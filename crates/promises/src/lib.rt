@@ -2,6 +2,8 @@
 // without code: it takes nothing, does nothing and ensures the promise, so a promise whose proof is gone, or that a
 // changed definition makes false, fails this crate. The definitions are in the specs/ of the crates named below, the
 // theorems in their proofs/.
+#![tactic(auto)]
+
 
 ghost use Rattle.guarantee.specs.Guarantee.{EachReadAtNine};
 ghost use Rattle.promises.specs.Card.{Met, Worked};

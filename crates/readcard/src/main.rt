@@ -2,6 +2,8 @@
 //
 // No contract can say what is read or written. `main` hands what was read to `listed`, whose contract says what text a file
 // is read as, and writes that text and nothing else, in one piece at the end.
+#![tactic(auto)]
+
 ghost use Rattle.std.specs.Prelude.{◌≡◌, ◌≤◌, length, take};
 ghost use Rattle.io.specs.Counts.{IsPrefixLen};
 ghost use Rattle.reader.specs.Text.{card_text, listing_room};

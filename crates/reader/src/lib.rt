@@ -8,6 +8,8 @@
 // The functions stand from the last call to the first; each makes one call and hands what it left to the next. Lists stand in
 // arrays of fixed size, of which as much is lent as there is in the file: 16,384 bytes have room for 510 hues and references of
 // 32 bytes, and for 1,020 modules and cells of 16.
+#![tactic(auto)]
+
 ghost use Rattle.std.specs.Prelude.{◌≡◌, ◌+◌, ◌*◌, ◌≤◌, length};
 ghost use Rattle.listing.specs.Text.{text, written};
 ghost use Rattle.readout.specs.Sheet.{sheet, Few};

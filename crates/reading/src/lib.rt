@@ -1,4 +1,6 @@
 // Reading: what bit a score stands for, or that it stands for none.
+#![tactic(auto)]
+
 ghost use Rattle.std.specs.Prelude.{◌≡◌, ◌≤◌, length};
 ghost use Rattle.answers.specs.Answers.{ended};
 ghost use Rattle.reading.specs.Read as spec;

@@ -4,6 +4,8 @@
 // Lists stand in arrays of fixed size, of which as much is lent as the call asks for. A card file of 16,384 bytes has room for
 // 1,020 modules and cells of 16 bytes, and for 510 hues of 32 bytes, so that a symbol has at most 8 bits: 8,160 chroma scores. (A
 // hue count that is not refused gives at most 4 bits.)
+#![tactic(auto)]
+
 ghost use Rattle.std.specs.Prelude.{◌≡◌, ◌≤◌, length};
 ghost use Rattle.modulate.specs.Score.{unmask_luma_of};
 ghost use Rattle.listing.specs.Text.{text, written};

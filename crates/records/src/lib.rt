@@ -6,6 +6,8 @@
 //
 // `fit` and `measure` copy the records into a local array of 8 × 16,384 floats, 512 KB of stack. A caller with less calls
 // `fit::fit_flat` and `measure::measure_flat`, which take the same floats and give the same answers.
+#![tactic(auto)]
+
 ghost use Rattle.std.specs.Prelude.{◌≡◌, false, ◌++◌, ◌+◌, ◌*◌, ◌≤◌, length, take};
 ghost use Rattle.fit.specs.Fit as fitting;
 ghost use Rattle.measure.specs.Measure as measuring;
@@ -18,7 +20,7 @@ use measure::Measured;
 
 // A reference of known colour: its position in modules, the colour that was observed there, and the colour that was drawn.
 #[repr(C)]
-#[derive(Drop)]
+#[derive(Clone, Copy)]
 pub struct Reference {
     pub x: f32,
     pub y: f32,

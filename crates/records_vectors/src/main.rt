@@ -2,6 +2,8 @@
 // first of which are lent as a slice. Each call's number, model or noise record, and the scratch that it leaves behind, every bit.
 //
 // `fit_first` and `measure_first` take the array by value, so that their callers are covered; the two are proved by a walk.
+#![tactic(auto)]
+
 ghost use Rattle.std.specs.Prelude.{◌≡◌, ◌≤◌, take};
 ghost use Rattle.fit.specs.Fit as fitting;
 ghost use Rattle.measure.specs.Measure as measuring;

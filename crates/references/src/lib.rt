@@ -1,5 +1,7 @@
 // References of known colour as flat floats, eight each: x, y, the observed colour, the nominal colour. What stands where,
 // sentences 6, 7 and 8 of them, and the scratch of 4 × references that is lent with them.
+#![tactic(auto)]
+
 ghost use Rattle.std.specs.Prelude.{◌≡◌, ◌+◌, ◌*◌, ◌≤◌, length};
 ghost use Rattle.sentences.specs.Sentences.{refusal};
 ghost use Rattle.order.specs.Deviation.{cleared};

@@ -1,5 +1,7 @@
 // Replays the stored answers of the crate `refine`: the answer of each call, and every slice that it leaves behind,
 // every bit.
+#![tactic(auto)]
+
 use answers::outcome_number;
 use stats::ChannelStats;
 use vectors::{Compared, Tally};
@@ -7,7 +9,7 @@ use vectors::{Compared, Tally};
 // ---- the call
 
 // What a card is refined from, but for its slices.
-#[derive(Drop)]
+#[derive(Clone, Copy)]
 struct Card {
     side: usize,
     hues: usize,

@@ -1,4 +1,6 @@
 // Residuals, their root mean square, and which references are rejected.
+#![tactic(auto)]
+
 ghost use Rattle.std.specs.Prelude.{◌≡◌, ◌++◌, map, ◌+◌, ◌*◌, ◌/◌, ◌<◌, ◌≤◌, length, take, drop};
 ghost use Rattle.order.specs.Deviation.{deviation, sigma_of};
 ghost use Rattle.illum.specs.Refusals.{not_finite_up_to};

@@ -1,5 +1,7 @@
 // The scores of corrected colours, as scoring writes them: a luma score a module, and the bits' scores of each cell and of
 // each ring module that carries chroma. `demod` is the public call.
+#![tactic(auto)]
+
 ghost use Rattle.std.specs.Prelude.{◌≡◌, true, ◌+◌, ◌-◌, ◌*◌, ◌<◌, ◌≤◌, length};
 ghost use Rattle.limits.specs.Chroma.{weighted, symbol_bits, chroma_length, ring_modules};
 ghost use Rattle.color.specs.Color.{linear_to_lab};

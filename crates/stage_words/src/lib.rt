@@ -3,6 +3,8 @@
 //
 // STATS is l0 l1 sigma_l sigma_ab level0 level1 (f32), samples. MODEL is terms side rms rejected kept width, then f64: affine
 // 3 x 4, gain 3 x width, flare 3 x width; side and rms are f32, width is 4 or 9.
+#![tactic(auto)]
+
 ghost use Rattle.std.specs.Prelude.{◌≡◌, ◌+◌, ◌≤◌, min, length, get_or};
 ghost use Rattle.std.specs.Float.{binary32, binary64};
 ghost use Rattle.std.specs.Float.Ieee.{to_bits};

@@ -2,6 +2,8 @@
 //
 // A first use: `ChannelStats::nominal(palette, hues)` gives the record to fall back on, and
 // `noise.luma_llr(l)` the score of a sample's L, positive for dark.
+#![tactic(auto)]
+
 ghost use Rattle.std.specs.Prelude.{◌≡◌, ◌*◌, ◌<◌, ◌≤◌, length};
 ghost use Rattle.sentences.specs.Sentences.{refusal};
 ghost use Rattle.answers.specs.Answers.{ended};
@@ -18,7 +20,7 @@ use color::palette::{hue_ab, level_l, palette_lab, wild_palette};
 // chroma noise pooled over both levels and that of each level (0 where it was not measured), and the
 // number of known colours that the figures come from.
 #[repr(C)]
-#[derive(Drop)]
+#[derive(Clone, Copy)]
 pub struct ChannelStats {
     pub l0: f32,
     pub l1: f32,
@@ -30,14 +32,14 @@ pub struct ChannelStats {
 }
 
 // What a method that answers a number gives: the refusal, or the number.
-#[derive(Drop)]
+#[derive(Clone, Copy)]
 pub enum Figure {
     Refused(u32),
     Value(f32),
 }
 
 // What a call that answers a noise record gives.
-#[derive(Drop)]
+#[derive(Clone, Copy)]
 pub enum Noise {
     Refused(u32),
     Record(ChannelStats),

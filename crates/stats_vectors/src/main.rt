@@ -1,5 +1,7 @@
 // Replays the stored answers of the crate `stats`: each method of a noise record, `nominal` and the margin check, refused calls
 // too, every bit.
+#![tactic(auto)]
+
 use answers::outcome_number;
 use margin::{Threshold, Verdict};
 use stats::{ChannelStats, Figure, Noise};

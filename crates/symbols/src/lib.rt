@@ -1,5 +1,7 @@
 // Symbols, hues and masks: Gray code, by which symbols of neighbouring hues differ in one bit, the luma masks and the rotation of
 // the hues (the Rust's symbol.rs and mask.rs).
+#![tactic(auto)]
+
 ghost use Rattle.std.specs.Prelude.{◌≡◌, ◌/◌, ◌%◌, ◌<◌};
 ghost use Rattle.sentences.specs.Sentences.{refusal};
 ghost use Rattle.answers.specs.Answers.{said, answered, hues_only, hues_and_cell};

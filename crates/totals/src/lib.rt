@@ -4,6 +4,8 @@
 //
 // A first use: `empty_totals`, then `add_card` with each card's refined scores, then `mean`. Batches that were counted
 // apart are joined by `add_totals`.
+#![tactic(auto)]
+
 ghost use Rattle.std.specs.Prelude.{◌≡◌, false, [], ◌+◌, ◌<◌, ◌≤◌};
 ghost use Rattle.sentences.specs.Sentences.{refusal};
 ghost use Rattle.floatlaws.specs.Whole.{NearestWhole};
@@ -15,7 +17,7 @@ ghost use Rattle.totals.specs.LowestTerms as average;
 // What a batch adds up to: its cards, its modules, those of them that are undecided, those whose score's magnitude is
 // under 12, and the sum of the magnitudes in 65,536ths.
 #[repr(C)]
-#[derive(Drop)]
+#[derive(Clone, Copy)]
 pub struct Totals {
     pub cards: u64,
     pub modules: u64,
@@ -25,7 +27,7 @@ pub struct Totals {
 }
 
 // What a call that answers totals gives: the refusal, or the totals.
-#[derive(Drop)]
+#[derive(Clone, Copy)]
 pub enum Sums {
     Refused(u32),
     Are(Totals),
@@ -33,14 +35,14 @@ pub enum Sums {
 
 // A fraction of two whole numbers.
 #[repr(C)]
-#[derive(Drop)]
+#[derive(Clone, Copy)]
 pub struct Ratio {
     pub numerator: u64,
     pub denominator: u64,
 }
 
 // What the mean answers: the refusal, or the fraction.
-#[derive(Drop)]
+#[derive(Clone, Copy)]
 pub enum Average {
     Refused(u32),
     Is(Ratio),

@@ -1,4 +1,6 @@
 // Replays the stored answers of the crate `totals`: cards and batches added, and means, refused calls too.
+#![tactic(auto)]
+
 use totals::{Average, Sums, Totals};
 use vectors::{Compared, Tally};
 

@@ -7,6 +7,8 @@
 // written 7FC00000 (f32) or 7FF8000000000000 (f64), and `word_of_f32` and `word_of_f64` write every NaN so.
 //
 // One row of words holds the inputs of a record, another the answers that it wants, and a third those got.
+#![tactic(auto)]
+
 ghost use Rattle.std.specs.Prelude.{◌≡◌, ◌+◌, ◌*◌, ◌%◌, ◌^◌, ◌<◌, ◌≤◌, min, true, length, take, from_bits, slice_index, to_bits};
 ghost use Rattle.std.specs.Int.{w32};
 ghost use Rattle.std.proofs.Common.{to_z};
@@ -128,7 +130,7 @@ pub fn digit(b: u8) -> u64
 }
 
 // The digits that stand at a place: the number that they spell, of which the last sixteen count, and where they end.
-#[derive(Drop)]
+#[derive(Clone, Copy)]
 pub struct Digits {
     pub value: u64,
     pub end: usize,
@@ -152,7 +154,7 @@ pub fn digits_from(text: &[u8], at: usize) -> Digits
 }
 
 // What stands at a place between words: a space and a word, with the place past it, or anything else.
-#[derive(Drop)]
+#[derive(Clone, Copy)]
 pub enum Word {
     Value(u64, usize),
     Nothing,
@@ -177,7 +179,7 @@ pub fn word_from(text: &[u8], at: usize) -> Word
 }
 
 // A run of words: how many there are, and where they end in the text.
-#[derive(Drop)]
+#[derive(Clone, Copy)]
 pub struct Run {
     pub count: usize,
     pub end: usize,
@@ -206,7 +208,7 @@ pub fn words_from(text: &[u8], at: usize, row: &mut [u64]) -> Run
 }
 
 // A record that was read: how many inputs and how many answers it has, and whether its line kept to the format.
-#[derive(Drop)]
+#[derive(Clone, Copy)]
 pub struct Record {
     pub inputs: usize,
     pub answers: usize,
@@ -506,7 +508,7 @@ pub fn agreeing(got: &[u64], wanted: &[u64]) -> usize
 // What comparing one record gave: the record's number in the list, from 1, where its line begins, its function, how
 // many answers agree from the first on, how many there were and how many are due, and the first that is got and
 // wanted after those that agree.
-#[derive(Drop)]
+#[derive(Clone, Copy)]
 pub struct Compared {
     pub number: u64,
     pub at: usize,
@@ -589,7 +591,7 @@ pub fn same(c: Compared) -> bool
 
 // What a run has met so far: how many records, of each function how many were compared and how many differ, how many
 // that differ are kept, and those: the first eight.
-#[derive(Drop)]
+#[derive(Clone, Copy)]
 pub struct Tally {
     pub records: u64,
     pub compared: [u64; 32],

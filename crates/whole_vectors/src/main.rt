@@ -1,6 +1,8 @@
 // Replays whole cards from their raw colours on: scoring, refinement, unmasking and reading, beside what the Rust's `demodulate`
 // gives in one piece, its last call included. Every luma score, corrected colour, chroma score and bit is compared, and how many
 // modules and cells have a mark.
+#![tactic(auto)]
+
 use answers::outcome_number;
 use demod::{ScoreReport, Scored};
 use illum::IlluminationModel;
@@ -12,7 +14,7 @@ use vectors::{Compared, Tally};
 // ---- the calls
 
 // What a card is read from, but for its slices.
-#[derive(Drop)]
+#[derive(Clone, Copy)]
 struct Card {
     layout: Layout,
     mask: u8,

@@ -1,5 +1,7 @@
 // A list with wrong answers and wrong lent memory, and a call that leaves lent memory wrong, over the same reader, the same words of
 // a slice and the same words of a scratch as every replay: the expected output is the report of them.
+#![tactic(auto)]
+
 use order::Sigma;
 use vectors::{Compared, Tally};
 
