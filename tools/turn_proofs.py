@@ -126,7 +126,7 @@ class Turned:
     def steps(self, text):
         """Paths through `c`: the steps by their names of today, with no way back through `.before`."""
         turn = {plain(old): new for _, _, (old, new), *_ in self.names["places"] if old}
-        for (old, new), *_ in (x[0] for x in self.names["loops"]):
+        for old, new in (x[0] if isinstance(x[0][0], str) else x[0][0] for x in self.names["loops"]):
             turn[plain(old)] = new
             turn[plain(old + "-test")] = new + "-test"
         text = re.sub(r"(\.before)+(?![\w-])", "", text)
@@ -152,7 +152,7 @@ class Turned:
             kind = "invariant" if j % 2 == 0 else "decreases"
             changed = self.names["changed"][j // 2]
             places = ["l.initial." + v if ch else "l." + v for v, ch in zip(loop[1], changed)] + ["l." + v for v, ch in zip(loop[1], changed) if ch]
-            new = "%s-%s" % (kind, loop[0][0][1])
+            new = "%s-%s" % (kind, loop[0][1] if isinstance(loop[0][0], str) else loop[0][0][1])
             comment = "\n".join(x for x in chunk.split("\n") if x.startswith("--"))
             m = re.match(r"(?s)(.*?)" + re.escape(n) + r" : tie\.\S+\n((?:unfolding[^\n]*\n)?)" + re.escape(n) + r"((?: [^\s=]+)*) =(.*)", code(chunk))
             if not m:

@@ -1,0 +1,54 @@
+-- `card::bad_directory` meets its contract: each section starts where the ones before it end, as the sum tells. Assumes nothing.
+use mathlib.Core.Path.{◌≡◌, refl, ap, ◌∙◌}
+use mathlib.Core.List.{List}
+use Prim.Native.Nat.{ℕ, ◌+◌, ◌-◌, ◌*◌, ◌<◌, ◌≤◌}
+use mathlib.Core.Bool.{Bool, true, false, not}
+use lib.Dec.{eqb}
+use native.Mathlib.Omega.{arith}
+use native.Mathlib.Numerals.{add-one}
+use lib.ListN.{length}
+use Rattle.loops.specs.Loops.{any_up}
+use Rattle.loops.proofs.Laws.{LeftAny, begin-any, turn-any, out-any, done-any}
+use Rattle.sentences.proofs.Laws.{or_here, or_past}
+use Rattle.card.specs.File.{length_of, start_of, starts_elsewhere, misplaced_at, bad_directory}
+use borrow.Author.Rules.{rules}
+use Rattle.card.proofs.bad_directory.Goals as goal
+
+first : (s : List ℕ) (pairs : ℕ) → 8 * pairs ≡ start_of pairs s 0
+unfolding start_of
+first s pairs = refl
+
+next : (s : List ℕ) (pairs k at n : ℕ) → at ≡ start_of pairs s k → n ≡ length_of s k → at + n ≡ start_of pairs s (k + 1)
+unfolding start_of
+next s pairs k at n e f = rw (add-one k) (cc)
+
+module _ (s : List ℕ) (pairs k at : ℕ) (r : Bool) (e : r ≡ starts_elsewhere s k at) (f : at ≡ start_of pairs s k) where
+  same : r ≡ misplaced_at pairs s k
+  same = e ∙ ap (starts_elsewhere s k) f
+
+  elsewhere : LeftAny (misplaced_at pairs s) pairs k (any_up 0 pairs (misplaced_at pairs s)) → k < pairs → r ≡ true → true ≡ bad_directory pairs s
+  unfolding bad_directory
+  elsewhere inv h t = or_here (any_up 0 pairs (misplaced_at pairs s)) true _ (out-any inv h same t) refl
+
+  goes : LeftAny (misplaced_at pairs s) pairs k (any_up 0 pairs (misplaced_at pairs s)) → k < pairs → r ≡ false →
+      LeftAny (misplaced_at pairs s) pairs (k + 1) (any_up 0 pairs (misplaced_at pairs s))
+  goes inv h t = turn-any inv h same t
+
+module _ (s : List ℕ) (pairs k at : ℕ) (f : at ≡ start_of pairs s k) (l : k ≤ pairs) where
+  last : LeftAny (misplaced_at pairs s) pairs k (any_up 0 pairs (misplaced_at pairs s)) → pairs ≤ k → not (eqb at (length s)) ≡ bad_directory pairs s
+  unfolding bad_directory
+  last inv h =
+      let d : k ≡ pairs = omega arith in
+      or_past (any_up 0 pairs (misplaced_at pairs s)) false _ _ (done-any inv h) refl (ap (λ (n : ℕ). not (eqb n (length s))) (f ∙ ap (start_of pairs s) d))
+
+pub loop-k-init : goal.loop-k-init
+loop-k-init c = (search rules, omega arith, search (first), search (begin-any))
+
+pub returns-then-starts_elsewhere : goal.returns-then-starts_elsewhere
+returns-then-starts_elsewhere c = search (elsewhere)
+
+pub loop-k-preserved : goal.loop-k-preserved
+loop-k-preserved c = (search rules, search rules, search (next), search (goes))
+
+pub returns : goal.returns
+returns c = search (last)

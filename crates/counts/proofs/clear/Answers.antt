@@ -1,0 +1,15 @@
+-- `clear` meets its contract: what is left from i on gives the same. Assumes nothing.
+use borrow.Author.Rules.{rules}
+use Prim.Native.Nat.{◌-◌}
+use Rattle.loops.proofs.Laws.{loops}
+use Rattle.counts.proofs.Sums.{none_yet}
+use Rattle.counts.proofs.clear.Goals as goal
+
+pub loop-i-init : goal.loop-i-init
+loop-i-init c = search (loops, rules)
+
+pub loop-i-preserved : goal.loop-i-preserved
+loop-i-preserved c = search (loops, rules)
+
+pub returns : goal.returns
+returns c = (search (loops, rules), search (none_yet, loops, rules))

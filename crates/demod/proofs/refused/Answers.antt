@@ -1,0 +1,87 @@
+-- `refused` meets its contract: the sentences in their order, one return for each; what a later test asks was shown by those before it. Assumes nothing.
+use mathlib.Core.Path.{◌≡◌, sym, ◌∙◌}
+use mathlib.Core.Bool.{Bool, false}
+use mathlib.Core.List.{List}
+use Prim.Native.Nat.{ℕ, ◌*◌, ◌≤◌}
+use lib.IntN.{ℤ}
+use lib.ListN.{length}
+use lib.Ieee.{Float}
+use Rattle.sentences.specs.Sentences.{refusal}
+use Rattle.sentences.proofs.Laws.{sentences}
+use Rattle.layout.specs.declared.Layout.{Layout}
+use Rattle.layout.specs.Groups.{shape, placement, Shaped, Placed}
+use Rattle.layout.proofs.Laws.{shaped, placed, layouts}
+use Rattle.color.specs.Palette.{palette_len}
+use Rattle.observed.specs.Colours.{Exact}
+use Rattle.demod.specs.Call.{bad_lengths}
+use Rattle.observed.proofs.Places.{exact_xs, exact_ys}
+use Rattle.demod.proofs.Accepted.{Lengths, lengths_in}
+use Rattle.demod.proofs.refused.Goals as goal
+
+module _ (l : Layout) (xs ys : List ℤ) (raw : List Float) (cxs cys : List ℕ) (craw palette luma colours chroma : List Float) (r : Bool)
+    (e : r ≡ bad_lengths l xs ys raw cxs cys craw palette luma colours chroma) (f : r ≡ false) where
+  long : Lengths l xs ys raw cxs cys craw palette luma colours chroma
+  long = lengths_in l xs ys raw cxs cys craw palette luma colours chroma (sym e ∙ f)
+
+  modules-pair : length xs ≡ length ys
+  modules-pair = long.pairs.modules
+
+  cells-pair : length cxs ≡ length cys
+  cells-pair = long.pairs.cells
+
+  raw-three : 3 * length xs ≤ length raw
+  raw-three = long.raw-three
+
+  craw-three : 3 * length cxs ≤ length craw
+  craw-three = long.craw-three
+
+  palette-long : palette_len l.hues ≤ length palette
+  palette-long = long.palette-long
+
+module _ (l : Layout) (xs ys : List ℤ) (cxs cys : List ℕ) (s : Shaped l) (p : Placed l xs ys cxs cys) where
+  x_in : Exact xs (length xs)
+  x_in = exact_xs l.side l.grid xs ys s.side-most p.places-good
+
+  y_in : Exact ys (length xs)
+  y_in = exact_ys l.side l.grid xs ys s.side-most p.places-good
+
+module _ (l : Layout) (n : ℕ) (xs ys : List ℤ) (cxs cys : List ℕ) (m : ℕ) (e : n ≡ refusal (shape l)) (z : n ≡ 0) (f : m ≡ refusal (placement l xs ys cxs cys)) (y : m ≡ 0) where
+  x_exact : Exact xs (length xs)
+  x_exact = x_in l xs ys cxs cys (shaped l n e z) (placed l xs ys cxs cys m f y)
+
+  y_exact : Exact ys (length xs)
+  y_exact = y_in l xs ys cxs cys (shaped l n e z) (placed l xs ys cxs cys m f y)
+
+pub returns-then-shape-ne0 : goal.returns-then-shape-ne0
+returns-then-shape-ne0 c = search (layouts)
+
+pub returns-then-bad_lengths : goal.returns-then-bad_lengths
+returns-then-bad_lengths c = search (sentences, layouts) depth 9
+
+pub refused_placement-places-requires : goal.refused_placement-places-requires
+refused_placement-places-requires c = (search (shaped), record { modules = search (modules-pair); cells = search (cells-pair) })
+
+pub returns-then-places-ne0 : goal.returns-then-places-ne0
+returns-then-places-ne0 c = search (sentences, layouts) depth 9
+
+pub bad_inputs-requires : goal.bad_inputs-requires
+bad_inputs-requires c = (search (raw-three), search (craw-three), search (palette-long))
+
+pub returns-then-bad_inputs : goal.returns-then-bad_inputs
+returns-then-bad_inputs c = search (sentences, layouts) depth 9
+
+pub returns-then-bad_sigmas : goal.returns-then-bad_sigmas
+returns-then-bad_sigmas c = search (sentences, layouts) depth 9
+
+pub returns-then-bad_model : goal.returns-then-bad_model
+returns-then-bad_model c = search (sentences, layouts) depth 9
+
+pub bad_corrected-requires : goal.bad_corrected-requires
+bad_corrected-requires c =
+    (search (shaped), record { pairs = search (modules-pair); xs_exact = search (x_exact); ys_exact = search (y_exact); raw-three = search (raw-three) }, search (cells-pair), search (craw-three))
+
+pub returns-then-bad_corrected : goal.returns-then-bad_corrected
+returns-then-bad_corrected c = search (sentences, layouts) depth 9
+
+pub returns : goal.returns
+returns c = search (sentences, layouts) depth 9

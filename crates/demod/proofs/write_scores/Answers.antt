@@ -1,0 +1,56 @@
+-- `write_scores` meets its contract: the chroma list takes each module's colour from the list that was written, which holds it; the report is the two counts. Assumes nothing.
+use mathlib.Core.Path.{◌≡◌, ap, ◌∙◌}
+use borrow.Author.Rules.{rules}
+use mathlib.Core.List.{List}
+use Prim.Native.Nat.{ℕ, ◌<◌}
+use lib.IntN.{ℤ}
+use lib.ListN.{length}
+use lib.Ieee.{Float}
+use Rattle.layout.specs.declared.Layout.{Layout}
+use Rattle.color.specs.Palette.{linear_at}
+use Rattle.illum.specs.declared.IlluminationModel.{IlluminationModel}
+use Rattle.stats.specs.declared.ChannelStats.{ChannelStats}
+use Rattle.demod.specs.Ready.{Scorable}
+use Rattle.observed.specs.Colours.{held_module_count}
+use Rattle.scores.specs.Score.{Sheet, sheet, chroma_written, chroma_held}
+use Rattle.demod.specs.declared.ScoreReport.{ScoreReport}
+use Rattle.demod.specs.declared.Scored.TheVariants.{Done}
+use Rattle.demod.specs.Call.{Request, request, module_colours, cell_colours, report_of, final, done, written_modules}
+use Rattle.scores.proofs.Written.{modules_are}
+use Rattle.scores.proofs.Apart.{chroma_same}
+use Rattle.demod.proofs.write_scores.Goals as goal
+
+module _ (layout : Layout) (xs ys : List ℤ) (raw : List Float) (cxs cys : List ℕ) (craw palette : List Float) (model : IlluminationModel) (noise : ChannelStats) (luma colours chroma : List Float)
+    (s : Scorable layout xs ys raw cxs cys craw palette luma colours chroma) (luma' colours' chroma' : List Float) where
+  abbrev q : Request
+  q = request layout xs ys raw cxs cys craw palette model noise luma colours chroma
+
+  abbrev report : ℕ → ℕ → ScoreReport
+  report a b = record { held_modules = a; held_cells = b }
+
+  reports : (a b : ℕ) → a ≡ held_module_count model xs ys (length xs) → b ≡ chroma_held layout model cxs cys → report a b ≡ report_of q
+  unfolding report_of
+  reports a b ea eb = rw (ea, eb)
+
+  module _ (h : sheet luma' colours' ≡ written_modules q) where
+    colour_is : (j : ℕ) → j < length xs → linear_at colours' j ≡ module_colours q j
+    colour_is j i =
+        ap (λ (s : Sheet). linear_at s.colours j) h
+        ∙ (modules_are noise palette layout.hues (module_colours q) luma colours (length xs) s.luma-long s.modules.colours-three).coloured j i
+
+    wrote : (a b : ℕ) → a ≡ held_module_count model xs ys (length xs) → b ≡ chroma_held layout model cxs cys
+        → chroma' ≡ chroma_written layout noise palette (linear_at colours') (length xs) cxs cys (cell_colours q) chroma → final (Done (report a b)) luma' colours' chroma' ≡ done q
+    wrote a b ea eb k =
+        ap (λ (z : ScoreReport). final (Done z) luma' colours' chroma') (reports a b ea eb)
+        ∙ ap (λ (s : Sheet). final (Done (report_of q)) s.luma s.colours chroma') h
+        ∙ ap (final (Done (report_of q)) (written_modules q).luma (written_modules q).colours) (k ∙ chroma_same layout noise palette (linear_at colours') (module_colours q) (length xs) cxs cys (cell_colours q) chroma colour_is)
+
+pub sigmas_of-sigmas-requires : goal.sigmas_of-sigmas-requires
+sigmas_of-sigmas-requires c = record { hues-good = search rules; palette-long = search rules }
+
+pub write_chroma-held_cells-requires : goal.write_chroma-held_cells-requires
+write_chroma-held_cells-requires c =
+    (record { shaped = search rules; tables = search rules; cells = search rules }, record { grid-most = search rules; most = search rules; colours-three = search rules }, search rules, search rules)
+
+pub returns : goal.returns
+returns c = search (wrote)

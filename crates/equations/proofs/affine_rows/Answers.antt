@@ -1,0 +1,15 @@
+-- `equations::affine_rows` meets its contract: what is left from i on adds the rest.
+-- Assumes nothing.
+use Prim.Native.Nat.{◌-◌}
+use Rattle.loops.proofs.Laws.{loops}
+use borrow.Author.Rules.{rules}
+use Rattle.equations.proofs.affine_rows.Goals as goal
+
+pub loop-i-init : goal.loop-i-init
+loop-i-init c = search (loops, rules)
+
+pub loop-i-preserved : goal.loop-i-preserved
+loop-i-preserved c = search (loops, rules)
+
+pub returns : goal.returns
+returns c = search (loops, rules)

@@ -1,0 +1,90 @@
+-- `float::sqrt` meets its contract. The tests on the pattern part the special values, and for the rest `isqrt` gives the 25 digits that
+-- `proofs/Rounding.antt` asks for. Assumes nothing.
+use Rattle.std.proofs.Common.{◌≡◌, ℕ, ◌+◌, ◌*◌, ◌%◌, ◌^◌, ◌<◌, ◌≤◌, false, T, sym, ap, ◌∙◌, subst, arith}
+use lib.Ieee.{binary32, fits, to_bits}
+use lib.Ieee.Bits.{to_bits-lt}
+use Rattle.floatlaws.specs.Nan.{no_nan, zero_by_zero}
+use Rattle.floatlaws.specs.Bits.{value_of, real-pattern}
+use Rattle.float.specs.Parts.{Split}
+use Rattle.float.specs.Root.{root_of_units}
+use Rattle.float.proofs.Rounding.{moved_lt, moved-below, sqrt-nan, sqrt-zero, sqrt-inf, sqrt_negative, sqrt-finite, sqrt-digits, sqrt-made}
+use Rattle.float.proofs.Rounding.{clear}
+use Rattle.float.proofs.sqrt.Goals as goal
+
+-- the format holds what the function is handed
+held : (c : tie.Start) → T (fits binary32 c.args.x)
+held c = subst T (sym c.well_formed.0.1) tt
+
+-- what `split` gave
+parts : (c : tie.After-split)
+    → Split (value_of binary32 (to_bits binary32 c.before.before.before.before.args.x)) c.split.result.m c.split.result.s
+parts c = c.split.ensures
+
+small-shift : (s : ℕ) → 25 + s % 2 ≤ 40
+small-shift s = omega arith
+
+moved : (c : tie.After-split)
+    → (c.split.result.m * 2 ^ (25 + c.split.result.s % 2)) % 2 ^ 64 ≡ c.split.result.m * 2 ^ (25 + c.split.result.s % 2)
+moved c = moved_lt c.split.result.m (25 + c.split.result.s % 2) (parts c).under (small-shift c.split.result.s)
+
+module _ (c : tie.After-isqrt) where
+  at_least : c.isqrt.result * c.isqrt.result ≤ c.before.before.before.before.before.split.result.m * 2 ^ (25 + c.before.before.before.before.before.split.result.s % 2)
+  at_least = subst (λ (a : ℕ). c.isqrt.result * c.isqrt.result ≤ a) (moved c.before.before.before.before.before) c.isqrt.ensures.0
+
+  below : c.before.before.before.before.before.split.result.m * 2 ^ (25 + c.before.before.before.before.before.split.result.s % 2) < (c.isqrt.result + 1) * (c.isqrt.result + 1)
+  below = subst (λ (a : ℕ). a < (c.isqrt.result + 1) * (c.isqrt.result + 1)) (moved c.before.before.before.before.before) c.isqrt.ensures.1
+
+  digits : (0x100_0000 ≤ c.isqrt.result) × (c.isqrt.result < 0x200_0000)
+  digits = sqrt-digits _ _ _ c.isqrt.result (parts c.before.before.before.before.before) at_least below
+
+pub returns-then-x : goal.returns-then-x
+returns-then-x c = sqrt-nan c.args.x c.if-x.true
+
+pub float_to_bits-bits : goal.float_to_bits-bits
+float_to_bits-bits c = no_nan c.args.x c.if-x.false
+
+pub returns-then-bits : goal.returns-then-bits
+returns-then-bits c = sqrt-zero _ (held c) (omega (arith, c.if-bits.true))
+
+pub returns-then-bits-gt2147483648 : goal.returns-then-bits-gt2147483648
+returns-then-bits-gt2147483648 c =
+    let at = c in
+    zero_by_zero binary32 ∙ sym
+    (sqrt_negative at.args.x (held at) (float-to-bits-bits c) (omega arith)
+    (omega (arith, to_bits-lt binary32 at.args.x (held at))))
+
+pub returns-then-bits-ge2139095040 : goal.returns-then-bits-ge2139095040
+returns-then-bits-ge2139095040 c =
+    let below = clear (to_bits binary32 c.args.x) c.if-bits-gt2147483648.false c.if-bits.false in
+    sqrt-inf _ (held c) (float-to-bits-bits c) below (omega arith)
+
+pub returns-then-bits-eq0 : goal.returns-then-bits-eq0
+returns-then-bits-eq0 c = sqrt-zero _ (held c) (omega (arith, c.if-bits-eq0.true))
+
+pub isqrt-requires : goal.isqrt-requires
+isqrt-requires c =
+    let p = c in
+    subst (λ (a : ℕ). a < 2 ^ 50) (sym (moved p)) (moved-below _ (25 + p.split-p.result.s % 2) 26 (parts p).under (omega arith))
+
+pub overflow_add-q : goal.overflow_add-q
+overflow_add-q c = omega (arith, digits c)
+
+pub overflow_cast-result : goal.overflow_cast-result
+overflow_cast-result c = omega (arith, digits c)
+
+pub overflow_add-result-2 : goal.overflow_add-result-2
+overflow_add-result-2 c = omega (arith, digits c, (parts c).far)
+
+pub float_from_bits-result : goal.float_from_bits-result
+float_from_bits-result c = real-pattern binary32 _ (omega (arith, digits c, (parts c).far))
+
+pub returns : goal.returns
+returns c =
+    let at = c in
+    let x = at.args.x in
+    let b = to_bits binary32 x in
+    let e : b % 0x8000_0000 ≡ b = omega arith in
+    let l : 0 < b = omega (arith, c.if-bits-eq0.false) in
+    sym (sqrt-finite x (held at) (omega arith) (omega arith) (omega arith)
+    ∙ ap (λ (y : ℕ). root_of_units 2 false (value_of binary32 y)) e
+    ∙ sqrt-made _ _ _ c.isqrt.result (parts c) (at_least c) (below c))

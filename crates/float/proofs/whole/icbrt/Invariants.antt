@@ -1,0 +1,9 @@
+-- `float::whole::icbrt` meets its contract. The interval from lo to hi always holds the root, and the measure is its length. Assumes nothing.
+use Rattle.std.proofs.Common.{◌-◌, ◌*◌, ◌<◌, ◌≤◌}
+use Rattle.float.proofs.whole.icbrt.Given as goal
+
+abbrev pub invariant-loop-lo : goal.invariant-loop-lo
+invariant-loop-lo l = (l.lo < l.hi) × (l.hi ≤ 512) × (l.lo * l.lo * l.lo ≤ l.a) × (l.a < l.hi * l.hi * l.hi)
+
+abbrev pub decreases-loop-lo : goal.decreases-loop-lo
+decreases-loop-lo l = l.hi - l.lo

@@ -1,0 +1,52 @@
+-- `float::whole::icbrt_slow` meets its contract. The invariant is `Digits` of `proofs/Cubes.antt`: q is the whole part of the cube root of a * 8 ^
+-- i, and r is what is left. Assumes nothing.
+use Rattle.std.proofs.Common.{◌≡◌, ℕ, ◌-◌, ◌<◌, sym, subst₂, ⊎_elim, arith}
+use Rattle.float.proofs.Cubes.{square-fits, cube-fits, pair_fits, pairs-fit, step_fits, rest-fits, Digits, short, begin, one, none, done}
+use Rattle.float.proofs.whole.icbrt_slow.Goals as goal
+
+-- in a turn, q is short
+small : (c : tie.In-loop invariant-loop decreases-loop) → c.before.loop.q < 16777216
+small c = short c.before.loop.q c.before.loop.i c.loop-test.true c.before.loop.invariant.1
+
+moved : (a i : ℕ) {q r q' r' : ℕ} → q' ≡ q → r' ≡ r → Digits a q r i → Digits a q' r' i
+moved a i e f d = subst₂ (λ (x y : ℕ). Digits a x y i) (sym e) (sym f) d
+
+pub overflow_mul-r : goal.overflow_mul-r
+overflow_mul-r c = record { fits = square-fits _ (omega arith) }
+
+pub overflow_mul-r-2 : goal.overflow_mul-r-2
+overflow_mul-r-2 c = record { fits = cube-fits _ (omega arith) }
+
+pub loop-i-init : goal.loop-i-init
+loop-i-init c = begin _ _ c.icbrt-q.ensures.0 c.icbrt-q.ensures.1.0 c.icbrt-q.ensures.1.1
+
+pub overflow_add-p : goal.overflow_add-p
+overflow_add-p c = omega (arith, small c)
+
+pub overflow_add-step : goal.overflow_add-step
+overflow_add-step c = omega (arith, small c)
+
+pub overflow_mul-step : goal.overflow_mul-step
+overflow_mul-step c = record { fits = pair_fits _ (small c) }
+
+pub overflow_mul-step-in-loop-i : goal.overflow_mul-step-in-loop-i
+overflow_mul-step-in-loop-i c = record { fits = pairs-fit _ (small c) }
+
+pub overflow_add-step-in-loop-i : goal.overflow_add-step-in-loop-i
+overflow_add-step-in-loop-i c = record { fits = step_fits _ (small c) }
+
+pub overflow_mul-r-in-loop-i : goal.overflow_mul-r-in-loop-i
+overflow_mul-r-in-loop-i c = record { fits = rest-fits _ _ (small c) c.loop-i.invariant.3 }
+
+pub overflow_add-q : goal.overflow_add-q
+overflow_add-q c = omega (arith, small c)
+
+pub loop-i-preserved : goal.loop-i-preserved
+loop-i-preserved c =
+    let at = c in
+    ⊎_elim (λ w. moved _ _ w.1 w.2 (one _ _ _ _ at.loop-i.invariant c.loop-i-test.true w.0.taken))
+    (λ w. moved _ _ w.1 w.2 (none _ _ _ _ at.loop-i.invariant c.loop-i-test.true w.0.left))
+    c.if-step-r.branch
+
+pub returns : goal.returns
+returns c = done _ _ _ _ c.loop-i.invariant c.loop-i-test.false

@@ -1,0 +1,16 @@
+-- `local::above` meets its contract: what is left of the samples from i on takes the classes to the answer. Assumes nothing.
+use Prim.Native.Nat.{◌-◌}
+use borrow.Author.Rules.{rules}
+use Rattle.loops.proofs.Laws.{loops}
+use Rattle.local.specs.Local.{above_at}
+use Rattle.local.proofs.above.Goals as goal
+
+pub loop-i-init : goal.loop-i-init
+loop-i-init c = search (loops, rules)
+
+pub loop-i-preserved : goal.loop-i-preserved
+unfolding above_at
+loop-i-preserved c = search (loops, rules)
+
+pub returns : goal.returns
+returns c = search (loops, rules)

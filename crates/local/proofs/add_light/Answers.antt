@@ -1,0 +1,16 @@
+-- `local::add_light` meets its contract: the same sums. Assumes nothing.
+use mathlib.Core.Bool.{Bool}
+use mathlib.Core.Path.{◌≡◌}
+use lib.Ieee.{Float, of_bits}
+use Rattle.local.specs.Local.{one64, weight_of}
+use Rattle.local.specs.Sums.{gain, lights, add_light}
+use Rattle.local.specs.declared.LightSums.{LightSums}
+use Rattle.local.proofs.add_light.Goals as goal
+
+added : (dx dy t k : Float) (light : Bool) (s : LightSums) → k ≡ weight_of light → lights (gain s.n one64 k) (gain s.x dx k) (gain s.y dy k) (gain s.t k t) ≡ add_light dx dy t light s
+unfolding add_light
+added dx dy t k light s e = rw (← e)
+
+pub returns : goal.returns
+unfolding of_bits
+returns c = search (added)

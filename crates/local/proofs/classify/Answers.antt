@@ -1,0 +1,25 @@
+-- `local::classify` meets its contract: what is left of the samples from i on takes the classes to the answer. Assumes nothing.
+use mathlib.Core.Path.{◌≡◌}
+use Prim.Native.Nat.{ℕ, ◌-◌}
+use borrow.Author.Rules.{rules}
+use Rattle.loops.proofs.Laws.{loops}
+use Rattle.local.specs.Local.{dx_at, dy_at, y_at, classes, classify_by, classify_at, classified}
+use Rattle.local.specs.declared.Classes.{Classes}
+use Rattle.local.specs.declared.Window.{Window}
+use Rattle.local.proofs.classify.Goals as goal
+
+stepped : (w : Window) (i : ℕ) (s t : Classes) → t ≡ classify_by (dx_at w i) (dy_at w i) (y_at w i) i s → t ≡ classify_at w i s
+unfolding classify_at
+stepped w i s t e = e
+
+whole : (w : Window) (c s : Classes) → s ≡ classified w (classes c.light c.moved c.plane) → s ≡ classified w c
+whole w c s e = e
+
+pub loop-i-init : goal.loop-i-init
+loop-i-init c = search (loops, rules)
+
+pub loop-i-preserved : goal.loop-i-preserved
+loop-i-preserved c = search (stepped, loops, rules)
+
+pub returns : goal.returns
+returns c = search (whole, loops, rules)

@@ -1,0 +1,14 @@
+-- `math::add_products` meets its contract: what is left of the row gives the same matrix. Assumes nothing.
+use Prim.Native.Nat.{◌-◌}
+use borrow.Author.Rules.{rules}
+use Rattle.loops.proofs.Laws.{loops}
+use Rattle.math.proofs.add_products.Goals as goal
+
+pub loop-j-init : goal.loop-j-init
+loop-j-init c = search (loops, rules)
+
+pub loop-j-preserved : goal.loop-j-preserved
+loop-j-preserved c = search (loops, rules)
+
+pub returns : goal.returns
+returns c = search (loops, rules)

@@ -1,0 +1,14 @@
+-- `math::add_rows` meets its contract: what is left of the rows gives the same equations. Assumes nothing.
+use Prim.Native.Nat.{◌-◌}
+use borrow.Author.Rules.{rules}
+use Rattle.loops.proofs.Laws.{loops}
+use Rattle.math.proofs.add_rows.Goals as goal
+
+pub loop-k-init : goal.loop-k-init
+loop-k-init c = search (loops, rules)
+
+pub loop-k-preserved : goal.loop-k-preserved
+loop-k-preserved c = search (loops, rules)
+
+pub returns : goal.returns
+returns c = search (loops, rules)

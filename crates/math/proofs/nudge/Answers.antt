@@ -1,0 +1,14 @@
+-- `math::nudge` meets its contract: what is left of the diagonal gives the same matrix. Assumes nothing.
+use Prim.Native.Nat.{◌-◌}
+use borrow.Author.Rules.{rules}
+use Rattle.loops.proofs.Laws.{loops}
+use Rattle.math.proofs.nudge.Goals as goal
+
+pub loop-i-init : goal.loop-i-init
+loop-i-init c = search (loops, rules)
+
+pub loop-i-preserved : goal.loop-i-preserved
+loop-i-preserved c = search (loops, rules)
+
+pub returns : goal.returns
+returns c = search (loops, rules)

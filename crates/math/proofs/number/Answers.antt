@@ -1,0 +1,12 @@
+-- `math::number` meets its contract: it tries the two sentences in their order. Assumes nothing.
+use Rattle.sentences.proofs.Laws.{sentences}
+use Rattle.math.proofs.number.Goals as goal
+
+pub returns-then-short : goal.returns-then-short
+returns-then-short c = search (sentences)
+
+pub returns-then-bad : goal.returns-then-bad
+returns-then-bad c = search (sentences)
+
+pub returns : goal.returns
+returns c = search (sentences)

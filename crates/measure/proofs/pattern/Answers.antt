@@ -1,0 +1,21 @@
+-- `measure::pattern` meets its contract: a pattern has 32 digits. Assumes nothing.
+use mathlib.Core.Path.{sym, subst}
+use native.Mathlib.Omega.{arith}
+use lib.Dec.{T}
+use lib.Ieee.{binary32, fits}
+use lib.Ieee.Bits.{to_bits-lt}
+use Rattle.floatlaws.specs.Nan.{no_nan}
+use Rattle.measure.proofs.pattern.Goals as goal
+
+-- the format holds what the function is handed
+fit : (c : tie.Start) → T (fits binary32 c.args.x)
+fit c = subst T (sym c.well_formed.0.1) tt
+
+pub float_to_bits-result : goal.float_to_bits-result
+float_to_bits-result c = search (no_nan)
+
+pub overflow_cast-result : goal.overflow_cast-result
+overflow_cast-result c = omega (arith, to_bits-lt binary32 c.args.x (fit c))
+
+pub returns : goal.returns
+returns c = omega (arith, to_bits-lt binary32 c.args.x (fit c))

@@ -1,0 +1,47 @@
+-- `measure::refused` meets its contract: the sentences, one after the other; past 2 the side is at most 1,024, past 5 the palette is long enough, and past 6 the references stand in the slice. Assumes nothing.
+use mathlib.Core.Path.{◌≡◌, sym, ◌∙◌}
+use mathlib.Core.Bool.{Bool, false}
+use Prim.Native.Nat.{ℕ, ◌≤◌}
+use Rattle.sentences.proofs.Laws.{sentences}
+use Rattle.limits.specs.Limits.{bad_side}
+use Rattle.limits.proofs.Laws.{side_in}
+use Rattle.references.proofs.Laws.{stand-placed, placements}
+use Rattle.measure.proofs.Accepted.{palette_in}
+use borrow.Author.Rules.{rules}
+use Rattle.measure.proofs.refused.Goals as goal
+
+most : (side : ℕ) (r : Bool) → r ≡ bad_side side → r ≡ false → side ≤ 1024
+most side r e f = (side_in side (sym e ∙ f)).1
+
+pub returns-then-bad_side : goal.returns-then-bad_side
+returns-then-bad_side c = search (sentences)
+
+pub returns-then-bad_hues : goal.returns-then-bad_hues
+returns-then-bad_hues c = search (sentences) depth 9
+
+pub returns-then-too_short : goal.returns-then-too_short
+returns-then-too_short c = search (sentences) depth 9
+
+pub refused_references-placed-requires : goal.refused_references-placed-requires
+refused_references-placed-requires c = (search (most), search rules)
+
+pub returns-then-placed-ne0 : goal.returns-then-placed-ne0
+returns-then-placed-ne0 c = search (sentences, placements) depth 9
+
+pub wild_numbers-requires : goal.wild_numbers-requires
+wild_numbers-requires c = (search (stand-placed), search (palette_in))
+
+pub returns-then-wild_numbers : goal.returns-then-wild_numbers
+returns-then-wild_numbers c = search (sentences, placements) depth 9
+
+pub returns-then-bad_model : goal.returns-then-bad_model
+returns-then-bad_model c = search (sentences, placements) depth 9
+
+pub bad_corrected-requires : goal.bad_corrected-requires
+bad_corrected-requires c = search (stand-placed)
+
+pub returns-then-bad_corrected : goal.returns-then-bad_corrected
+returns-then-bad_corrected c = search (sentences, placements) depth 9
+
+pub returns : goal.returns
+returns c = search (sentences, placements) depth 9

@@ -1,0 +1,34 @@
+-- `measure::wild_corrected` meets its contract: what is left from i on says the same. A colour in reach of the model is not wild; any other is looked at. Assumes nothing.
+use mathlib.Core.Path.{refl, sym}
+use mathlib.Core.Logic.{⊎_elim}
+use mathlib.Core.Bool.{false}
+use Prim.Native.Nat.{◌-◌}
+use Rattle.loops.proofs.Laws.{turn-any, loops}
+use Rattle.illum.proofs.Moderate.{in_reach}
+use Rattle.measure.proofs.Observed.{seen-wild}
+use borrow.Author.Rules.{rules}
+use Rattle.measure.proofs.wild_corrected.Goals as goal
+
+pub loop-i-init : goal.loop-i-init
+loop-i-init c = search (loops, rules)
+
+pub returns-then-wild_mix : goal.returns-then-wild_mix
+returns-then-wild_mix c =
+    let at = c in
+    let step = seen-wild _ _ _ _ _ _ at.seen_at-o.ensures c.unshade-d.ensures refl _ c.wild_mix.ensures in
+    search (step, at.loop-i-test, at.loop-i, loops, rules)
+
+pub loop-i-preserved : goal.loop-i-preserved
+loop-i-preserved c =
+    let at = c in
+    let g = at.loop-i.invariant in
+    ⊎_elim
+    (λ w. turn-any g at.loop-i-test.true (seen-wild _ _ _ _ _ _ at.seen_at-o.ensures w.1.ensures refl _ w.2.ensures) w.3.left)
+    (λ w. turn-any g at.loop-i-test.true
+    (seen-wild _ _ _ _ _ _ at.seen_at-o.ensures refl refl false
+    (sym (in_reach _ _ _ _ _ _ at.reach-reach.ensures c.within.ensures w.left)))
+    refl)
+    c.if-not-within.branch
+
+pub returns : goal.returns
+returns c = search (loops, rules)

@@ -1,0 +1,24 @@
+-- `modulate::cell_hue` meets its contract: refused by the first sentence that holds, or the hue. Assumes nothing.
+use mathlib.Core.Path.{◌≡◌}
+use Prim.Native.Nat.{ℕ}
+use Rattle.symbols.specs.Gray.{chroma_symbol_to_hue}
+use Rattle.symbols.specs.Mask.{chroma_mask_apply}
+use Rattle.modulate.specs.Draw.{cell_hue}
+use Rattle.answers.proofs.Answers.{says-refused, says-given, cell-hues-some, cell-hues-few}
+use Rattle.modulate.proofs.cell_hue.Goals as goal
+
+steps : (s cx cy k h r : ℕ) → h ≡ chroma_symbol_to_hue s k → r ≡ chroma_mask_apply h cx cy k → r ≡ cell_hue s cx cy k
+unfolding cell_hue
+steps s cx cy k h r e f = cc
+
+pub returns-then-n-ne0 : goal.returns-then-n-ne0
+returns-then-n-ne0 c = search (says-refused)
+
+pub symbol_hue-requires : goal.symbol_hue-requires
+symbol_hue-requires c = search (cell-hues-some)
+
+pub apply-requires : goal.apply-requires
+apply-requires c = search (cell-hues-some, cell-hues-few)
+
+pub returns : goal.returns
+returns c = search (says-given, steps)

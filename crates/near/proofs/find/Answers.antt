@@ -1,0 +1,38 @@
+-- `near::find` meets its contract: case by case.
+-- Assumes nothing.
+use mathlib.Core.Path.{◌≡◌}
+use mathlib.Core.Bool.{Bool}
+use mathlib.Core.List.{List}
+use Prim.Native.Nat.{ℕ}
+use lib.IntN.{ℤ}
+use lib.Ieee.{Float}
+use Rattle.near.specs.declared.Query.{Query}
+use Rattle.near.specs.declared.Query.TheVariants as query
+use Rattle.near.specs.Near.{chosen, FirstThree, All, IsPromised}
+use Rattle.near.proofs.find.Goals as goal
+
+-- after the match the query is known by its case
+module _ (q : Query) (b : ℕ → ℕ → Bool) (xy : List Float) (kept : List ℕ) (cx cy : Float) (n m : ℕ) (o : List ℕ) where
+  three : q ≡ query.Nearest → FirstThree b (chosen q xy kept cx cy) n m o → IsPromised q b (chosen q xy kept cx cy) n m o
+  unfolding IsPromised
+  three e h = rw e (rw e at h)
+
+  inside : (r : Float) → q ≡ query.Within r → All b (chosen (query.Within r) xy kept cx cy) n m o → IsPromised q b (chosen q xy kept cx cy) n m o
+  unfolding IsPromised
+  inside r e h = rw e h
+
+  cut : (c : ℤ) → q ≡ query.CutOff c → All b (chosen (query.CutOff c) xy kept cx cy) n m o → IsPromised q b (chosen q xy kept cx cy) n m o
+  unfolding IsPromised
+  cut c e h = rw e h
+
+pub returns-in-Nearest : goal.returns-in-Nearest
+returns-in-Nearest c =
+    let s = c.args in
+    let e : s.query-1 ≡ query.Nearest = cc in
+    (three _ _ _ _ _ _ _ _ _ e c.nearest.ensures.0, c.nearest.ensures.1)
+
+pub returns-in-Within : goal.returns-in-Within
+returns-in-Within c = (inside _ _ _ _ _ _ _ _ _ _ c.query-1.given.1 c.list_all.ensures.0, c.list_all.ensures.1)
+
+pub returns-in-CutOff : goal.returns-in-CutOff
+returns-in-CutOff c = (cut _ _ _ _ _ _ _ _ _ _ c.query-in-CutOff-1.given.1 c.list_all-in-CutOff.ensures.0, c.list_all-in-CutOff.ensures.1)

@@ -1,0 +1,40 @@
+-- `near::offer` meets its contract: one case for each way out.
+-- Assumes nothing.
+use mathlib.Core.Path.{refl, sym, ap, ◌∙◌}
+use borrow.Author.Tests.{not-true, not-false}
+use native.Mathlib.Omega.{arith}
+use Rattle.near.specs.Near.{before, passed, added, last, instead}
+use Rattle.near.proofs.offer.Goals as goal
+
+pub returns-then-not-chosen : goal.returns-then-not-chosen
+returns-then-not-chosen c = passed (sym c.chosen.ensures ∙ not-true _ c.if-not-chosen.true) refl refl
+
+pub put-requires : goal.put-requires
+put-requires c =
+    let s = c.requires in
+    (s.0, s.3, s.4, omega arith, s.6)
+
+pub returns-then-m-lt3 : goal.returns-then-m-lt3
+returns-then-m-lt3 c =
+    added (sym c.chosen.ensures ∙ not-false _ c.if-not-chosen.false) c.if-m-lt3.true refl c.put.ensures
+
+pub before-requires : goal.before-requires
+before-requires c =
+    let s = c.requires in
+    let w = s.6.below 2 (omega arith) in
+    (omega arith, omega (arith, c.wide.ensures))
+
+pub returns-then-not-before : goal.returns-then-not-before
+returns-then-not-before c =
+    last (sym c.chosen.ensures ∙ not-false _ c.if-not-chosen.false) c.if-m-lt3.false
+    (ap (before _ _ _ _) (sym c.wide.ensures) ∙ sym c.before-2.ensures ∙ not-true _ c.if-not-before.true) refl refl
+
+pub put-requires-2 : goal.put-requires-2
+put-requires-2 c =
+    let s = c.requires in
+    (s.0, s.3, s.4, omega arith, record { below = λ j h. s.6.below j (omega arith) })
+
+pub returns : goal.returns
+returns c =
+    instead (sym c.chosen.ensures ∙ not-false _ c.if-not-chosen.false) c.if-m-lt3.false
+    (ap (before _ _ _ _) (sym c.wide.ensures) ∙ sym c.before-2.ensures ∙ not-false _ c.if-not-before.false) refl c.put-2.ensures

@@ -1,0 +1,10 @@
+-- `near::sort` meets its contract: every pass leaves the same places, and the last one sorts them.
+-- Assumes nothing.
+use Rattle.near.specs.Order.{Mixed}
+use Rattle.near.proofs.sort.Given as goal
+
+abbrev pub invariant-loop-gap : goal.invariant-loop-gap
+invariant-loop-gap l = Mixed l.m l.initial.out l.out
+
+abbrev pub decreases-loop-gap : goal.decreases-loop-gap
+decreases-loop-gap l = l.gap

@@ -1,0 +1,65 @@
+-- `page::show_at` meets its contract: a module off the grid changes nothing, one on it stands in one of the grid's columns and rows. Assumes nothing.
+use mathlib.Core.Path.{◌≡◌, sym, ap, ◌∙◌}
+use mathlib.Core.Bool.{Bool, true, false}
+use mathlib.Core.List.{List}
+use Prim.Native.Nat.{ℕ, ◌+◌, ◌*◌, ◌≤◌, ◌<◌}
+use native.Mathlib.Omega.{arith}
+use borrow.Author.Rules.{rules}
+use lib.IntN.{ℤ, pos, nat_abs}
+use lib.ListN.{get_or, set}
+use lib.Ieee.{Float, nan}
+use mir.Syntax.{w8}
+use mir.Val.{Fits}
+use Rattle.sentences.proofs.Laws.{neither}
+use Rattle.places.specs.Places.{outside, off_grid}
+use Rattle.places.proofs.Placed.{on_grid}
+use Rattle.reading.specs.Read.{reads}
+use Rattle.reading.proofs.Erasure.{reads-most}
+use Rattle.page.specs.Lines.{page_length, modules}
+use Rattle.page.specs.Steps.{show_at}
+use Rattle.page.proofs.show_at.Goals as goal
+
+digit-fits : (v : Float) (r : ℕ) → r ≡ reads v → Fits w8 (48 + r)
+digit-fits v r e = record { fits = omega (arith, reads-most v) }
+
+module _ (side : ℕ) (x y : ℤ) (r : Bool) (e : r ≡ off_grid side x y) (f : r ≡ false) where
+  on_x : outside side 0 x ≡ false
+  on_x = (neither (outside side 0 x) (outside side 0 y) (sym e ∙ f)).0
+
+  on_y : outside side 0 y ≡ false
+  on_y = (neither (outside side 0 x) (outside side 0 y) (sym e ∙ f)).1
+
+  place_in : (a b n : ℕ) → pos a ≡ x → pos b ≡ y → side ≤ 50 → page_length side ≤ n → (50 + 1) * (b + 1) + a < n
+  place_in a b n ea eb w l =
+      let p = (on_grid side x on_x).0 in
+      let q = (on_grid side y on_y).0 in
+      let u : nat_abs x ≡ a = sym (ap nat_abs ea) in
+      let v : nat_abs y ≡ b = sym (ap nat_abs eb) in
+      omega arith
+
+module _ (side : ℕ) (xs ys : List ℤ) (luma : List Float) (i : ℕ) (out : List ℕ) (r : Bool) (e : r ≡ off_grid side (get_or xs i (pos 0)) (get_or ys i (pos 0))) where
+  stays : r ≡ true → out ≡ show_at (modules side xs ys luma) i out
+  unfolding show_at
+  stays t = rw (← e, t)
+
+  wrote : (a b v : ℕ) → r ≡ false → pos a ≡ get_or xs i (pos 0) → pos b ≡ get_or ys i (pos 0) → v ≡ reads (get_or luma i nan) → set out ((50 + 1) * (b + 1) + a) (48 + v) ≡ show_at (modules side xs ys luma) i out
+  unfolding show_at
+  wrote a b v f ea eb ev = rw (← e, f, ← ea, ← eb, ev)
+
+pub returns-then-off_grid_at : goal.returns-then-off_grid_at
+returns-then-off_grid_at c = search (stays)
+
+pub coordinate_at-x-requires : goal.coordinate_at-x-requires
+coordinate_at-x-requires c = (search rules, search rules, search (on_x))
+
+pub coordinate_at-y-requires : goal.coordinate_at-y-requires
+coordinate_at-y-requires c = (search rules, search rules, search (on_y))
+
+pub overflow_add-out : goal.overflow_add-out
+overflow_add-out c = search (digit-fits)
+
+pub bounds-out-y : goal.bounds-out-y
+bounds-out-y c = search (place_in)
+
+pub returns : goal.returns
+returns c = search (wrote)

@@ -1,0 +1,15 @@
+-- `reader::measure_card` meets its contract: the scratch is 4 zeros a reference; the line of a refusal, or what follows the noise record. Assumes nothing.
+use borrow.Author.Rules.{rules}
+use Rattle.readout.proofs.Lists.{same_long}
+use Rattle.reader.proofs.Lists.{scratch_first}
+use Rattle.reader.proofs.Next.{measured, not-measured}
+use Rattle.reader.proofs.measure_card.Goals as goal
+
+pub slice_bounds-measure_flat-end : goal.slice_bounds-measure_flat-end
+slice_bounds-measure_flat-end c = same_long _ 2040 _ (search rules)
+
+pub returns-in-Refused : goal.returns-in-Refused
+returns-in-Refused c = search (not-measured, scratch_first)
+
+pub returns-in-Record : goal.returns-in-Record
+returns-in-Record c = search (measured, scratch_first)

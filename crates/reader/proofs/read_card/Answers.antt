@@ -1,0 +1,14 @@
+-- `reader::read_card` meets its contract: a file that is refused is listed by its number, any other has what the calls after it need. Assumes nothing.
+use Rattle.reader.proofs.Next.{opens, not_opened}
+use Rattle.reader.proofs.Held.{fits}
+use Rattle.reader.proofs.Room.{refused_in, opened_in}
+use Rattle.reader.proofs.read_card.Goals as goal
+
+pub read_opened-requires : goal.read_opened-requires
+read_opened-requires c = search (fits)
+
+pub returns-in-Refused : goal.returns-in-Refused
+returns-in-Refused c = (search (not_opened), search (refused_in))
+
+pub returns-in-Accepted : goal.returns-in-Accepted
+returns-in-Accepted c = (search (opens), search (opened_in))

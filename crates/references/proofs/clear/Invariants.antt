@@ -1,0 +1,14 @@
+-- `references::clear` meets its contract: before turn i the first i places are zero.
+-- Assumes nothing.
+use mathlib.Core.Path.{◌≡◌}
+use Prim.Native.Nat.{◌-◌}
+use lib.ListN.{length, replicate}
+use Rattle.order.specs.Median.{zero32}
+use Rattle.order.proofs.Fill.{Filling}
+use Rattle.references.proofs.clear.Given as goal
+
+abbrev pub invariant-loop-i : goal.invariant-loop-i
+invariant-loop-i l = (length l.scratch ≡ length l.initial.scratch) × Filling (replicate l.n zero32) l.initial.scratch l.n l.i l.scratch
+
+abbrev pub decreases-loop-i : goal.decreases-loop-i
+decreases-loop-i l = l.n - l.i

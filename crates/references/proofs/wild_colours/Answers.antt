@@ -1,0 +1,18 @@
+-- `references::wild_colours` meets its contract: what is left from i on says the same.
+-- Assumes nothing.
+use Prim.Native.Nat.{◌-◌}
+use Rattle.loops.proofs.Laws.{loops}
+use borrow.Author.Rules.{rules}
+use Rattle.references.proofs.wild_colours.Goals as goal
+
+pub loop-i-init : goal.loop-i-init
+loop-i-init c = search (loops, rules)
+
+pub returns-then-wild_colour : goal.returns-then-wild_colour
+returns-then-wild_colour c = search (loops, rules)
+
+pub loop-i-preserved : goal.loop-i-preserved
+loop-i-preserved c = search (loops, rules)
+
+pub returns : goal.returns
+returns c = search (loops, rules)

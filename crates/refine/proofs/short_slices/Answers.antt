@@ -1,0 +1,31 @@
+-- `refine::short_slices` meets its contract: the tests one after the other. Assumes nothing.
+use mathlib.Core.Path.{◌≡◌, ap}
+use Prim.Native.Nat.{ℕ}
+use borrow.Author.Rules.{rules}
+use lib.Dec.{ltb}
+use Rattle.refine.specs.Calls.{short_slices}
+use Rattle.sentences.proofs.Laws.{ors}
+use Rattle.refine.proofs.short_slices.Goals as goal
+
+last : (a n r : ℕ) → r ≡ n → ltb a r ≡ ltb a n
+last a n r e = ap (ltb a) e
+
+pub returns-then-xs-ys : goal.returns-then-xs-ys
+unfolding short_slices
+returns-then-xs-ys c = search (ors, rules)
+
+pub returns-then-colours-xs : goal.returns-then-colours-xs
+unfolding short_slices
+returns-then-colours-xs c = search (ors, rules)
+
+pub returns-then-luma-xs : goal.returns-then-luma-xs
+unfolding short_slices
+returns-then-luma-xs c = search (ors, rules)
+
+pub returns-then-short_palette : goal.returns-then-short_palette
+unfolding short_slices
+returns-then-short_palette c = search (ors, rules)
+
+pub returns : goal.returns
+unfolding short_slices
+returns c = search (ors, last, rules)

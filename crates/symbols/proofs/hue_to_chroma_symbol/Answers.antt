@@ -1,0 +1,12 @@
+-- `symbols::hue_to_chroma_symbol` meets its contract: refused by sentence 3, or the symbol. Assumes nothing.
+use Rattle.answers.proofs.Answers.{hues-refused, hues-given, hues-some}
+use Rattle.symbols.proofs.hue_to_chroma_symbol.Goals as goal
+
+pub returns-then-bad_hues : goal.returns-then-bad_hues
+returns-then-bad_hues c = search (hues-refused)
+
+pub hue_symbol-requires : goal.hue_symbol-requires
+hue_symbol-requires c = search (hues-some)
+
+pub returns : goal.returns
+returns c = search (hues-given)
