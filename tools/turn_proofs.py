@@ -184,6 +184,9 @@ class Turned:
             self.say("%d answers and %d goals: %s" % (len(args), len(needs), " ".join(needs)))
         invariants = self.invariants(order)
         answers, used = [], set(order)
+        opened = re.search(r"(?m)^unfolding [^\n]*$", code(spec))
+        opened = opened.group(0) + "\n" if opened else ""
+        new_name = {a: g for a, g in zip(args, needs) if a in own}
         for arg, goal in zip(args, needs):
             if arg in own and ": tie.Need-" in own[arg]:
                 used.add(arg)
@@ -195,22 +198,24 @@ class Turned:
                 body = text.split("=", 1)[-1].strip()
                 if body in ("search rules", "omega arith") and "unfolding" not in text:
                     continue
-                answers.append((comment + "\n" if comment else "") + self.steps(text))
+                lead, body = text.split("\n", 1)
+                body = self.renamed(body, {a: g for a, g in new_name.items() if a != arg})
+                answers.append((self.chunks.index(chunk), (comment + "\n" if comment else "") + lead + "\n" + self.steps(body)))
             else:
                 b = re.match(r"\(λ (\S+)(?: κs)?\. (.*)\)$", arg)
-                if b and b.group(2) in ("search rules", "omega arith"):
+                if b and b.group(2) in ("search rules", "omega arith") and not opened:
                     continue
                 if b:
-                    answers.append(self.steps("pub %s : goal.%s\n%s %s = %s" % (goal, goal, goal, b.group(1), b.group(2))))
+                    answers.append((len(self.chunks), self.steps("pub %s : goal.%s\n%s%s %s = %s" % (goal, goal, opened, goal, b.group(1), b.group(2)))))
                 elif arg.startswith("("):
-                    answers.append(self.steps("pub %s : goal.%s\n%s = %s" % (goal, goal, goal, arg)))
+                    answers.append((len(self.chunks), self.steps("pub %s : goal.%s\n%s%s = %s" % (goal, goal, opened, goal, arg))))
                 else:
                     self.say("answer " + arg)
         for c in self.chunks:
             if ": tie.Need-" in c and name_of(c) not in used:
                 self.say("not used: " + name_of(c))
         helpers = [c for c in self.chunks if c is not spec and name_of(c) not in used and ": tie.Need-" not in c]
-        self.write(invariants, answers, helpers)
+        self.write(invariants, [a for _, a in sorted(answers, key=lambda x: x[0])], helpers)
         return True
 
     def write(self, invariants, answers, helpers):
@@ -231,7 +236,7 @@ class Turned:
             uses = imports(self.uses, text) + ["use %s.Given as goal" % module]
             self.put("Invariants.antt", lead, uses, text)
         helpers = [h for h in helpers if h not in moved]
-        text = "\n\n".join(helpers + [self.fix(a) for a in answers])
+        text = "\n\n".join(helpers + answers)
         helpers_only = not answers
         if answers or helpers:
             uses = imports(self.uses, text) + ["use %s.Goals as goal" % module]
@@ -239,16 +244,14 @@ class Turned:
                 uses.append("use %s.Invariants.{%s}" % (module, ", ".join(name_of(h) for h in moved)))
             if helpers_only:
                 self.say("lemmas and no answer")
-            self.put("Answers.antt", lead, uses, self.whole(text))
+            self.put("Answers.antt", lead, uses, text)
         if "tie." in text:
             self.say("still names tie.")
         os.remove(os.path.join(self.folder, "Proof.antt"))
 
-    def fix(self, text):
-        return text
-
-    def whole(self, text):
-        return text
+    def renamed(self, text, names):
+        """The words of a text that name other answers, by the goals that these answer."""
+        return re.sub(r"(?<![.\w'\n-])(?<!^)" + WORD, lambda m: names.get(m.group(0), m.group(0)), text)
 
     def put(self, name, lead, uses, text):
         with open(os.path.join(self.folder, name), "w", encoding="utf-8") as f:

@@ -5,11 +5,11 @@ use Rattle.loops.proofs.Laws.{loops}
 use Rattle.counts.proofs.Sums.{all_turns}
 use Rattle.counts.proofs.count_all.Goals as goal
 
+pub returns : goal.returns
+returns c = (search (loops, rules), search (all_turns, rules))
+
 pub loop-i-init : goal.loop-i-init
 loop-i-init c = search (loops, rules)
 
 pub loop-i-preserved : goal.loop-i-preserved
 loop-i-preserved c = search (loops, rules)
-
-pub returns : goal.returns
-returns c = (search (loops, rules), search (all_turns, rules))

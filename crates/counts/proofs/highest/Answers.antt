@@ -5,11 +5,11 @@ use Rattle.loops.proofs.Laws.{loops}
 use Rattle.counts.proofs.Ranks.{highest-here, better_in}
 use Rattle.counts.proofs.highest.Goals as goal
 
-pub loop-h-init : goal.loop-h-init
-loop-h-init c = search (loops, rules)
-
 pub loop-h-preserved : goal.loop-h-preserved
 loop-h-preserved c = (search (better_in), search (loops, rules))
 
 pub returns : goal.returns
 returns c = (search (loops, rules), search (highest-here, loops, rules))
+
+pub loop-h-init : goal.loop-h-init
+loop-h-init c = search (loops, rules)

@@ -1,6 +1,7 @@
 -- `refused` meets its contract: the sentences in their order, one return for each; what a later test asks was shown by those before it. Assumes nothing.
 use mathlib.Core.Path.{◌≡◌, sym, ◌∙◌}
 use mathlib.Core.Bool.{Bool, false}
+use borrow.Author.Rules.{rules}
 use mathlib.Core.List.{List}
 use Prim.Native.Nat.{ℕ, ◌*◌, ◌≤◌}
 use lib.IntN.{ℤ}
@@ -13,7 +14,7 @@ use Rattle.layout.specs.Groups.{shape, placement, Shaped, Placed}
 use Rattle.layout.proofs.Laws.{shaped, placed, layouts}
 use Rattle.color.specs.Palette.{palette_len}
 use Rattle.observed.specs.Colours.{Exact}
-use Rattle.demod.specs.Call.{bad_lengths}
+use Rattle.demod.specs.Call.{bad_lengths, sentences_of}
 use Rattle.observed.proofs.Places.{exact_xs, exact_ys}
 use Rattle.demod.proofs.Accepted.{Lengths, lengths_in}
 use Rattle.demod.proofs.refused.Goals as goal
@@ -52,36 +53,60 @@ module _ (l : Layout) (n : ℕ) (xs ys : List ℤ) (cxs cys : List ℕ) (m : ℕ
   y_exact : Exact ys (length xs)
   y_exact = y_in l xs ys cxs cys (shaped l n e z) (placed l xs ys cxs cys m f y)
 
-pub returns-then-shape-ne0 : goal.returns-then-shape-ne0
-returns-then-shape-ne0 c = search (layouts)
-
-pub returns-then-bad_lengths : goal.returns-then-bad_lengths
-returns-then-bad_lengths c = search (sentences, layouts) depth 9
-
 pub refused_placement-places-requires : goal.refused_placement-places-requires
 refused_placement-places-requires c = (search (shaped), record { modules = search (modules-pair); cells = search (cells-pair) })
 
-pub returns-then-places-ne0 : goal.returns-then-places-ne0
-returns-then-places-ne0 c = search (sentences, layouts) depth 9
-
 pub bad_inputs-requires : goal.bad_inputs-requires
 bad_inputs-requires c = (search (raw-three), search (craw-three), search (palette-long))
-
-pub returns-then-bad_inputs : goal.returns-then-bad_inputs
-returns-then-bad_inputs c = search (sentences, layouts) depth 9
-
-pub returns-then-bad_sigmas : goal.returns-then-bad_sigmas
-returns-then-bad_sigmas c = search (sentences, layouts) depth 9
-
-pub returns-then-bad_model : goal.returns-then-bad_model
-returns-then-bad_model c = search (sentences, layouts) depth 9
 
 pub bad_corrected-requires : goal.bad_corrected-requires
 bad_corrected-requires c =
     (search (shaped), record { pairs = search (modules-pair); xs_exact = search (x_exact); ys_exact = search (y_exact); raw-three = search (raw-three) }, search (cells-pair), search (craw-three))
 
+pub refused_shape-shape-requires : goal.refused_shape-shape-requires
+unfolding sentences_of
+refused_shape-shape-requires c = search rules
+
+pub returns-then-shape-ne0 : goal.returns-then-shape-ne0
+unfolding sentences_of
+returns-then-shape-ne0 c = search (layouts)
+
+pub bad_lengths-requires : goal.bad_lengths-requires
+unfolding sentences_of
+bad_lengths-requires c = search rules
+
+pub returns-then-bad_lengths : goal.returns-then-bad_lengths
+unfolding sentences_of
+returns-then-bad_lengths c = search (sentences, layouts) depth 9
+
+pub returns-then-places-ne0 : goal.returns-then-places-ne0
+unfolding sentences_of
+returns-then-places-ne0 c = search (sentences, layouts) depth 9
+
+pub returns-then-bad_inputs : goal.returns-then-bad_inputs
+unfolding sentences_of
+returns-then-bad_inputs c = search (sentences, layouts) depth 9
+
+pub bad_sigmas-requires : goal.bad_sigmas-requires
+unfolding sentences_of
+bad_sigmas-requires c = search rules
+
+pub returns-then-bad_sigmas : goal.returns-then-bad_sigmas
+unfolding sentences_of
+returns-then-bad_sigmas c = search (sentences, layouts) depth 9
+
+pub bad_model-requires : goal.bad_model-requires
+unfolding sentences_of
+bad_model-requires c = search rules
+
+pub returns-then-bad_model : goal.returns-then-bad_model
+unfolding sentences_of
+returns-then-bad_model c = search (sentences, layouts) depth 9
+
 pub returns-then-bad_corrected : goal.returns-then-bad_corrected
+unfolding sentences_of
 returns-then-bad_corrected c = search (sentences, layouts) depth 9
 
 pub returns : goal.returns
+unfolding sentences_of
 returns c = search (sentences, layouts) depth 9

@@ -14,11 +14,11 @@ use Rattle.fit.proofs.write_marks.Goals as goal
 put : (count : ℕ) (live : List Float) (kept : List ℕ) (i v : ℕ) → v ≡ kept_mark count live i → set kept i v ≡ replace_at 0 (mark_at count live) i kept
 put count live kept i v e = ap (set kept i) e
 
-pub loop-i-init : goal.loop-i-init
-loop-i-init c = search (loops, rules)
-
 pub loop-i-preserved : goal.loop-i-preserved
 loop-i-preserved c = search (put, loops, rules)
+
+pub loop-i-init : goal.loop-i-init
+loop-i-init c = search (loops, rules)
 
 pub returns : goal.returns
 returns c = search (loops, rules)

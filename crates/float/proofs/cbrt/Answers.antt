@@ -60,7 +60,7 @@ pub returns-then-mag-eq0 : goal.returns-then-mag-eq0
 returns-then-mag-eq0 c = cbrt-zero _ (held c) c.if-mag-eq0.true
 
 pub returns-then-mag-ge2139095040 : goal.returns-then-mag-ge2139095040
-returns-then-mag-ge2139095040 c = cbrt-inf _ (held c) (float-to-bits-bits c) c.if-mag-ge2139095040.true
+returns-then-mag-ge2139095040 c = cbrt-inf _ (held c) (float_to_bits-bits c) c.if-mag-ge2139095040.true
 
 pub icbrt_long-requires : goal.icbrt_long-requires
 icbrt_long-requires c =
@@ -87,16 +87,6 @@ overflow_add-result-3 c =
           (held c),
     )
 
--- a pattern up to the infinity's, with either sign
-pub float_from_bits-result : goal.float_from_bits-result
-float_from_bits-result c =
-    let at = c in
-    let s = leb 0x8000_0000 (to_bits binary32 at.args.x) in
-    let r = (c.split-p.result.s / 3 + 76) * 0x80_0000 + (c.icbrt_long.result + 1) / 2 in
-    let small : r ≤ 0x7f80_0000 = omega (arith, digits c, far c) in
-    subst (λ (b : ℕ). T (not (nan_bits binary32 (b + r)))) (sym (sign at))
-    (real-pattern binary32 (cond s 0x8000_0000 0 + r) (le_trans (le_of_eq (unsigned binary32 s r (omega arith))) small))
-
 pub returns : goal.returns
 returns c =
     let at = c in
@@ -106,3 +96,13 @@ returns c =
     ∙ sym (cbrt-finite x (held at) (omega (arith, c.if-mag-eq0.false)) (omega arith)
     ∙ cbrt-made _ _ _ c.icbrt_long.result (parts c) (at_least c) (below c)
     (leb 0x8000_0000 (to_bits binary32 x)))
+
+-- a pattern up to the infinity's, with either sign
+pub float_from_bits-result : goal.float_from_bits-result
+float_from_bits-result c =
+    let at = c in
+    let s = leb 0x8000_0000 (to_bits binary32 at.args.x) in
+    let r = (c.split-p.result.s / 3 + 76) * 0x80_0000 + (c.icbrt_long.result + 1) / 2 in
+    let small : r ≤ 0x7f80_0000 = omega (arith, digits c, far c) in
+    subst (λ (b : ℕ). T (not (nan_bits binary32 (b + r)))) (sym (sign at))
+    (real-pattern binary32 (cond s 0x8000_0000 0 + r) (le_trans (le_of_eq (unsigned binary32 s r (omega arith))) small))

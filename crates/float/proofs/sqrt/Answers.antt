@@ -50,13 +50,13 @@ pub returns-then-bits-gt2147483648 : goal.returns-then-bits-gt2147483648
 returns-then-bits-gt2147483648 c =
     let at = c in
     zero_by_zero binary32 ∙ sym
-    (sqrt_negative at.args.x (held at) (float-to-bits-bits c) (omega arith)
+    (sqrt_negative at.args.x (held at) (float_to_bits-bits c) (omega arith)
     (omega (arith, to_bits-lt binary32 at.args.x (held at))))
 
 pub returns-then-bits-ge2139095040 : goal.returns-then-bits-ge2139095040
 returns-then-bits-ge2139095040 c =
     let below = clear (to_bits binary32 c.args.x) c.if-bits-gt2147483648.false c.if-bits.false in
-    sqrt-inf _ (held c) (float-to-bits-bits c) below (omega arith)
+    sqrt-inf _ (held c) (float_to_bits-bits c) below (omega arith)
 
 pub returns-then-bits-eq0 : goal.returns-then-bits-eq0
 returns-then-bits-eq0 c = sqrt-zero _ (held c) (omega (arith, c.if-bits-eq0.true))

@@ -15,11 +15,11 @@ stepped w i s t e = e
 whole : (w : Window) (c s : Classes) → s ≡ classified w (classes c.light c.moved c.plane) → s ≡ classified w c
 whole w c s e = e
 
+pub returns : goal.returns
+returns c = search (whole, loops, rules)
+
 pub loop-i-init : goal.loop-i-init
 loop-i-init c = search (loops, rules)
 
 pub loop-i-preserved : goal.loop-i-preserved
 loop-i-preserved c = search (stepped, loops, rules)
-
-pub returns : goal.returns
-returns c = search (whole, loops, rules)

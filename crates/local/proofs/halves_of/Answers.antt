@@ -43,11 +43,11 @@ pub loop-i-init : goal.loop-i-init
 unfolding of_bits
 loop-i-init c = search (loops, rules)
 
-pub halve-s-requires : goal.halve-s-requires
-halve-s-requires c = (search rules, search rules, search (partly, rules), search (partly, rules))
-
 pub loop-i-preserved : goal.loop-i-preserved
 loop-i-preserved c = (search rules, search rules, search rules, search rules, search (lows, rules), search (highs, rules), search rules, search (counted, loops, rules))
+
+pub halve-s-requires : goal.halve-s-requires
+halve-s-requires c = (search rules, search rules, search (partly, rules), search (partly, rules))
 
 pub returns : goal.returns
 returns c = (search (loops, rules), search rules, search rules)

@@ -26,11 +26,11 @@ pub loop-i-init : goal.loop-i-init
 unfolding of_bits
 loop-i-init c = search (loops, rules)
 
-pub add_light-s-requires : goal.add_light-s-requires
-add_light-s-requires c = search (weighed, rules)
-
 pub loop-i-preserved : goal.loop-i-preserved
 loop-i-preserved c = search (stepped, loops, rules)
+
+pub add_light-s-requires : goal.add_light-s-requires
+add_light-s-requires c = search (weighed, rules)
 
 pub returns : goal.returns
 returns c = search (loops, rules)

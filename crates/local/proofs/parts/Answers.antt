@@ -18,11 +18,11 @@ more : (low : Bool) (mean : Float) (w : Window) (v : List Float) (n i : ℕ) (x 
 unfolding part_at
 more low mean w v n i x p l c b h e = firsts-turn (part_at low mean w) v i p x (omega arith) e
 
-pub loop-i-init : goal.loop-i-init
-loop-i-init c = search (firsts, rules)
-
 pub loop-i-preserved : goal.loop-i-preserved
 loop-i-preserved c = search (more, rules)
+
+pub loop-i-init : goal.loop-i-init
+loop-i-init c = search (firsts, rules)
 
 pub returns : goal.returns
 returns c = search (firsts, rules)

@@ -5,9 +5,6 @@ use Rattle.loops.proofs.Laws.{loops}
 use Rattle.stats.proofs.Tests.{everies}
 use Rattle.margin.proofs.colours_fit.Goals as goal
 
-pub loop-i-init : goal.loop-i-init
-loop-i-init c = search (loops, rules)
-
 pub returns-then-not-colour_fits : goal.returns-then-not-colour_fits
 returns-then-not-colour_fits c = search (everies, loops, rules)
 
@@ -16,3 +13,6 @@ loop-i-preserved c = search (everies, loops, rules)
 
 pub returns : goal.returns
 returns c = search (everies, loops, rules)
+
+pub loop-i-init : goal.loop-i-init
+loop-i-init c = search (loops, rules)

@@ -5,9 +5,6 @@ use Rattle.loops.proofs.Laws.{loops}
 use Rattle.stats.proofs.Tests.{everies}
 use Rattle.margin.proofs.darks_clear.Goals as goal
 
-pub loop-h-init : goal.loop-h-init
-loop-h-init c = search (loops, rules)
-
 pub returns-then-not-dark_clear : goal.returns-then-not-dark_clear
 returns-then-not-dark_clear c = search (everies, loops, rules)
 
@@ -16,3 +13,6 @@ loop-h-preserved c = search (everies, loops, rules)
 
 pub returns : goal.returns
 returns c = search (everies, loops, rules)
+
+pub loop-h-init : goal.loop-h-init
+loop-h-init c = search (loops, rules)

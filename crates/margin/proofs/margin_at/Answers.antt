@@ -14,11 +14,11 @@ use Rattle.margin.proofs.margin_at.Goals as goal
 at_least : (n : ChannelStats) (palette : List Float) (hues : ℕ) (r t : Bool) (v w : Float) → r ≡ in_margin v n palette hues → v ≡ w → r ≡ t → t ≡ in_margin w n palette hues
 at_least n palette hues r t v w e f h = sym h ∙ (rw f at e)
 
-pub returns-then-n-ne0 : goal.returns-then-n-ne0
-returns-then-n-ne0 c = search (says-refused)
-
 pub in_margin-requires : goal.in_margin-requires
 in_margin-requires c = search (past)
+
+pub returns-then-n-ne0 : goal.returns-then-n-ne0
+returns-then-n-ne0 c = search (says-refused)
 
 pub returns-then-in_margin : goal.returns-then-in_margin
 returns-then-in_margin c = search (at_least, says-given)

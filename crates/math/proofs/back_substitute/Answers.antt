@@ -6,14 +6,14 @@ use Rattle.loops.proofs.Laws.{turn-down, loops}
 use Rattle.math.specs.Gauss.{unknown}
 use Rattle.math.proofs.back_substitute.Goals as goal
 
-pub loop-r-init : goal.loop-r-init
-loop-r-init c = search (loops, rules)
-
 pub loop-r-preserved : goal.loop-r-preserved
 unfolding unknown
 loop-r-preserved c =
     let in-loop = c in
     (simp length-set (omega arith), omega arith, turn-down in-loop.loop-r.invariant.2 in-loop.loop-r-test.true (cc))
+
+pub loop-r-init : goal.loop-r-init
+loop-r-init c = search (loops, rules)
 
 pub returns : goal.returns
 returns c = search (loops, rules)

@@ -14,11 +14,11 @@ finish : (n col : ℕ) (a b : List Float) (d : Float) (s : System) → d ≡ at 
     → s ≡ eliminate_below n col (system a b)
 finish n col a b d s e h = cc
 
+pub returns : goal.returns
+returns c = search (finish, loops)
+
 pub loop-r-init : goal.loop-r-init
 loop-r-init c = search (loops, rules)
 
 pub loop-r-preserved : goal.loop-r-preserved
 loop-r-preserved c = search (loops, rules)
-
-pub returns : goal.returns
-returns c = search (finish, loops)

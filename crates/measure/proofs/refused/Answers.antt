@@ -6,6 +6,7 @@ use Rattle.sentences.proofs.Laws.{sentences}
 use Rattle.limits.specs.Limits.{bad_side}
 use Rattle.limits.proofs.Laws.{side_in}
 use Rattle.references.proofs.Laws.{stand-placed, placements}
+use Rattle.measure.specs.Measure.{sentences_for}
 use Rattle.measure.proofs.Accepted.{palette_in}
 use borrow.Author.Rules.{rules}
 use Rattle.measure.proofs.refused.Goals as goal
@@ -13,35 +14,59 @@ use Rattle.measure.proofs.refused.Goals as goal
 most : (side : ℕ) (r : Bool) → r ≡ bad_side side → r ≡ false → side ≤ 1024
 most side r e f = (side_in side (sym e ∙ f)).1
 
-pub returns-then-bad_side : goal.returns-then-bad_side
-returns-then-bad_side c = search (sentences)
-
-pub returns-then-bad_hues : goal.returns-then-bad_hues
-returns-then-bad_hues c = search (sentences) depth 9
-
-pub returns-then-too_short : goal.returns-then-too_short
-returns-then-too_short c = search (sentences) depth 9
-
 pub refused_references-placed-requires : goal.refused_references-placed-requires
 refused_references-placed-requires c = (search (most), search rules)
-
-pub returns-then-placed-ne0 : goal.returns-then-placed-ne0
-returns-then-placed-ne0 c = search (sentences, placements) depth 9
 
 pub wild_numbers-requires : goal.wild_numbers-requires
 wild_numbers-requires c = (search (stand-placed), search (palette_in))
 
-pub returns-then-wild_numbers : goal.returns-then-wild_numbers
-returns-then-wild_numbers c = search (sentences, placements) depth 9
-
-pub returns-then-bad_model : goal.returns-then-bad_model
-returns-then-bad_model c = search (sentences, placements) depth 9
-
 pub bad_corrected-requires : goal.bad_corrected-requires
 bad_corrected-requires c = search (stand-placed)
 
+pub bad_side-requires : goal.bad_side-requires
+unfolding sentences_for
+bad_side-requires c = search rules
+
+pub returns-then-bad_side : goal.returns-then-bad_side
+unfolding sentences_for
+returns-then-bad_side c = search (sentences)
+
+pub bad_hues-requires : goal.bad_hues-requires
+unfolding sentences_for
+bad_hues-requires c = search rules
+
+pub returns-then-bad_hues : goal.returns-then-bad_hues
+unfolding sentences_for
+returns-then-bad_hues c = search (sentences) depth 9
+
+pub too_short-requires : goal.too_short-requires
+unfolding sentences_for
+too_short-requires c = search rules
+
+pub returns-then-too_short : goal.returns-then-too_short
+unfolding sentences_for
+returns-then-too_short c = search (sentences) depth 9
+
+pub returns-then-placed-ne0 : goal.returns-then-placed-ne0
+unfolding sentences_for
+returns-then-placed-ne0 c = search (sentences, placements) depth 9
+
+pub returns-then-wild_numbers : goal.returns-then-wild_numbers
+unfolding sentences_for
+returns-then-wild_numbers c = search (sentences, placements) depth 9
+
+pub bad_model-requires : goal.bad_model-requires
+unfolding sentences_for
+bad_model-requires c = search rules
+
+pub returns-then-bad_model : goal.returns-then-bad_model
+unfolding sentences_for
+returns-then-bad_model c = search (sentences, placements) depth 9
+
 pub returns-then-bad_corrected : goal.returns-then-bad_corrected
+unfolding sentences_for
 returns-then-bad_corrected c = search (sentences, placements) depth 9
 
 pub returns : goal.returns
+unfolding sentences_for
 returns c = search (sentences, placements) depth 9

@@ -9,9 +9,6 @@ use Rattle.measure.proofs.Observed.{seen-wild}
 use borrow.Author.Rules.{rules}
 use Rattle.measure.proofs.wild_corrected.Goals as goal
 
-pub loop-i-init : goal.loop-i-init
-loop-i-init c = search (loops, rules)
-
 pub returns-then-wild_mix : goal.returns-then-wild_mix
 returns-then-wild_mix c =
     let at = c in
@@ -32,3 +29,6 @@ loop-i-preserved c =
 
 pub returns : goal.returns
 returns c = search (loops, rules)
+
+pub loop-i-init : goal.loop-i-init
+loop-i-init c = search (loops, rules)

@@ -26,9 +26,6 @@ module _ (ll : List Float) (cell : Cell) (k : ℕ) where
   whole : (out out₀ : List Float) (n : ℕ) → n ≡ log2 k → out ≡ replaced nan n (bit_llr_at ll cell k) out₀ → out ≡ chroma_bit_llrs ll cell k out₀
   whole out out₀ n e h = h ∙ ap (λ (m : ℕ). replaced nan m (bit_llr_at ll cell k) out₀) e
 
-pub loop-b-init : goal.loop-b-init
-loop-b-init c = search (loops, rules)
-
 pub bit_llr-requires : goal.bit_llr-requires
 bit_llr-requires c = (search (hue-count), search rules, search (short), search rules, search rules)
 
@@ -37,3 +34,6 @@ loop-b-preserved c = search (put, loops, rules)
 
 pub returns : goal.returns
 returns c = search (whole, loops, rules)
+
+pub loop-b-init : goal.loop-b-init
+loop-b-init c = search (loops, rules)

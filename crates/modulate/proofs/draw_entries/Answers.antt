@@ -18,14 +18,14 @@ put : (bits : List ℕ) (k m : ℕ) (cxs cys drawn : List ℕ) (j v : ℕ) → v
     set drawn j v ≡ replace_at 0 (hue_at_of bits k m cxs cys) j drawn
 put bits k m cxs cys drawn j v e = ap (set drawn j) e
 
-pub loop-j-init : goal.loop-j-init
-loop-j-init c = search (loops, rules)
-
 pub hue_at-requires : goal.hue_at-requires
 hue_at-requires c = (search rules, search rules, search (room), search rules)
 
 pub loop-j-preserved : goal.loop-j-preserved
 loop-j-preserved c = search (put, loops, rules)
+
+pub loop-j-init : goal.loop-j-init
+loop-j-init c = search (loops, rules)
 
 pub returns : goal.returns
 returns c = search (loops, rules)

@@ -15,14 +15,14 @@ put : (bits : List ℕ) (xs ys : List ℤ) (g mask : ℕ) (levels : List ℕ) (i
     set levels i v ≡ replace_at 0 (level_at_of bits xs ys g mask) i levels
 put bits xs ys g mask levels i v e = ap (set levels i) e
 
-pub loop-i-init : goal.loop-i-init
-loop-i-init c = search (loops, rules)
-
 pub level_at-requires : goal.level_at-requires
 level_at-requires c = (search (position_at, rules), search rules)
 
 pub loop-i-preserved : goal.loop-i-preserved
 loop-i-preserved c = search (put, loops, rules)
+
+pub loop-i-init : goal.loop-i-init
+loop-i-init c = search (loops, rules)
 
 pub returns : goal.returns
 returns c = search (loops, rules)

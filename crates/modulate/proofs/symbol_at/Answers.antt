@@ -14,11 +14,11 @@ below_16 s b n h l m = omega (arith, pow_mono {i = b} {j = 4} (omega arith))
 doubled : (r s b : ℕ) → r < s * 2 + 2 → s < 2 ^ b → r < 2 ^ (b + 1)
 doubled r s b h l = rw (add-one b, pow-suc 2 b) (omega arith)
 
-pub loop-b-init : goal.loop-b-init
-loop-b-init c = (omega arith, search (loops, rules))
-
 pub push_bit-s-requires : goal.push_bit-s-requires
 push_bit-s-requires c = (search rules, search (below_16))
+
+pub loop-b-init : goal.loop-b-init
+loop-b-init c = (omega arith, search (loops, rules))
 
 pub loop-b-preserved : goal.loop-b-preserved
 loop-b-preserved c = (search (doubled), search (loops, rules))

@@ -9,9 +9,6 @@ use Rattle.illum.proofs.Moderate.{in_reach}
 use Rattle.observed.proofs.Spots.{cell-wild}
 use Rattle.observed.proofs.bad_cell_colours.Goals as goal
 
-pub loop-i-init : goal.loop-i-init
-loop-i-init c = search (loops, rules)
-
 pub returns-then-wild_mix : goal.returns-then-wild_mix
 returns-then-wild_mix c = search (cell-wild, loops, rules)
 
@@ -27,6 +24,9 @@ loop-i-preserved c =
           refl)
           c.if-not-within.branch,
     )
+
+pub loop-i-init : goal.loop-i-init
+loop-i-init c = search (loops, rules)
 
 pub returns : goal.returns
 returns c = search (loops, rules)

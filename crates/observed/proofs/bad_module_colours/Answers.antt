@@ -10,9 +10,6 @@ use Rattle.observed.proofs.Places.{exact_at}
 use Rattle.observed.proofs.Spots.{module_wild}
 use Rattle.observed.proofs.bad_module_colours.Goals as goal
 
-pub loop-i-init : goal.loop-i-init
-loop-i-init c = search (loops, rules)
-
 pub module_spot-s-requires : goal.module_spot-s-requires
 module_spot-s-requires c = (search rules, search rules, search (exact_at), search (exact_at), search rules)
 
@@ -31,6 +28,9 @@ loop-i-preserved c =
           refl)
           c.if-not-within.branch,
     )
+
+pub loop-i-init : goal.loop-i-init
+loop-i-init c = search (loops, rules)
 
 pub returns : goal.returns
 returns c = search (loops, rules)

@@ -28,9 +28,6 @@ step model size cxs cys raw from j before after s d v p e ev ed es h =
 pub loop-j-init : goal.loop-j-init
 loop-j-init c = (search rules, none-held _ _ _, search rules, search rules, begin-from _)
 
-pub overflow_step-j : goal.overflow_step-j
-overflow_step-j c = search (c.loop-j-test, c.loop-j, c.well_formed, rules)
-
 pub loop-j-preserved : goal.loop-j-preserved
 loop-j-preserved c =
     let spot = c.cell_spot-s.ensures in
@@ -42,6 +39,9 @@ loop-j-preserved c =
       search rules,
       turn-from _ _ inv.4 (search rules) (cell-counted _ _ _ _ inverses _ _ _ _ spot _ _ c.count_held-k.ensures.0),
     )
+
+pub overflow_step-j : goal.overflow_step-j
+overflow_step-j c = search (c.loop-j-test, c.loop-j, c.well_formed, rules)
 
 pub returns : goal.returns
 returns c = (search (all_held), done c.loop-j.invariant.4 (search rules), search rules)

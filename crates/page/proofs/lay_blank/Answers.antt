@@ -18,11 +18,11 @@ again numbers side out target k k-end v l e h f = turn_to l (omega arith) (ap (s
 over : (numbers : List ℕ) (side : ℕ) (out target : List ℕ) (k k-end : ℕ) → Left (replace_at 0 (blank_at numbers side)) (page_length side) k out target → k-end ≡ page_length side → k-end ≤ k → out ≡ target
 over numbers side out target k k-end l e h = done l (omega arith)
 
-pub loop-k-init : goal.loop-k-init
-loop-k-init c = search (loops, rules)
-
 pub loop-k-preserved : goal.loop-k-preserved
 loop-k-preserved c = (search rules, search rules, search (again))
+
+pub loop-k-init : goal.loop-k-init
+loop-k-init c = search (loops, rules)
 
 pub returns : goal.returns
 returns c = search (over)

@@ -29,13 +29,13 @@ module _ (side terms kept rejected held : ℕ) (xs ys : List ℤ) (grid : ℕ) (
       unfolding page_of
       wrote l h = list_written (sentences_of q) out (laid_out_bytes q) n e l z h
 
-pub returns-then-n-ne0 : goal.returns-then-n-ne0
-returns-then-n-ne0 c = search (away)
-
 pub lay_out-requires : goal.lay_out-requires
 lay_out-requires c =
     let a = accepted _ _ c.refused-n.ensures c.if-n-ne0.false in
     (record { narrow = a.narrow; long = a.long.room }, a.positions, a.long.scores, omega (arith, terms_in _ a.terms-good), omega (arith, a.tally.2))
+
+pub returns-then-n-ne0 : goal.returns-then-n-ne0
+returns-then-n-ne0 c = search (away)
 
 pub returns : goal.returns
 returns c = search (wrote)

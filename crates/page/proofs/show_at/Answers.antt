@@ -46,14 +46,14 @@ module _ (side : ℕ) (xs ys : List ℤ) (luma : List Float) (i : ℕ) (out : Li
   unfolding show_at
   wrote a b v f ea eb ev = rw (← e, f, ← ea, ← eb, ev)
 
-pub returns-then-off_grid_at : goal.returns-then-off_grid_at
-returns-then-off_grid_at c = search (stays)
-
 pub coordinate_at-x-requires : goal.coordinate_at-x-requires
 coordinate_at-x-requires c = (search rules, search rules, search (on_x))
 
 pub coordinate_at-y-requires : goal.coordinate_at-y-requires
 coordinate_at-y-requires c = (search rules, search rules, search (on_y))
+
+pub returns-then-off_grid_at : goal.returns-then-off_grid_at
+returns-then-off_grid_at c = search (stays)
 
 pub overflow_add-out : goal.overflow_add-out
 overflow_add-out c = search (digit-fits)

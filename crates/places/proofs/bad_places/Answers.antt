@@ -20,14 +20,14 @@ module _ (side grid : ℕ) (xs ys : List ℤ) (i : ℕ) (r : Bool) where
       mag (get_or xs i (pos 0)) < 2 ^ 31 → mag (get_or ys i (pos 0)) < 2 ^ 31 → r ≡ misplaced_at side grid xs ys i
   reading e fx fy = rw (to_z-of_z (sfits_of {w = w32} {z = get_or xs i (pos 0)} fx), to_z-of_z (sfits_of {w = w32} {z = get_or ys i (pos 0)} fy)) at e
 
-pub loop-i-init : goal.loop-i-init
-loop-i-init c = search (loops, rules)
-
 pub returns-then-misplaced : goal.returns-then-misplaced
 returns-then-misplaced c = search (reading, loops, rules)
 
 pub loop-i-preserved : goal.loop-i-preserved
 loop-i-preserved c = search (reading, loops, rules)
+
+pub loop-i-init : goal.loop-i-init
+loop-i-init c = search (loops, rules)
 
 pub returns : goal.returns
 returns c = search (loops, rules)

@@ -12,6 +12,19 @@ fit_card-requires c =
     let r = c.decode_floats-2.ensures in
     (decoded-few _ _ p.0 _ _ _ _ _ _ _ _ _ _ m n p.1.xs_are p.1.cxs_are, in_pairs _ _ _ _ _ _ m, few-references _ _ p.0 _ _ _ r p.1.references_are)
 
+pub returns : goal.returns
+returns c =
+    let start = c in
+    let p = start.requires in
+    let f = c.fit_card.ensures in
+    let a = c.decode_floats.ensures in
+    let r = c.decode_floats-2.ensures in
+    let m = c.decode_modules.ensures in
+    let n = c.decode_cells.ensures in (
+      decoded _ _ _ _ _ _ _ _ _ _ _ _ _ _ a r m n p.1.palette_is p.1.references_are p.1.xs_are p.1.cxs_are _ _ f.listed,
+      card-in start.args.file.now start.args.card p.0 (decoded-typed _ _ _ _ _ _ _ _ _ _ _ _ _ _ a r m n p.1.palette_is p.1.references_are p.1.xs_are p.1.cxs_are f.typed),
+    )
+
 pub shape_of-palette : goal.shape_of-palette
 shape_of-palette c = c.decode_floats.auto.1.1.0
 
@@ -35,16 +48,3 @@ shape_of-cys c = c.decode_cells.auto.1.1.1.0
 
 pub shape_of-craw : goal.shape_of-craw
 shape_of-craw c = c.decode_cells.auto.1.1.1.1.0
-
-pub returns : goal.returns
-returns c =
-    let start = c in
-    let p = start.requires in
-    let f = c.fit_card.ensures in
-    let a = c.decode_floats.ensures in
-    let r = c.decode_floats-2.ensures in
-    let m = c.decode_modules.ensures in
-    let n = c.decode_cells.ensures in (
-      decoded _ _ _ _ _ _ _ _ _ _ _ _ _ _ a r m n p.1.palette_is p.1.references_are p.1.xs_are p.1.cxs_are _ _ f.listed,
-      card-in start.args.file.now start.args.card p.0 (decoded-typed _ _ _ _ _ _ _ _ _ _ _ _ _ _ a r m n p.1.palette_is p.1.references_are p.1.xs_are p.1.cxs_are f.typed),
-    )

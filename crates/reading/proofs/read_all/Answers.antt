@@ -13,11 +13,11 @@ use Rattle.reading.proofs.read_all.Goals as goal
 put : (scores : List Float) (bits : List ℕ) (i v : ℕ) → v ≡ reads (get_or scores i nan) → set bits i v ≡ replace_at 0 (read_score_at scores) i bits
 put scores bits i v e = ap (set bits i) e
 
-pub loop-i-init : goal.loop-i-init
-loop-i-init c = search (loops, rules)
-
 pub loop-i-preserved : goal.loop-i-preserved
 loop-i-preserved c = search (put, loops, rules)
+
+pub loop-i-init : goal.loop-i-init
+loop-i-init c = search (loops, rules)
 
 pub returns : goal.returns
 returns c = search (loops, rules)

@@ -4,6 +4,9 @@ use Rattle.records.proofs.Limit.{room, lent, all_lent, eight-fit}
 use borrow.Author.Rules.{rules}
 use Rattle.records.proofs.fit_copied.Goals as goal
 
+pub returns : goal.returns
+returns c = cc
+
 pub overflow_mul-m : goal.overflow_mul-m
 overflow_mul-m c = search (eight-fit, rules)
 
@@ -15,6 +18,3 @@ slice_bounds-fit_counted-end-2 c = search (lent)
 
 pub fit_counted-requires : goal.fit_counted-requires
 fit_counted-requires c = search (all_lent)
-
-pub returns : goal.returns
-returns c = cc

@@ -4,6 +4,9 @@ use Rattle.records.proofs.Limit.{room, lent, all_lent, eight-fit}
 use borrow.Author.Rules.{rules}
 use Rattle.records.proofs.measure_copied.Goals as goal
 
+pub returns : goal.returns
+returns c = cc
+
 pub overflow_mul-m : goal.overflow_mul-m
 overflow_mul-m c = search (eight-fit, rules)
 
@@ -15,6 +18,3 @@ slice_bounds-measure_counted-end-2 c = search (lent)
 
 pub measure_counted-requires : goal.measure_counted-requires
 measure_counted-requires c = search (all_lent)
-
-pub returns : goal.returns
-returns c = cc

@@ -5,11 +5,11 @@ use Rattle.loops.proofs.Laws.{loops}
 use Rattle.layout.proofs.Laws.{position_at}
 use Rattle.refine.proofs.refine_all.Goals as goal
 
-pub loop-i-init : goal.loop-i-init
-loop-i-init c = search (loops, rules)
-
 pub refine_at-requires : goal.refine_at-requires
 refine_at-requires c = (search (position_at, rules), search rules, search rules)
+
+pub loop-i-init : goal.loop-i-init
+loop-i-init c = search (loops, rules)
 
 pub loop-i-preserved : goal.loop-i-preserved
 loop-i-preserved c = search (loops, rules)

@@ -19,11 +19,11 @@ wrote : (n : ChannelStats) (colours : List Float) (i : ℕ) (luma : List Float) 
 unfolding plain_luma
 wrote n colours i luma c l v e el ec = rw (e, el, ec)
 
-pub loop-i-init : goal.loop-i-init
-loop-i-init c = search (loops, rules)
-
 pub loop-i-preserved : goal.loop-i-preserved
 loop-i-preserved c = (search rules, search (turn_to, wrote))
+
+pub loop-i-init : goal.loop-i-init
+loop-i-init c = search (loops, rules)
 
 pub returns : goal.returns
 returns c = search (loops, rules)

@@ -12,11 +12,11 @@ use Rattle.scores.proofs.put_entries.Goals as goal
 entry_in : (hues first j n long lent : ℕ) → j < n → long ≡ lent → (first + n) * symbol_bits hues ≤ lent → (first + j) * symbol_bits hues + symbol_bits hues ≤ long
 entry_in hues first j n long lent h f l = entry_of hues (first + j) (first + n) long (omega arith) (rw f l)
 
-pub loop-j-init : goal.loop-j-init
-loop-j-init c = search (loops, rules)
-
 pub put_entry-requires : goal.put_entry-requires
 put_entry-requires c = (search rules, search rules, search rules, search rules, search rules, search (entry_in))
+
+pub loop-j-init : goal.loop-j-init
+loop-j-init c = search (loops, rules)
 
 pub loop-j-preserved : goal.loop-j-preserved
 loop-j-preserved c = search (loops, rules)

@@ -5,11 +5,11 @@ use Rattle.loops.proofs.Laws.{loops}
 use Rattle.scores.proofs.Blocks.{block_to}
 use Rattle.scores.proofs.weighted_lumas.Goals as goal
 
-pub loop-from-init : goal.loop-from-init
-loop-from-init c = search (loops, rules)
-
 pub loop-from-preserved : goal.loop-from-preserved
 loop-from-preserved c = (search rules, search (block_to, rules))
+
+pub loop-from-init : goal.loop-from-init
+loop-from-init c = search (loops, rules)
 
 pub returns : goal.returns
 returns c = search (loops, rules)

@@ -13,15 +13,15 @@ use Rattle.scores.proofs.write_rings.Goals as goal
 ring_long : (hues cells grid to m long lent : ℕ) → to ≤ m → long ≡ lent → (cells + (m - grid)) * symbol_bits hues ≤ lent → (cells + (to - grid)) * symbol_bits hues ≤ long
 ring_long hues cells grid to m long lent h e l = part-long hues (cells + (to - grid)) (cells + (m - grid)) long lent (omega arith) e l
 
-pub loop-from-init : goal.loop-from-init
-loop-from-init c = search (loops, rules)
-
 pub ring_block-requires : goal.ring_block-requires
 ring_block-requires c =
     (search rules, search rules, search rules, search rules, search rules, search (ring_long, rules))
 
 pub loop-from-preserved : goal.loop-from-preserved
 loop-from-preserved c = (search rules, search rules, search (block_to, rules))
+
+pub loop-from-init : goal.loop-from-init
+loop-from-init c = search (loops, rules)
 
 pub returns : goal.returns
 returns c = search (loops, rules)

@@ -1,30 +1,43 @@
 -- `refused_palette` meets its contract: the sentences in their order, one return for each. Assumes nothing.
 use mathlib.Core.Path.{◌≡◌, sym, ◌∙◌}
 use mathlib.Core.Bool.{Bool, false}
+use borrow.Author.Rules.{rules}
 use Rattle.sentences.proofs.Laws.{sentences}
 use mathlib.Core.List.{List}
 use Prim.Native.Nat.{ℕ, ◌≤◌}
 use lib.ListN.{length}
 use lib.Ieee.{Float}
 use Rattle.color.specs.Palette.{palette_len}
-use Rattle.stats.specs.Calls.{short_palette}
+use Rattle.stats.specs.Calls.{short_palette, palette_sentences}
 use Rattle.stats.proofs.Passed.{palette-long}
 use Rattle.stats.proofs.refused_palette.Goals as goal
 
 long-enough : (palette : List Float) (hues : ℕ) (r : Bool) → r ≡ short_palette palette hues → r ≡ false → palette_len hues ≤ length palette
 long-enough palette hues r e f = palette-long palette hues (sym e ∙ f)
 
-pub returns-then-bad_hues : goal.returns-then-bad_hues
-returns-then-bad_hues c = search (sentences) depth 15 fits 50000
-
-pub returns-then-short_palette : goal.returns-then-short_palette
-returns-then-short_palette c = search (sentences) depth 15 fits 50000
-
 pub wild_palette-requires : goal.wild_palette-requires
 wild_palette-requires c = search (long-enough)
 
+pub bad_hues-requires : goal.bad_hues-requires
+unfolding palette_sentences
+bad_hues-requires c = search rules
+
+pub returns-then-bad_hues : goal.returns-then-bad_hues
+unfolding palette_sentences
+returns-then-bad_hues c = search (sentences) depth 15 fits 50000
+
+pub short_palette-requires : goal.short_palette-requires
+unfolding palette_sentences
+short_palette-requires c = search rules
+
+pub returns-then-short_palette : goal.returns-then-short_palette
+unfolding palette_sentences
+returns-then-short_palette c = search (sentences) depth 15 fits 50000
+
 pub returns-then-wild_palette : goal.returns-then-wild_palette
+unfolding palette_sentences
 returns-then-wild_palette c = search (sentences) depth 15 fits 50000
 
 pub returns : goal.returns
+unfolding palette_sentences
 returns c = search (sentences) depth 15 fits 50000

@@ -53,15 +53,23 @@ returns-then-rule-eq3 c = picked _ _ _ 3 _ c.if-rule-eq3.true refl
 pub returns-then-rule-eq4 : goal.returns-then-rule-eq4
 returns-then-rule-eq4 c = picked _ _ _ 4 _ c.if-rule-eq4.true (by_third _ _ _ c.third.ensures)
 
+pub returns-then-rule-eq5 : goal.returns-then-rule-eq5
+unfolding mask_rules
+returns-then-rule-eq5 c = picked _ _ _ 5 _ c.if-rule-eq5.true refl
+
+pub returns-then-rule-eq6 : goal.returns-then-rule-eq6
+unfolding mask_rules
+returns-then-rule-eq6 c = picked _ _ _ 6 _ c.if-rule-eq6.true refl
+
+pub returns : goal.returns
+unfolding mask_rules
+returns c = picked _ _ _ 7 _ (seventh _ (mod-lt _ (omega arith)) c.if-rule-eq0.false c.if-rule-eq1.false c.if-rule-eq2.false c.if-rule-eq3.false c.if-rule-eq4.false c.if-rule-eq5.false c.if-rule-eq6.false) refl
+
 pub overflow_mul-result : goal.overflow_mul-result
 overflow_mul-result c = product _ _ (omega arith) (omega arith)
 
 pub overflow_mul-result-then-rule-eq5 : goal.overflow_mul-result-then-rule-eq5
 overflow_mul-result-then-rule-eq5 c = product _ _ (omega arith) (omega arith)
-
-pub returns-then-rule-eq5 : goal.returns-then-rule-eq5
-unfolding mask_rules
-returns-then-rule-eq5 c = picked _ _ _ 5 _ c.if-rule-eq5.true refl
 
 pub overflow_mul-result-then-rule-eq6 : goal.overflow_mul-result-then-rule-eq6
 overflow_mul-result-then-rule-eq6 c = product _ _ (omega arith) (omega arith)
@@ -69,13 +77,5 @@ overflow_mul-result-then-rule-eq6 c = product _ _ (omega arith) (omega arith)
 pub overflow_mul-result-then-rule-eq6-2 : goal.overflow_mul-result-then-rule-eq6-2
 overflow_mul-result-then-rule-eq6-2 c = product _ _ (omega arith) (omega arith)
 
-pub returns-then-rule-eq6 : goal.returns-then-rule-eq6
-unfolding mask_rules
-returns-then-rule-eq6 c = picked _ _ _ 6 _ c.if-rule-eq6.true refl
-
 pub overflow_mul-result-2 : goal.overflow_mul-result-2
 overflow_mul-result-2 c = product _ _ (omega arith) (omega arith)
-
-pub returns : goal.returns
-unfolding mask_rules
-returns c = picked _ _ _ 7 _ (seventh _ (mod-lt _ (omega arith)) c.if-rule-eq0.false c.if-rule-eq1.false c.if-rule-eq2.false c.if-rule-eq3.false c.if-rule-eq4.false c.if-rule-eq5.false c.if-rule-eq6.false) refl

@@ -14,9 +14,6 @@ less x y h = mod-lt x (above y h)
     above : (y : ℕ) → (y ≡ 0 → ⊥) → 0 < y
     above y h = omega arith
 
-pub loop-y-init : goal.loop-y-init
-loop-y-init c = search (begin_while)
-
 pub loop-y-smaller : goal.loop-y-smaller
 loop-y-smaller c = search (less)
 
@@ -26,3 +23,6 @@ loop-y-preserved c = search (again)
 pub returns : goal.returns
 unfolding gcd
 returns c = search (last)
+
+pub loop-y-init : goal.loop-y-init
+loop-y-init c = search (begin_while)
