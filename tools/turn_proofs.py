@@ -119,6 +119,13 @@ class Turned:
         self.head, self.uses, body = parts(os.path.join(folder, "Proof.antt"))
         self.uses = [u for u in self.uses if not re.search(r"\.(Statement\.\{|Tie\b)", u)]
         self.chunks = chunks(body)
+        # Lemmas that take a whole record of the walk keep their way back through it.
+        self.records = bool(re.search(r"\btie\.(?!Need-|invariant-|decreases-|close|spec)", body))
+
+    def types(self, text):
+        """The records of the walk that lemmas name, by their names of today."""
+        turn = {plain(p[0]): n for p, n in zip(self.names["places"], self.names["places_by_name"])}
+        return re.sub(r"tie\.(" + WORD + r")(?: (?:invariant-loop|Inv)\S* (?:decreases-loop|μ)\S*)?", lambda m: "goal." + turn.get(plain(m.group(1)), m.group(1)), text)
 
     def say(self, text):
         self.said.append("%s/%s: %s" % (self.crate, self.path, text))
@@ -129,7 +136,10 @@ class Turned:
         for old, new in (x[0] if isinstance(x[0][0], str) else x[0][0] for x in self.names["loops"]):
             turn[plain(old)] = new
             turn[plain(old + "-test")] = new + "-test"
-        text = re.sub(r"(\.before)+(?![\w-])", "", text)
+        if self.records:
+            text = self.types(text)
+        else:
+            text = re.sub(r"(\.before)+(?![\w-])", "", text)
 
         def one(m):
             new = turn.get(plain(m.group(1)))
@@ -214,7 +224,8 @@ class Turned:
         for c in self.chunks:
             if ": tie.Need-" in c and name_of(c) not in used:
                 self.say("not used: " + name_of(c))
-        helpers = [c for c in self.chunks if c is not spec and name_of(c) not in used and ": tie.Need-" not in c]
+        turn = self.steps if self.records else (lambda t: t)
+        helpers = [turn(c) for c in self.chunks if c is not spec and name_of(c) not in used and ": tie.Need-" not in c]
         self.write(invariants, [a for _, a in sorted(answers, key=lambda x: x[0])], helpers)
         return True
 

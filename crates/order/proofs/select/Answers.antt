@@ -14,22 +14,22 @@ use Rattle.order.proofs.select.Goals as goal
 
 -- after the parting
 abbrev After : Type 0
-After = tie.After-partition invariant-loop decreases-loop
+After = goal.After-partition-cut
 
-abbrev turn : After → tie.In-loop invariant-loop decreases-loop
+abbrev turn : After → goal.In-loop-lo
 turn a = a.before.before.before
 
-narrows : (a : After) → ((turn a).before.loop.lo < a.partition.result.up) × (a.partition.result.end < (turn a).before.loop.hi)
+narrows : (a : After) → ((turn a).before.loop-lo.lo < a.partition-cut.result.up) × (a.partition-cut.result.end < (turn a).before.loop-lo.hi)
 narrows a =
-    let q = a.partition.ensures in
-    narrowing.narrows _ _ _ _ _ _ (turn a).before.loop.invariant (turn a).loop-test.true _ _ _ q.0 q.1.0 q.1.1
+    let q = a.partition-cut.ensures in
+    narrowing.narrows _ _ _ _ _ _ (turn a).before.loop-lo.invariant (turn a).loop-lo-test.true _ _ _ q.0 q.1.0 q.1.1
 
 -- after the loop, by either way out: nothing is left to do
-left : (c : tie.Left-loop invariant-loop decreases-loop)
-    → (selected c.before.before.before.args.k c.before.before.before.args.v.now ≡ c.loop-test.v)
-    × (length c.loop-test.v ≡ length c.before.before.before.args.v.now)
+left : (c : goal.Left-loop-lo
+    → (selected c.before.before.before.args.k c.before.before.before.args.v-1.now ≡ c.loop-lo-test.v-1)
+    × (length c.loop-lo-test.v-1 ≡ length c.before.before.before.args.v-1.now)
 left c =
-    let g = c.before.loop.invariant in
+    let g = c.before.loop-lo.invariant in
     ⊎_elim
     (λ w. (g.left ∙ narrowed-done _ _ _ _ g.rounds w.0.left ∙ sym w.1, ap (λ (x : List Float). length x) w.1 ∙ g.same))
     (λ w.
@@ -37,7 +37,7 @@ left c =
       narrowing.narrow-met _ _ _ _ _ _ g w.0.taken _ _ _ q.0 q.1.0 q.1.1 w.7.left w.9.left ∙ sym w.10,
       ap (λ (x : List Float). length x) w.10 ∙ narrowing.length-left _ _ _ _ _ _ g w.0.taken _ _ _ q.0 q.1.0 q.1.1,
     ))
-    c.loop-test.branch
+    c.loop-lo-test.branch
 
 pub loop-lo-init : goal.loop-lo-init
 unfolding selected
@@ -45,35 +45,35 @@ loop-lo-init c = starts _ _ (omega arith)
 
 pub partition-cut-requires : goal.partition-cut-requires
 partition-cut-requires c =
-    let g = c.loop-lo.invariant in
-    let h = c.loop-lo-test.true in
+    let g = c.before.before.before.loop-lo.invariant in
+    let h = c.before.before.loop-lo-test.true in
     (narrowing.stops_up _ _ _ _ _ _ g h, narrowing.stops-down _ _ _ _ _ _ g h)
 
 pub loop-lo-smaller-then-k-cut : goal.loop-lo-smaller-then-k-cut
-loop-lo-smaller-then-k-cut c = let h = narrows c in omega arith
+loop-lo-smaller-then-k-cut c = let h = narrows c.before.before.before.before in omega arith
 
 pub loop-lo-preserved-then-k-cut : goal.loop-lo-preserved-then-k-cut
 loop-lo-preserved-then-k-cut c =
-    let a = c in
+    let a = c.before.before.before.before in
     let q = a.partition-cut.ensures in
-    narrowing.narrow-low _ _ _ _ _ _ (turn a).loop-lo.invariant (turn a).loop-lo-test.true _ _ _ q.0 q.1.0 q.1.1 c.if-k-cut.true
+    narrowing.narrow-low _ _ _ _ _ _ (turn a).before.loop-lo.invariant (turn a).loop-lo-test.true _ _ _ q.0 q.1.0 q.1.1 c.if-k-cut.true
 
 pub loop-lo-smaller : goal.loop-lo-smaller
-loop-lo-smaller c = let h = narrows c in omega arith
+loop-lo-smaller c = let h = narrows c.before.before.before.before.before.before in omega arith
 
 pub loop-lo-preserved : goal.loop-lo-preserved
 loop-lo-preserved c =
-    let a = c in
+    let a = c.before.before.before.before.before.before in
     let q = a.partition-cut.ensures in
-    narrowing.narrow_high _ _ _ _ _ _ (turn a).loop-lo.invariant (turn a).loop-lo-test.true _ _ _ q.0 q.1.0 q.1.1 c.if-k-cut.false c.if-cut-k.true
+    narrowing.narrow_high _ _ _ _ _ _ (turn a).before.loop-lo.invariant (turn a).loop-lo-test.true _ _ _ q.0 q.1.0 q.1.1 c.before.before.if-k-cut.false c.if-cut-k.true
 
 pub bounds-v-k : goal.bounds-v-k
-bounds-v-k c = let h = (left c).1 in omega arith
+bounds-v-k c = let h = (left c.before).1 in omega arith
 
 pub shape_of-v : goal.shape_of-v
-shape_of-v c = (left c).1
+shape_of-v c = (left c.before).1
 
 pub returns : goal.returns
 returns c =
-    let q = sym (left c).0 in
-    (q, ap (λ (x : List Float). get_or x c.args.k nan) q)
+    let q = sym (left c.before).0 in
+    (q, ap (λ (x : List Float). get_or x c.before.before.before.before.args.k nan) q)

@@ -3,10 +3,7 @@
 use Rattle.std.proofs.Common.{◌≡◌, ℕ, ◌-◌, ◌<◌, sym, subst₂, ⊎_elim, arith}
 use Rattle.float.proofs.Cubes.{square-fits, cube-fits, pair_fits, pairs-fit, step_fits, rest-fits, Digits, short, begin, one, none, done}
 use Rattle.float.proofs.whole.icbrt_slow.Goals as goal
-
--- in a turn, q is short
-small : (c : tie.In-loop invariant-loop decreases-loop) → c.before.loop.q < 16777216
-small c = short c.before.loop.q c.before.loop.i c.loop-test.true c.before.loop.invariant.1
+use Rattle.float.proofs.whole.icbrt_slow.Goals.{then-step-r, else-step-r}
 
 moved : (a i : ℕ) {q r q' r' : ℕ} → q' ≡ q → r' ≡ r → Digits a q r i → Digits a q' r' i
 moved a i e f d = subst₂ (λ (x y : ℕ). Digits a x y i) (sym e) (sym f) d
@@ -21,32 +18,31 @@ pub loop-i-init : goal.loop-i-init
 loop-i-init c = begin _ _ c.icbrt-q.ensures.0 c.icbrt-q.ensures.1.0 c.icbrt-q.ensures.1.1
 
 pub overflow_add-p : goal.overflow_add-p
-overflow_add-p c = omega (arith, small c)
+overflow_add-p c = omega (arith, short c.loop-i.q c.loop-i.i c.loop-i-test.true c.loop-i.invariant.1)
 
 pub overflow_add-step : goal.overflow_add-step
-overflow_add-step c = omega (arith, small c)
+overflow_add-step c = omega (arith, short c.loop-i.q c.loop-i.i c.loop-i-test.true c.loop-i.invariant.1)
 
 pub overflow_mul-step : goal.overflow_mul-step
-overflow_mul-step c = record { fits = pair_fits _ (small c) }
+overflow_mul-step c = record { fits = pair_fits _ (short c.loop-i.q c.loop-i.i c.loop-i-test.true c.loop-i.invariant.1) }
 
 pub overflow_mul-step-in-loop-i : goal.overflow_mul-step-in-loop-i
-overflow_mul-step-in-loop-i c = record { fits = pairs-fit _ (small c) }
+overflow_mul-step-in-loop-i c = record { fits = pairs-fit _ (short c.loop-i.q c.loop-i.i c.loop-i-test.true c.loop-i.invariant.1) }
 
 pub overflow_add-step-in-loop-i : goal.overflow_add-step-in-loop-i
-overflow_add-step-in-loop-i c = record { fits = step_fits _ (small c) }
+overflow_add-step-in-loop-i c = record { fits = step_fits _ (short c.loop-i.q c.loop-i.i c.loop-i-test.true c.loop-i.invariant.1) }
 
 pub overflow_mul-r-in-loop-i : goal.overflow_mul-r-in-loop-i
-overflow_mul-r-in-loop-i c = record { fits = rest-fits _ _ (small c) c.loop-i.invariant.3 }
+overflow_mul-r-in-loop-i c = record { fits = rest-fits _ _ (short c.loop-i.q c.loop-i.i c.loop-i-test.true c.loop-i.invariant.1) c.loop-i.invariant.3 }
 
 pub overflow_add-q : goal.overflow_add-q
-overflow_add-q c = omega (arith, small c)
+overflow_add-q c = omega (arith, short c.loop-i.q c.loop-i.i c.loop-i-test.true c.loop-i.invariant.1)
 
 pub loop-i-preserved : goal.loop-i-preserved
-loop-i-preserved c =
-    let at = c in
-    ⊎_elim (λ w. moved _ _ w.1 w.2 (one _ _ _ _ at.loop-i.invariant c.loop-i-test.true w.0.taken))
-    (λ w. moved _ _ w.1 w.2 (none _ _ _ _ at.loop-i.invariant c.loop-i-test.true w.0.left))
-    c.if-step-r.branch
+loop-i-preserved c = elim c.if-step-r.branch [
+    then-step-r w ↦ moved _ _ w.q-is w.r-is (one _ _ _ _ c.loop-i.invariant c.loop-i-test.true w.if-step-r.true)
+    | else-step-r w ↦ moved _ _ w.q-is w.r-is (none _ _ _ _ c.loop-i.invariant c.loop-i-test.true w.if-step-r.false)
+  ]
 
 pub returns : goal.returns
 returns c = done _ _ _ _ c.loop-i.invariant c.loop-i-test.false
