@@ -38,10 +38,10 @@ module _ (flat : List Float) (side version : ℕ) (kept : List ℕ) (scratch : L
 pub returns-then-flat-eq0 : goal.returns-then-flat-eq0
 returns-then-flat-eq0 c =
     let e = counted _ _ _ _ _ _ c.if-flat-eq0.true c.fit_counted.ensures in
-    (e, counted_adds_up _ _ _ _ _ _ _ _ e)
+    record { scratch_after = e; marks_add_up = counted_adds_up _ _ _ _ _ _ _ _ e }
 
 pub returns-then-bad_side : goal.returns-then-bad_side
-returns-then-bad_side c = (two _ _ _ _ _ _ _ c.bad_side.ensures c.no_model.ensures c.if-bad_side.true, λ z. absurd (omega arith))
+returns-then-bad_side c = record { scratch_after = two _ _ _ _ _ _ _ c.bad_side.ensures c.no_model.ensures c.if-bad_side.true; marks_add_up = λ z. absurd (omega arith) }
 
 pub returns : goal.returns
-returns c = (five _ _ _ _ _ _ _ c.bad_side.ensures c.no_model-2.ensures c.if-flat-eq0.false c.if-bad_side.false, λ z. absurd (omega arith))
+returns c = record { scratch_after = five _ _ _ _ _ _ _ c.bad_side.ensures c.no_model-2.ensures c.if-flat-eq0.false c.if-bad_side.false; marks_add_up = λ z. absurd (omega arith) }

@@ -15,13 +15,13 @@ module _ (v : Float) (f : T (fits binary64 v)) where
   over t = rw (wild-single v f, t) refl
 
 -- what owning an `f64` tells: the format holds it
-held : (c : goal.Start) → T (fits binary64 c.args.v)
+held : (c : tie.Start) → T (fits binary64 c.args.v)
 held c = subst T (sym c.well_formed.0.1) tt
 
 pub returns-then-v : goal.returns-then-v
 unfolding of_bits
-returns-then-v c = under c.before.args.v (held c.before) c.if-v.true
+returns-then-v c = under c.args.v (held c) c.if-v.true
 
 pub returns : goal.returns
 unfolding of_bits
-returns c = over c.before.args.v (held c.before) c.if-v.false
+returns c = over c.args.v (held c) c.if-v.false

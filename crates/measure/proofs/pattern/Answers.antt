@@ -8,14 +8,14 @@ use Rattle.floatlaws.specs.Nan.{no_nan}
 use Rattle.measure.proofs.pattern.Goals as goal
 
 -- the format holds what the function is handed
-fit : (c : goal.Start) → T (fits binary32 c.args.x)
+fit : (c : tie.Start) → T (fits binary32 c.args.x)
 fit c = subst T (sym c.well_formed.0.1) tt
 
 pub overflow_cast-result : goal.overflow_cast-result
-overflow_cast-result c = omega (arith, to_bits-lt binary32 c.before.args.x (fit c.before))
+overflow_cast-result c = omega (arith, to_bits-lt binary32 c.args.x (fit c))
 
 pub returns : goal.returns
-returns c = omega (arith, to_bits-lt binary32 c.before.args.x (fit c.before))
+returns c = omega (arith, to_bits-lt binary32 c.args.x (fit c))
 
 pub float_to_bits-result : goal.float_to_bits-result
 float_to_bits-result c = search (no_nan)

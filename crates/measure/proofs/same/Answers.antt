@@ -6,10 +6,10 @@ use Rattle.measure.proofs.Remembering.{never, first_real, second-real, has-patte
 use Rattle.measure.proofs.same.Goals as goal
 
 -- the format holds what the function is handed
-fit-a : (c : goal.Start) → T (fits binary32 c.args.a)
+fit-a : (c : tie.Start) → T (fits binary32 c.args.a)
 fit-a c = subst T (sym c.well_formed.0.1) tt
 
-fit-b : (c : goal.Start) → T (fits binary32 c.args.b)
+fit-b : (c : tie.Start) → T (fits binary32 c.args.b)
 fit-b c = subst T (sym c.well_formed.1.0.1) tt
 
 pub float_to_bits-result : goal.float_to_bits-result
@@ -19,7 +19,7 @@ pub float_to_bits-result-then-a-b : goal.float_to_bits-result-then-a-b
 float_to_bits-result-then-a-b c = search (has-pattern, second-real)
 
 pub returns-then-a-b : goal.returns-then-a-b
-returns-then-a-b c = one_pattern _ _ (fit-a c.before) (fit-b c.before) c.if-a-b.true
+returns-then-a-b c = one_pattern _ _ (fit-a c) (fit-b c) c.if-a-b.true
 
 pub returns : goal.returns
 returns c = λ e. absurd (never e)

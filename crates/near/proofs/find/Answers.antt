@@ -29,10 +29,10 @@ pub returns-in-Nearest : goal.returns-in-Nearest
 returns-in-Nearest c =
     let s = c.args in
     let e : s.query-1 ≡ query.Nearest = cc in
-    (three _ _ _ _ _ _ _ _ _ e c.nearest.ensures.0, c.nearest.ensures.1)
+    record { promised = three _ _ _ _ _ _ _ _ _ e c.nearest.ensures.first_three; upper_bound = c.nearest.ensures.upper_bound }
 
 pub returns-in-Within : goal.returns-in-Within
-returns-in-Within c = (inside _ _ _ _ _ _ _ _ _ _ c.query-1.given.1 c.list_all.ensures.0, c.list_all.ensures.1)
+returns-in-Within c = record { promised = inside _ _ _ _ _ _ _ _ _ _ c.query-1.given.1 c.list_all.ensures.all; upper_bound = c.list_all.ensures.upper_bound }
 
 pub returns-in-CutOff : goal.returns-in-CutOff
-returns-in-CutOff c = (cut _ _ _ _ _ _ _ _ _ _ c.query-in-CutOff-1.given.1 c.list_all-in-CutOff.ensures.0, c.list_all-in-CutOff.ensures.1)
+returns-in-CutOff c = record { promised = cut _ _ _ _ _ _ _ _ _ _ c.query-in-CutOff-1.given.1 c.list_all-in-CutOff.ensures.all; upper_bound = c.list_all-in-CutOff.ensures.upper_bound }

@@ -18,4 +18,4 @@ pub returns : goal.returns
 returns c =
     let w = c.list-m.ensures in
     let z = c.sort.ensures in
-    (sorted_all w z c.requires.4, (w.under, sorted_rest w z))
+    record { all = sorted_all w z c.requires.4; upper_bound = (w.under, sorted_rest w z) }

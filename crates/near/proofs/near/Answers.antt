@@ -23,11 +23,8 @@ radius-fits q g r e = subst T (sym (owed Q.the_type Q'.the_laws (query.Within r)
 
 pub returns-then-n-ne0 : goal.returns-then-n-ne0
 returns-then-n-ne0 c =
-    let s = c in (
-      refused-answer s.args.xy.now s.args.kept.now s.args.side s.args.x s.args.y s.args.query s.args.out-1.now s.ranges.x s.ranges.y c.refused-n.result
-          c.refused-n.ensures c.if-n-ne0.true,
-      λ e. absurd (c.if-n-ne0.true e),
-    )
+    let s = c in record { out_after = refused-answer s.args.xy.now s.args.kept.now s.args.side s.args.x s.args.y s.args.query s.args.out-1.now s.ranges.x s.ranges.y c.refused-n.result
+          c.refused-n.ensures c.if-n-ne0.true; found = λ e. absurd (c.if-n-ne0.true e) }
 
 pub find-count-requires : goal.find-count-requires
 find-count-requires c =

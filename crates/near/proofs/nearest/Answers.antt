@@ -24,4 +24,4 @@ pub shape_of-out : goal.shape_of-out
 shape_of-out c = c.loop-i.invariant.1.rest.long
 
 pub returns : goal.returns
-returns c = let w = lead_ends {n = c.args.n} c.loop-i.invariant.1 (omega arith) in (w.three, (w.under, w.rest))
+returns c = let w = lead_ends {n = c.args.n} c.loop-i.invariant.1 (omega arith) in record { first_three = w.three; upper_bound = (w.under, w.rest) }

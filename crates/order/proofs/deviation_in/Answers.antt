@@ -18,4 +18,4 @@ returns c =
     let a = c.args in
     let xs = map (deviation a.m) a.values.now in
     let l = sym (length-map a.values.now (deviation a.m)) in
-    (found xs _ _ m.new.0 _ _ l w.ensures m.ensures, tail_kept xs _ _ m.new.0 _ m.result l w.ensures m.auto.0)
+    (found xs _ _ m.new.values _ _ l w.ensures m.ensures, tail_kept xs _ _ m.new.values _ m.result l w.ensures m.auto.values)

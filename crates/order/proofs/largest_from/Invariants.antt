@@ -10,7 +10,7 @@ use Rattle.order.proofs.largest_from.Given as goal
 
 -- the largest of r and the elements from i on is t
 pub record Going (v : List Float) (i : ℕ) (r t : Float) : Type 0 where
-  left : largest r (drop i v) ≡ t
+  pub left : largest r (drop i v) ≡ t
 
 abbrev pub invariant-loop-i : goal.invariant-loop-i
 invariant-loop-i l = (l.i-end ≡ length l.v) × (is_nan l.r ≡ false) × Going l.v l.i l.r (largest l.m (drop l.from l.v))

@@ -13,7 +13,7 @@ returns-then-n-eq0 c = together _ _ _ _ (none _ c.if-n-eq0.true) (kept _ c.if-n-
 pub returns-then-n-eq1 : goal.returns-then-n-eq1
 returns-then-n-eq1 c =
     let s = c.select-upper.ensures in
-    together _ _ _ _ (s.1 ∙ odd _ c.if-n-eq0.false c.if-n-eq1.true) s.0
+    together _ _ _ _ (s.value ∙ odd _ c.if-n-eq0.false c.if-n-eq1.true) s.v_after
 
 pub slice_bounds-maximum-end-2 : goal.slice_bounds-maximum-end-2
 slice_bounds-maximum-end-2 c = sym (length-take-le _ _ (search rules))
@@ -23,4 +23,4 @@ unfolding of_bits
 returns c =
     let a = c in
     let s = a.select-upper.ensures in
-    together _ _ _ _ (rw (c.maximum-lower.ensures, s.0, s.1) (even _ a.if-n-eq0.false c.if-n-eq1.false)) s.0
+    together _ _ _ _ (rw (c.maximum-lower.ensures, s.v_after, s.value) (even _ a.if-n-eq0.false c.if-n-eq1.false)) s.v_after

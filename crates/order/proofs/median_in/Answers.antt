@@ -13,4 +13,4 @@ returns c =
     let m = c.median_value in
     let w = c.copy in
     let xs = c.args.values.now in
-    (found xs _ _ m.new.0 _ _ refl w.ensures m.ensures, tail_kept xs _ _ m.new.0 _ m.result refl w.ensures m.auto.0)
+    (found xs _ _ m.new.values _ _ refl w.ensures m.ensures, tail_kept xs _ _ m.new.values _ m.result refl w.ensures m.auto.values)

@@ -1,7 +1,6 @@
 -- `order::only_one` meets its contract: its three tests. Assumes nothing.
 use mathlib.Core.Bool.{false≢true}
 use lib.Ieee.{of_bits, div, neg}
-use Rattle.order.proofs.Tally.{so_true}
 use Rattle.order.proofs.only_one.Goals as goal
 
 pub returns-then-not-x : goal.returns-then-not-x
@@ -12,4 +11,4 @@ returns-then-not-x-2 c = λ h. absurd (false≢true h)
 
 pub returns : goal.returns
 unfolding of_bits div neg
-returns c = λ h. record { under = so_true _ c.if-not-x.false; over = so_true _ c.if-not-x-2.false; some = h }
+returns c = λ h. record { under = c.if-not-x.false; over = c.if-not-x-2.false; some = h }

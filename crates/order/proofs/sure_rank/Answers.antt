@@ -1,5 +1,5 @@
 -- `order::sure_rank` meets its contract: the rank is counted, and the value tested. Assumes nothing.
-use Rattle.order.proofs.Tally.{never, so_true}
+use Rattle.order.proofs.Tally.{never}
 use Rattle.order.proofs.sure_rank.Goals as goal
 
 pub returns-then-not-m : goal.returns-then-not-m
@@ -9,4 +9,4 @@ pub returns-then-not-only_one : goal.returns-then-not-only_one
 returns-then-not-only_one c = λ h. never _ c.none-then-not-only_one.ensures h
 
 pub returns : goal.returns
-returns c = λ h. (c.ranked-m.ensures h, c.only_one.ensures (so_true _ c.if-not-only_one.false))
+returns c = λ h. (c.ranked-m.ensures h, c.only_one.ensures c.if-not-only_one.false)

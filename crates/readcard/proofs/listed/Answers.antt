@@ -6,4 +6,4 @@ use Rattle.readcard.proofs.listed.Goals as goal
 pub returns : goal.returns
 returns c =
     let e = c.read_card.ensures in
-    ((whole _ _ _ _ e.0 e.1 c.requires).text_is, (search (within), search (within_is)))
+    record { out_after = (whole _ _ _ _ e.0 e.1 c.requires).text_is; prefix_len = (search (within), search (within_is)) }

@@ -16,7 +16,7 @@ pub returns-then-fitted-ne0 : goal.returns-then-fitted-ne0
 returns-then-fitted-ne0 c =
     let start = c in
     let a = start.args in
-    let e = c.fit_flat-fitted.ensures.0 in
+    let e = c.fit_flat-fitted.ensures.scratch_after in
     let p = start.requires.2 in
     let r = a.references.now in
     record {
@@ -32,7 +32,7 @@ pub returns : goal.returns
 returns c =
     let start = c in
     let a = start.args in
-    let e = c.fit_flat-fitted.ensures.0 in
+    let e = c.fit_flat-fitted.ensures.scratch_after in
     let p = start.requires.2 in
     let r = a.references.now in
     record {
