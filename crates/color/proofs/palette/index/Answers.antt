@@ -9,7 +9,7 @@ pub returns-then-bad_hues : goal.returns-then-bad_hues
 returns-then-bad_hues c = hues-refused _ _ _ c.bad_hues.ensures c.if-bad_hues.true
 
 pub index_of-requires : goal.index_of-requires
-index_of-requires c = λ κs. let h = hues_in _ (sym c.bad_hues.ensures ∙ c.if-bad_hues.false) in (h.least, h.most)
+index_of-requires c = let h = hues_in _ (sym c.bad_hues.ensures ∙ c.if-bad_hues.false) in (h.least, h.most)
 
 pub returns : goal.returns
 returns c = hues-given _ _ _ c.bad_hues.ensures _ c.if-bad_hues.false c.index_of.ensures
