@@ -1,6 +1,6 @@
 -- `illum::bad_model_side` meets its contract, by its three tests; what lies between 1 and 1,024 has a whole part, and that is an f32.
 -- Assumes nothing.
-use Rattle.std.proofs.Common.{◌≡◌, ℕ, true, false, pos, arith}
+use Rattle.std.proofs.Common.{le→leb, ◌≡◌, ℕ, true, false, pos, arith}
 use lib.Ieee.{Float, binary32, le, ne, of_bits, of_int, in_float, to_unsigned}
 use Rattle.illum.specs.Refusals.{bad_model_side}
 use Rattle.illum.proofs.Side.{one_is, most_is, above, below, cut}
@@ -21,7 +21,7 @@ under s a ea t = cc
 
 pub truncating_f32_to_u64-requires : goal.truncating_f32_to_u64-requires
 unfolding of_bits
-truncating_f32_to_u64-requires c = (above _ c.if-side.true, below _ c.if-side-2.true)
+truncating_f32_to_u64-requires c = record { lower_bound = above _ c.if-side.true; upper_bound = below _ c.if-side-2.true }
 
 pub int_to_float-result : goal.int_to_float-result
 unfolding of_bits in_float

@@ -86,7 +86,7 @@ unfolding bad_shape unshaded mixed
 returns-then-not-leaves_open c =
     let a = c in
     seen _ _ _ _ _ _ a.wild_linear.ensures a.bad_shape.ensures a.if-wild_linear.false a.if-bad_shape.false _ _
-    c.unshade_lent-d.ensures c.mix_lent-out.ensures _ c.leaves_open.ensures c.if-not-leaves_open.true
+    c.unshade_lent-d.ensures c.mix_lent-out.ensures _ c.leaves_open.ensures (ap not c.if-not-leaves_open.true)
 
 pub returns-then-not_finite_lent : goal.returns-then-not_finite_lent
 unfolding bad_shape not_finite_model not_finite_affine not_finite_gains not_finite_flares

@@ -22,7 +22,7 @@ module _ (m : IlluminationModel) (a g f s : Bool) (ea : a ≡ large_affine m) (e
   none h = rw (← ea, ← eg, ← ef, ← es, h) refl
 
 -- of an array of f64s each is one
-values : (l : List Float) → WTs (of_list (map (vfloat binary64) (map (λ (v : Float). v) l))) → Values l
+values : (l : List Float) → WTs (of_list (map (vfloat binary64) l)) → Values l
 values [] w k = unfold fits in tt
 values (v ∷ l) w zero = w.0
 values (v ∷ l) w (suc k) = values l w.1 k

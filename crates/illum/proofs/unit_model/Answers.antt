@@ -1,6 +1,6 @@
 -- `illum::unit_model` meets its contract: the same numbers, and a side up to 1,024 is an f32.
 -- Assumes nothing.
-use Rattle.std.proofs.Common.{refl, arith}
+use Rattle.std.proofs.Common.{le→leb, refl, arith}
 use lib.Ieee.{of_bits, in_float}
 use Rattle.illum.specs.Correct.{unit_model}
 use Rattle.illum.proofs.unit_model.Goals as goal

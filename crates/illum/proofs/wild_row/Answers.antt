@@ -15,13 +15,13 @@ module _ (v : Float) (f : T (fits binary64 v)) where
   over t = rw (wild-single v f, t) refl
 
 -- what owning an `f64` tells: the format holds it
-held : (c : tie.Start) → T (fits binary64 c.args.v)
-held c = subst T (sym c.well_formed.0.1) tt
+held : (v : Float) → fits binary64 v ≡ true → T (fits binary64 v)
+held v e = subst T (sym e) tt
 
 pub returns-then-v : goal.returns-then-v
 unfolding of_bits
-returns-then-v c = under c.args.v (held c) c.if-v.true
+returns-then-v c = under c.args.v (held c.args.v c.well_formed.0.1) c.if-v.true
 
 pub returns : goal.returns
 unfolding of_bits
-returns c = over c.args.v (held c) c.if-v.false
+returns c = over c.args.v (held c.args.v c.well_formed.0.1) c.if-v.false
