@@ -1,29 +1,24 @@
 -- `bad_cell_colours` meets its contract: what is left from i on says the same. A colour in reach of the model is not wild; any other is looked at. Assumes nothing.
-use mathlib.Core.Path.{refl, sym}
-use mathlib.Core.Logic.{⊎_elim}
-use mathlib.Core.Bool.{false}
+use mathlib.Core.Path.{refl, sym, ap}
+use mathlib.Core.Bool.{false, not}
 use borrow.Author.Rules.{rules}
 use Prim.Native.Nat.{◌-◌}
 use Rattle.loops.proofs.Laws.{turn-any, loops}
 use Rattle.illum.proofs.Moderate.{in_reach}
 use Rattle.observed.proofs.Spots.{cell-wild}
 use Rattle.observed.proofs.bad_cell_colours.Goals as goal
+use Rattle.observed.proofs.bad_cell_colours.Goals.{then-not-within+else-wild_mix, else-not-within}
 
 pub returns-then-wild_mix : goal.returns-then-wild_mix
 returns-then-wild_mix c = search (cell-wild, loops, rules)
 
 pub loop-i-preserved : goal.loop-i-preserved
 loop-i-preserved c =
-    let at = c in
-    let g = at.loop-i.invariant in (
-      g.0,
-      ⊎_elim
-          (λ w. turn-any g.1 at.loop-i-test.true (cell-wild _ _ _ _ w.1.ensures _ _ _ _ at.cell_spot-s.ensures _ w.2.ensures) w.3.left)
-          (λ w. turn-any g.1 at.loop-i-test.true
-          (cell-wild _ _ _ _ refl _ _ _ _ at.cell_spot-s.ensures false (sym (in_reach _ _ _ _ _ _ at.reach-reach.ensures c.within.ensures w.left)))
-          refl)
-          c.if-not-within.branch,
-    )
+    let g = c.loop-i.invariant in
+    (g.0, elim c.if-not-within.branch [
+      then-not-within+else-wild_mix w ↦ turn-any g.1 c.loop-i-test.true (cell-wild _ _ _ _ w.unshade-d.ensures _ _ _ _ c.cell_spot-s.ensures _ w.wild_mix.ensures) w.if-wild_mix.false
+      | else-not-within w ↦ turn-any g.1 c.loop-i-test.true (cell-wild _ _ _ _ refl _ _ _ _ c.cell_spot-s.ensures false (sym (in_reach _ _ _ _ _ _ c.reach-reach.ensures c.within.ensures (ap not w.if-not-within.false)))) refl
+    ] )
 
 pub loop-i-init : goal.loop-i-init
 loop-i-init c = search (loops, rules)

@@ -1,4 +1,5 @@
 -- `cell_centre` meets its contract: a coordinate and a size up to 16 are f32 values. Assumes nothing.
+use lib.Dec.{le→leb}
 use mathlib.Core.Path.{refl}
 use Prim.Native.Nat.{ℕ, ◌^◌, ◌≤◌}
 use native.Mathlib.Omega.{arith}

@@ -1,5 +1,6 @@
 -- `references::bad_position` meets its contract: by its two tests; a side up to 1,024 and 16 more is an f32.
 -- Assumes nothing.
+use lib.Dec.{le→leb}
 use mathlib.Core.Path.{◌≡◌, refl}
 use mathlib.Core.Bool.{true, false, not}
 use Prim.Native.Nat.{ℕ, ◌+◌}

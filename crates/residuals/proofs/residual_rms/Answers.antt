@@ -1,5 +1,6 @@
 -- `residuals::residual_rms` meets its contract: the mean over the live ones, of which there are at most 16,384.
 -- Assumes nothing.
+use lib.Dec.{le→leb}
 use mathlib.Core.Path.{◌≡◌}
 use mathlib.Core.List.{List}
 use Prim.Native.Nat.{ℕ}
