@@ -87,7 +87,7 @@ pub fit_live-r-requires : goal.fit_live-r-requires
 fit_live-r-requires c =
     let k = c in
     let start = k in
-    ready _ _ start.args.kept-1.now _ _ _ k.refused-number.ensures c.if-number-ne0.false start.requires
+    ready _ _ start.args.kept.now _ _ _ k.refused-number.ensures c.if-number-ne0.false start.requires
 
 pub slice_bounds-mark_kept-end : goal.slice_bounds-mark_kept-end
 slice_bounds-mark_kept-end c = search (live-room)

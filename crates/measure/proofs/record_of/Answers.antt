@@ -16,7 +16,7 @@ figures_of-requires c =
     let light = w in
     let dark = light in
     let start = dark in
-    let t = drop start.args.n start.args.s-1.now in (
+    let t = drop start.args.n start.args.s.now in (
       record { scratch = search rules; fit = still-fit start.args.n t _ _ light.level_of-light.ensures.1 dark.level_of-dark.ensures.1 start.requires.0.fit },
       spreads_still start.args.palette.now start.args.n t _ dark.level_of-dark.ensures.0 _ _ light.level_of-light.ensures.0 dark.level_of-dark.ensures.1 w.if-dark-lt3.false _ light.level_of-light.ensures.1 start.requires.2,
     )

@@ -8,4 +8,4 @@ returns c =
     let less = two in
     let one = less in
     let start = one in
-    in_place start.args.values-1.now _ _ one.median-m.ensures _ _ _ _ c.max.ensures two.median.ensures less.deviate_in.ensures start.requires
+    in_place start.args.values.now _ _ one.median-m.ensures _ _ _ _ c.max.ensures two.median.ensures less.deviate_in.ensures start.requires

@@ -28,7 +28,7 @@ module _ (q : Query) (b : ℕ → ℕ → Bool) (xy : List Float) (kept : List �
 pub returns-in-Nearest : goal.returns-in-Nearest
 returns-in-Nearest c =
     let s = c.args in
-    let e : s.query-1 ≡ query.Nearest = cc in
+    let e : s.query ≡ query.Nearest = cc in
     record { promised = three _ _ _ _ _ _ _ _ _ e c.nearest.ensures.first_three; upper_bound = c.nearest.ensures.upper_bound }
 
 pub returns-in-Within : goal.returns-in-Within

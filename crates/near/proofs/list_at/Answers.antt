@@ -19,7 +19,7 @@ module _ (chosen : ℕ → Bool) (i m : ℕ) (o : List ℕ) (r : Bool) (e : r �
   taken t = cc (not-false r t)
 
 pub returns-then-not-chosen : goal.returns-then-not-chosen
-returns-then-not-chosen c = left_out _ _ _ _ _ c.chosen.ensures c.if-not-chosen.true
+returns-then-not-chosen c = left_out _ _ _ _ _ c.chosen.ensures (ap not c.if-not-chosen.true)
 
 pub returns : goal.returns
-returns c = taken _ _ _ _ _ c.chosen.ensures c.if-not-chosen.false
+returns c = taken _ _ _ _ _ c.chosen.ensures (ap not c.if-not-chosen.false)

@@ -10,10 +10,10 @@ pub sift-requires : goal.sift-requires
 sift-requires c =
     let s = c.requires in
     let a = c.args in
-    (s.0, omega arith, omega (arith, length-set a.out-1.now a.k a.i), put-places _ _ _ s.3 s.2 s.4)
+    (s.0, omega arith, omega (arith, length-set a.out.now a.k a.i), put-places _ _ _ s.3 s.2 s.4)
 
 pub shape_of-out : goal.shape_of-out
-shape_of-out c = let a = c.args in c.sift.ensures.mixed.long ∙ length-set a.out-1.now a.k a.i
+shape_of-out c = let a = c.args in c.sift.ensures.mixed.long ∙ length-set a.out.now a.k a.i
 
 pub returns : goal.returns
 returns c = c.sift.ensures

@@ -6,5 +6,5 @@ use Rattle.exports.proofs.nearby.purdolve_within.Goals as goal
 pub returns : goal.returns
 returns c =
     let s = c in
-    near-exit s.args.xy.now s.args.kept.now s.args.side s.args.x s.args.y (query.Within s.args.radius) s.args.out-1.now s.ranges.x s.ranges.y
+    near-exit s.args.xy.now s.args.kept.now s.args.side s.args.x s.args.y (query.Within s.args.radius) s.args.out.now s.ranges.x s.ranges.y
     c.number_answer.ensures c.near.ensures.out_after
