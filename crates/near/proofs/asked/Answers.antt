@@ -28,6 +28,6 @@ returns-in-Within c = cc
 
 pub returns-in-CutOff : goal.returns-in-CutOff
 returns-in-CutOff c =
-    let s = c in
-    column s.args.query s.args.xy.now s.args.cx s.args.cy s.args.i c.query-in-CutOff-1.given.0.0 c.cut_off.result
-    c.query-in-CutOff-1.given.1 (record { sfits = c.known_told-in-CutOff-1.given.0.1 }) c.cut_off.ensures
+    let s = c.args in
+    column s.query s.xy.now s.cx s.cy s.i c.in-CutOff.column c.cut_off.result c.in-CutOff.is
+    (record { sfits = c.in-CutOff.known_told-in-CutOff-1-own.given.0.1 }) c.cut_off.ensures

@@ -28,6 +28,5 @@ returns-in-Within c = cc
 
 pub returns-in-CutOff : goal.returns-in-CutOff
 returns-in-CutOff c =
-    let s = c in
-    column s.args.side s.args.query c.query-in-CutOff-1.given.0.0 c.outside_ring.result
-    c.query-in-CutOff-1.given.1 (record { sfits = c.known_told-in-CutOff-1.given.0.1 }) c.outside_ring.ensures
+    column c.args.side c.args.query c.in-CutOff.column c.outside_ring.result c.in-CutOff.is
+    (record { sfits = c.in-CutOff.known_told-in-CutOff-1-own.given.0.1 }) c.outside_ring.ensures

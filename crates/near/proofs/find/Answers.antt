@@ -32,7 +32,7 @@ returns-in-Nearest c =
     record { promised = three _ _ _ _ _ _ _ _ _ e c.nearest.ensures.first_three; upper_bound = c.nearest.ensures.upper_bound }
 
 pub returns-in-Within : goal.returns-in-Within
-returns-in-Within c = record { promised = inside _ _ _ _ _ _ _ _ _ _ c.query-1.given.1 c.list_all.ensures.all; upper_bound = c.list_all.ensures.upper_bound }
+returns-in-Within c = record { promised = inside _ _ _ _ _ _ _ _ _ _ c.in-Within.is c.list_all.ensures.all; upper_bound = c.list_all.ensures.upper_bound }
 
 pub returns-in-CutOff : goal.returns-in-CutOff
-returns-in-CutOff c = record { promised = cut _ _ _ _ _ _ _ _ _ _ c.query-in-CutOff-1.given.1 c.list_all-in-CutOff.ensures.all; upper_bound = c.list_all-in-CutOff.ensures.upper_bound }
+returns-in-CutOff c = record { promised = cut _ _ _ _ _ _ _ _ _ _ c.in-CutOff.is c.list_all-in-CutOff.ensures.all; upper_bound = c.list_all-in-CutOff.ensures.upper_bound }

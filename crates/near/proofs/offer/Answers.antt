@@ -1,13 +1,12 @@
 -- `near::offer` meets its contract: one case for each way out.
 -- Assumes nothing.
 use mathlib.Core.Path.{refl, sym, ap, ◌∙◌}
-use borrow.Author.Tests.{not-true, not-false}
 use native.Mathlib.Omega.{arith}
 use Rattle.near.specs.Near.{before, passed, added, last, instead}
 use Rattle.near.proofs.offer.Goals as goal
 
 pub returns-then-not-chosen : goal.returns-then-not-chosen
-returns-then-not-chosen c = passed (sym c.chosen.ensures ∙ (ap not c.if-not-chosen.true)) refl refl
+returns-then-not-chosen c = passed (sym c.chosen.ensures ∙ c.if-not-chosen.true) refl refl
 
 pub put-requires : goal.put-requires
 put-requires c =
@@ -16,7 +15,7 @@ put-requires c =
 
 pub returns-then-m-lt3 : goal.returns-then-m-lt3
 returns-then-m-lt3 c =
-    added (sym c.chosen.ensures ∙ (ap not c.if-not-chosen.false)) c.if-m-lt3.true refl c.put.ensures
+    added (sym c.chosen.ensures ∙ c.if-not-chosen.false) c.if-m-lt3.true refl c.put.ensures
 
 pub before-requires : goal.before-requires
 before-requires c =
@@ -26,8 +25,8 @@ before-requires c =
 
 pub returns-then-not-before : goal.returns-then-not-before
 returns-then-not-before c =
-    last (sym c.chosen.ensures ∙ (ap not c.if-not-chosen.false)) c.if-m-lt3.false
-    (ap (before _ _ _ _) (sym c.wide.ensures) ∙ sym c.before-2.ensures ∙ (ap not c.if-not-before.true)) refl refl
+    last (sym c.chosen.ensures ∙ c.if-not-chosen.false) c.if-m-lt3.false
+    (ap (before _ _ _ _) (sym c.wide.ensures) ∙ sym c.before-2.ensures ∙ c.if-not-before.true) refl refl
 
 pub put-requires-2 : goal.put-requires-2
 put-requires-2 c =
@@ -36,5 +35,5 @@ put-requires-2 c =
 
 pub returns : goal.returns
 returns c =
-    instead (sym c.chosen.ensures ∙ (ap not c.if-not-chosen.false)) c.if-m-lt3.false
-    (ap (before _ _ _ _) (sym c.wide.ensures) ∙ sym c.before-2.ensures ∙ (ap not c.if-not-before.false)) refl c.put-2.ensures
+    instead (sym c.chosen.ensures ∙ c.if-not-chosen.false) c.if-m-lt3.false
+    (ap (before _ _ _ _) (sym c.wide.ensures) ∙ sym c.before-2.ensures ∙ c.if-not-before.false) refl c.put-2.ensures

@@ -1,7 +1,6 @@
 -- `near::sift` meets its contract: what is moved stands at j, and all others of the first k + 1 stay in order.
 -- Assumes nothing.
 use mathlib.Core.Path.{sym, ◌∙◌}
-use borrow.Author.Tests.{not-true, not-false}
 use Rattle.near.proofs.Sifting.{starts, ready, goes_on, stops, rests}
 use Rattle.near.proofs.sift.Goals as goal
 
@@ -19,7 +18,7 @@ shape_of-out-then-not-earlier c = c.loop-j.invariant.mixed.long
 pub returns-then-not-earlier : goal.returns-then-not-earlier
 returns-then-not-earlier c =
     let s = c in
-    rests c.loop-j.invariant s.requires.3 c.loop-j-test.true s.requires.1 (sym c.earlier.ensures ∙ (ap not c.if-not-earlier.true))
+    rests c.loop-j.invariant s.requires.3 c.loop-j-test.true s.requires.1 (sym c.earlier.ensures ∙ c.if-not-earlier.true)
 
 pub swap-requires : goal.swap-requires
 swap-requires c =
@@ -31,7 +30,7 @@ pub loop-j-preserved : goal.loop-j-preserved
 loop-j-preserved c =
     let s = c in
     goes_on c.loop-j.invariant c.loop-j-test.true s.requires.1 s.requires.2
-    (sym c.earlier.ensures ∙ (ap not c.if-not-earlier.false)) c.swap.ensures
+    (sym c.earlier.ensures ∙ c.if-not-earlier.false) c.swap.ensures
 
 pub shape_of-out : goal.shape_of-out
 shape_of-out c = c.loop-j.invariant.mixed.long
