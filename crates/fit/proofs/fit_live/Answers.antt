@@ -64,7 +64,7 @@ returns-then-not-one c =
     let u = p in
     let v = u in
     let start = v in
-    unsolved _ start.args.s.now v.revive.new.0 start.args.n start.args.side start.args.terms _
+    unsolved _ start.args.s.now v.revive.new.live start.args.n start.args.side start.args.terms _
     u.unit_model-start.ensures v.revive.ensures start.requires.0.four p.if-n-lt8.false p.run_pass-one.result _ p.run_pass-one.ensures.0 p.run_pass-one.ensures.1
     (ap not c.if-not-one.true)
 
@@ -75,7 +75,7 @@ returns-then-one c =
     let u = p in
     let v = u in
     let start = v in
-    infinite _ start.args.s.now v.revive.new.0 start.args.n start.args.side start.args.terms _
+    infinite _ start.args.s.now v.revive.new.live start.args.n start.args.side start.args.terms _
     u.unit_model-start.ensures v.revive.ensures start.requires.0.four p.if-n-lt8.false p.run_pass-one.result _ p.run_pass-one.ensures.0 p.run_pass-one.ensures.1
     _ (ap not w.if-not-one.false) c.if-one.true c.no_model.ensures
 
@@ -86,6 +86,6 @@ returns c =
     let u = p in
     let v = u in
     let start = v in
-    goes_on _ start.args.s.now v.revive.new.0 start.args.n start.args.side start.args.terms _
+    goes_on _ start.args.s.now v.revive.new.live start.args.n start.args.side start.args.terms _
     u.unit_model-start.ensures v.revive.ensures start.requires.0.four p.if-n-lt8.false p.run_pass-one.result _ p.run_pass-one.ensures.0 p.run_pass-one.ensures.1
     _ _ _ c.refit.ensures p.run_pass-one.ensures.2 (ap not w.if-not-one.false) w.if-one.false

@@ -61,7 +61,7 @@ live_count-kept-requires c =
     let p = w in
     let d = p in
     let n = d.args.n in
-    take_long _ n p.run_pass-two.new.1.1.1.0 (search rules) (search rules)
+    take_long _ n p.run_pass-two.new.s (search rules) (search rules)
 
 pub returns : goal.returns
 returns c =

@@ -105,14 +105,14 @@ slice_bounds-measure-end-2 c =
     let w = c in
     let o = w in
     let start = o in
-    first_long _ start.args.s.now w.write_residuals.new.0 start.args.n _ w.write_residuals.ensures start.requires.four
+    first_long _ start.args.s.now w.write_residuals.new.out start.args.n _ w.write_residuals.ensures start.requires.four
 
 pub measure-requires : goal.measure-requires
 measure-requires c =
     let w = c in
     let o = w in
     let start = o in
-    (start.requires.most, both_long _ start.args.s.now w.write_residuals.new.0 start.args.n _ w.write_residuals.ensures start.requires.four)
+    (start.requires.most, both_long _ start.args.s.now w.write_residuals.new.out start.args.n _ w.write_residuals.ensures start.requires.four)
 
 pub returns : goal.returns
 returns c =
@@ -120,5 +120,5 @@ returns c =
     let w = v in
     let o = w in
     let start = o in
-    ends _ _ start.args.s.now w.write_residuals.new.0 start.args.n o.fit_once-o.result c.measure.result o.fit_once-o.ensures
+    ends _ _ start.args.s.now w.write_residuals.new.out start.args.n o.fit_once-o.result c.measure.result o.fit_once-o.ensures
     (ap not w.if-not-o.false) w.write_residuals.ensures c.measure.ensures start.requires.four

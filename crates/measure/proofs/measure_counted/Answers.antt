@@ -78,8 +78,8 @@ clear-requires c =
     let k = l in
     let a = k.args in
     let w =
-    long a.flat.now a.palette.now a.scratch-1.now a.n a.side a.hues _ a.model k.refused-number.ensures l.if-number-ne0.false
-    l.measurement_of-r.new.1.1.1.1.0 l.measurement_of-r.auto.1.1.1.1.0 in
+    long a.flat.now a.palette.now a.scratch.now a.n a.side a.hues _ a.model k.refused-number.ensures l.if-number-ne0.false
+    l.measurement_of-r.new.s l.measurement_of-r.auto.s in
     omega (arith, w)
 
 pub returns : goal.returns

@@ -13,4 +13,4 @@ pub returns : goal.returns
 returns c =
     let start = c in
     let m = c.median in
-    (found _ _ _ m.ensures, behind start.args.k start.args.n start.args.s.now m.new.0 m.auto.0 start.requires.0 (omega (arith, start.requires.1)))
+    (found _ _ _ m.ensures, behind start.args.k start.args.n start.args.s.now m.new.values m.auto.values start.requires.0 (omega (arith, start.requires.1)))

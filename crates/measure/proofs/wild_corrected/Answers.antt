@@ -20,7 +20,7 @@ loop-i-preserved c =
     let g = c.loop-i.invariant in
     elim c.if-not-within.branch [
       then-not-within+else-wild_mix w ↦ turn-any g c.loop-i-test.true (seen-wild _ _ _ _ _ _ c.seen_at-o.ensures w.unshade-d.ensures refl _ w.wild_mix.ensures) w.if-wild_mix.false
-      | else-not-within w ↦ turn-any g c.loop-i-test.true (seen-wild _ _ _ _ _ _ c.seen_at-o.ensures refl refl false (sym (in_reach _ _ _ _ _ _ c.reach-reach.ensures c.within.ensures (ap not (ap not w.if-not-within.false))))) refl
+      | else-not-within w ↦ turn-any g c.loop-i-test.true (seen-wild _ _ _ _ _ _ c.seen_at-o.ensures refl refl false (sym (in_reach _ _ _ _ _ _ c.reach-reach.ensures c.within.ensures (ap not w.if-not-within.false)))) refl
     ]
 
 pub returns : goal.returns

@@ -26,25 +26,25 @@ returns c =
     )
 
 pub shape_of-palette : goal.shape_of-palette
-shape_of-palette c = c.decode_floats.auto.1.1.0
+shape_of-palette c = c.decode_floats.auto.out
 
 pub shape_of-references : goal.shape_of-references
-shape_of-references c = c.decode_floats-2.auto.1.1.0
+shape_of-references c = c.decode_floats-2.auto.out
 
 pub shape_of-xs : goal.shape_of-xs
-shape_of-xs c = c.decode_modules.auto.1.1.0
+shape_of-xs c = c.decode_modules.auto.xs
 
 pub shape_of-ys : goal.shape_of-ys
-shape_of-ys c = c.decode_modules.auto.1.1.1.0
+shape_of-ys c = c.decode_modules.auto.ys
 
 pub shape_of-raw : goal.shape_of-raw
-shape_of-raw c = c.decode_modules.auto.1.1.1.1.0
+shape_of-raw c = c.decode_modules.auto.raw
 
 pub shape_of-cxs : goal.shape_of-cxs
-shape_of-cxs c = c.decode_cells.auto.1.1.0
+shape_of-cxs c = c.decode_cells.auto.cxs
 
 pub shape_of-cys : goal.shape_of-cys
-shape_of-cys c = c.decode_cells.auto.1.1.1.0
+shape_of-cys c = c.decode_cells.auto.cys
 
 pub shape_of-craw : goal.shape_of-craw
-shape_of-craw c = c.decode_cells.auto.1.1.1.1.0
+shape_of-craw c = c.decode_cells.auto.craw

@@ -7,7 +7,7 @@ use native.Mathlib.Omega.{arith}
 use lib.ListN.{length, take}
 use lib.Seq.{length-take-le}
 use lib.Ieee.{Float}
-use Rattle.residuals.proofs.Halves.{raise-read, raises}
+use Rattle.residuals.proofs.Halves.{raise-read, raise-turn, raises}
 use borrow.Author.Rules.{rules}
 use Rattle.residuals.proofs.copy_up.Goals as goal
 
@@ -18,7 +18,9 @@ pub loop-i-init : goal.loop-i-init
 loop-i-init c = search (long, raises, rules)
 
 pub loop-i-preserved : goal.loop-i-preserved
-loop-i-preserved c = search (raise-read, raises, rules)
+loop-i-preserved c =
+    let g = c.loop-i.invariant in
+    (search rules, raise-turn g.1 c.loop-i-test.true (raise-read g.1 c.loop-i-test.true))
 
 pub returns : goal.returns
 returns c = search (raises, rules)

@@ -9,7 +9,7 @@ use lib.Seq.{length-take-le}
 use lib.Ieee.{Float, nan, binary32, sub}
 use Rattle.float.specs.Select.{abs}
 use Rattle.order.specs.Deviation.{deviation}
-use Rattle.residuals.proofs.Halves.{Raised, raise-read, raises}
+use Rattle.residuals.proofs.Halves.{Raised, raise-read, raise-turn, raises}
 use borrow.Author.Rules.{rules}
 use Rattle.residuals.proofs.deviate_up.Goals as goal
 
@@ -25,7 +25,9 @@ pub loop-i-init : goal.loop-i-init
 loop-i-init c = search (long, raises, rules)
 
 pub loop-i-preserved : goal.loop-i-preserved
-loop-i-preserved c = search (each, raises, rules)
+loop-i-preserved c =
+    let g = c.loop-i.invariant in
+    (search rules, raise-turn g.1 c.loop-i-test.true (each _ _ g.1 c.loop-i-test.true c.abs.ensures))
 
 pub returns : goal.returns
 returns c = search (raises, rules)
