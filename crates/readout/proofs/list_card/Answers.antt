@@ -4,8 +4,7 @@ use Rattle.readout.proofs.list_card.Goals as goal
 
 pub list_read-requires : goal.list_read-requires
 list_read-requires c =
-    let told = c.enum_told-1.given in
-    listable _ _ _ _ _ _ _ _ _ _ _ _ _ _ _ _ _ _ _ _ _ _ _ _ c.read_bits.ensures.0 told.0.0 told.1
+    listable _ _ _ _ _ _ _ _ _ _ _ _ _ _ _ _ _ _ _ _ _ _ _ _ c.read_bits.ensures.0 c.in-Done.field-0 c.in-Done.is
 
 pub returns-in-Refused : goal.returns-in-Refused
 returns-in-Refused c = search (not-read)
