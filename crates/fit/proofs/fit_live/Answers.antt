@@ -66,7 +66,7 @@ returns-then-not-one c =
     let start = v in
     unsolved _ start.args.s.now v.revive.new.live start.args.n start.args.side start.args.terms _
     u.unit_model-start.ensures v.revive.ensures start.requires.0.four p.if-n-lt8.false p.run_pass-one.result _ p.run_pass-one.ensures.0 p.run_pass-one.ensures.1
-    (ap not c.if-not-one.true)
+    c.if-not-one.true
 
 pub returns-then-one : goal.returns-then-one
 returns-then-one c =
@@ -77,7 +77,7 @@ returns-then-one c =
     let start = v in
     infinite _ start.args.s.now v.revive.new.live start.args.n start.args.side start.args.terms _
     u.unit_model-start.ensures v.revive.ensures start.requires.0.four p.if-n-lt8.false p.run_pass-one.result _ p.run_pass-one.ensures.0 p.run_pass-one.ensures.1
-    _ (ap not w.if-not-one.false) c.if-one.true c.no_model.ensures
+    _ w.if-not-one.false c.if-one.true c.no_model.ensures
 
 pub returns : goal.returns
 returns c =
@@ -88,4 +88,4 @@ returns c =
     let start = v in
     goes_on _ start.args.s.now v.revive.new.live start.args.n start.args.side start.args.terms _
     u.unit_model-start.ensures v.revive.ensures start.requires.0.four p.if-n-lt8.false p.run_pass-one.result _ p.run_pass-one.ensures.0 p.run_pass-one.ensures.1
-    _ _ _ c.refit.ensures p.run_pass-one.ensures.2 (ap not w.if-not-one.false) w.if-one.false
+    _ _ _ c.refit.ensures p.run_pass-one.ensures.2 w.if-not-one.false w.if-one.false

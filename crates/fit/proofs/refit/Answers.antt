@@ -42,7 +42,7 @@ pub returns-then-not-two : goal.returns-then-not-two
 returns-then-not-two c =
     let p = c in
     let d = p in
-    unsolved _ _ _ _ _ _ _ _ p.run_pass-two.result p.run_pass-two.ensures.0 p.run_pass-two.ensures.1 d.drop_outliers-first.ensures (ap not c.if-not-two.true)
+    unsolved _ _ _ _ _ _ _ _ p.run_pass-two.result p.run_pass-two.ensures.0 p.run_pass-two.ensures.1 d.drop_outliers-first.ensures c.if-not-two.true
 
 pub returns-then-two : goal.returns-then-two
 returns-then-two c =
@@ -50,7 +50,7 @@ returns-then-two c =
     let p = w in
     let d = p in
     infinite _ _ _ _ _ _ _ _ p.run_pass-two.result p.run_pass-two.ensures.0 p.run_pass-two.ensures.1 d.drop_outliers-first.ensures
-    _ (ap not w.if-not-two.false) c.if-two.true c.no_model.ensures
+    _ w.if-not-two.false c.if-two.true c.no_model.ensures
 
 pub slice_bounds-live_count-end-2 : goal.slice_bounds-live_count-end-2
 slice_bounds-live_count-end-2 c = sym (length-take-le _ _ (search rules))
@@ -69,4 +69,4 @@ returns c =
     let p = w in
     let d = p in
     accepted _ _ _ _ _ _ _ _ p.run_pass-two.result p.run_pass-two.ensures.0 p.run_pass-two.ensures.1 d.drop_outliers-first.ensures
-    _ _ (ap not w.if-not-two.false) c.if-two.false c.live_count-kept.ensures.0 c.with_counts.ensures
+    _ _ w.if-not-two.false c.if-two.false c.live_count-kept.ensures.0 c.with_counts.ensures

@@ -121,4 +121,4 @@ returns c =
     let o = w in
     let start = o in
     ends _ _ start.args.s.now w.write_residuals.new.out start.args.n o.fit_once-o.result c.measure.result o.fit_once-o.ensures
-    (ap not w.if-not-o.false) w.write_residuals.ensures c.measure.ensures start.requires.four
+    w.if-not-o.false w.write_residuals.ensures c.measure.ensures start.requires.four
