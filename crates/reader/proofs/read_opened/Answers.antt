@@ -40,7 +40,7 @@ decode_card-requires c =
       f,
       record {
         palette_is = sym (same_long (2 + 8 * card.settings.hues) 4082 _ (omega arith));
-        references_are = sym (same_long (8 * card.references-1.count) 4080 _ (omega arith));
+        references_are = sym (same_long (8 * card.references.count) 4080 _ (omega arith));
         xs_are = sym (same_long m 1020 _ (omega arith));
         ys_are = both_long m 1020 _ _ (omega arith);
         raw_are = thrice_long m 1020 3060 _ _ (omega arith) (omega arith);
