@@ -2,6 +2,7 @@
 #![tactic(auto)]
 
 use totals::{Average, Sums, Totals};
+use std::io;
 use vectors::{Compared, Tally};
 
 // ---- words of a row, and answers put into one
@@ -97,11 +98,11 @@ fn replay(text: &[u8], names: &[u8]) -> Tally {
     t
 }
 
-fn main() {
+fn main(rt: HostRuntime) -> io::Result<()> {
     // the functions, by their numbers
     let names = b"add_card\nadd_totals\nmean\n";
     let mut text = [0u8; 163840];
-    let n = vectors::load(b"totals.txt", &mut text);
+    let n = vectors::load(&rt, b"totals.txt", &mut text)?;
     let t = replay(&text[..n], names);
-    vectors::report(&text[..n], names, t);
+    vectors::report(&rt, &text[..n], names, t)
 }

@@ -4,7 +4,7 @@ use lib.Seq.{take-nil}
 use lib.Dec.{eqb-suc-zero}
 use Rattle.loops.specs.Loops.{while_do}
 use Rattle.loops.proofs.Laws.{LeftWhile, begin_while, turn_while, done_while}
-use Rattle.bytes.specs.Bytes.{slice, index_of, index_after}
+use Rattle.vectors.specs.Bytes.{slice, index_of, index_after}
 use Rattle.vectors.specs.Lines.{line_end, next_line, name_end, name_of, equal_bytes, Line, line_of, remains, is_other, line_after, number_of, function_of}
 
 -- ---- what is found stands in the part that was looked at
