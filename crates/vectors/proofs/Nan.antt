@@ -1,8 +1,8 @@
 -- Patterns and NaNs: a pattern above the infinity's, the sign taken off, is a NaN's, and every NaN is written by one pattern. Assumes nothing.
-use Rattle.std.proofs.Common.{◌≡◌, ℕ, ◌*◌, ◌%◌, ◌<◌, ◌≤◌, Bool, true, false, not, T, ltb, sym, refl, ap, ◌∙◌, subst, le-ltb, lt-ltb}
-use lib.Ieee.{Float, nan, inf, fin, Format, binary32, binary64, ones, hid, top, ne, div, fits, is_nan, of_bits, nan_bits, to_bits}
-use lib.Ieee.Bits.{nan_bits_is, nan_bits_above, to_bits-lt}
-use Rattle.floatlaws.specs.Nan.{no_nan, a_nan, only_nan, zero_by_zero}
+use Rattle.std.proofs.Common.{◌≡◌, ℕ, ◌*◌, ◌%◌, ◌<◌, ◌≤◌, Bool, true, not, T, sym, refl, ap, ◌∙◌, subst, le-ltb, lt-ltb}
+use lib.Ieee.{Float, nan, Format, binary32, binary64, ones, hid, top, ne, div, of_bits, nan_bits, to_bits}
+use lib.Ieee.Bits.{nan_bits_is, nan_bits_above}
+use Rattle.floatlaws.specs.Nan.{a_nan, only_nan}
 
 module _ (f : Format) (n : ℕ) where
   pub nan_pattern : ones f * hid f < n % top f → nan ≡ of_bits f n

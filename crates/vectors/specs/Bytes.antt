@@ -1,5 +1,5 @@
 -- A part of a list, and where a number first stands in a list. Definitions only.
-use Rattle.std.specs.Prelude.{ℕ, zero, suc, Bool, true, false, List, [], ◌∷◌, take, drop, ◌==◌}
+use Rattle.std.specs.Prelude.{ℕ, suc, Bool, true, false, List, [], ◌∷◌, take, drop, ◌==◌}
 
 -- the elements of a list from one place up to another
 unfoldable pub slice : ℕ → ℕ → List ℕ → List ℕ

@@ -19,9 +19,9 @@ ghost use Rattle.vectors.specs.Words as reading;
 ghost use Rattle.vectors.specs.Answers as comparing;
 ghost use Rattle.vectors.specs.Slices.{past_slice, filled, loaded, Fills, stored};
 
-use std::{fs, io};
 use std::io::{ErrorKind, Read, Write};
 use std::rt::Files;
+use std::{fs, io};
 
 // The function number of a record that is not read: a name that the program does not know, or a broken line.
 pub const NOT_READ: usize = 31;

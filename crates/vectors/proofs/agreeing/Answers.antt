@@ -1,5 +1,5 @@
 -- `vectors::agreeing` meets its contract: the words passed agree, and with those that agree from there on they are all that do. Assumes nothing.
-use Rattle.std.proofs.Common.{◌-◌, rules}
+use Rattle.std.proofs.Common.{rules}
 use Rattle.vectors.proofs.Front.{begin_shared, stop_shared, turn_shared, got_done, wanted_done}
 use Rattle.vectors.proofs.agreeing.Goals as goal
 

@@ -1,5 +1,5 @@
 -- `vectors::digits_from` meets its contract: what is left from each place on gives the same digits. Assumes nothing.
-use Rattle.std.proofs.Common.{◌-◌, rules}
+use Rattle.std.proofs.Common.{rules}
 use Rattle.vectors.proofs.Front.{begin-digits, stop-digits, turn-digits, done-digits}
 use Rattle.vectors.proofs.digits_from.Goals as goal
 

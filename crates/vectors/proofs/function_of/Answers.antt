@@ -1,5 +1,4 @@
 -- `vectors::function_of` meets its contract: the lines passed are other functions', and each leaves less of the names. Assumes nothing.
-use Rattle.std.proofs.Common.{◌-◌}
 use Rattle.vectors.proofs.Lines.{begin_names, turn_names, found_name, no_function, line-less}
 use Rattle.vectors.proofs.function_of.Goals as goal
 

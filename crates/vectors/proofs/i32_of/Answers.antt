@@ -1,5 +1,5 @@
 -- `vectors::i32_of` meets its contract: bits from 2^31 on stand for -(2^32 - 1 - bits) - 1, which is found in steps that fit. Assumes nothing.
-use Rattle.std.proofs.Common.{◌≡◌, ℕ, zero, suc, ◌+◌, ◌-◌, ◌%◌, ◌^◌, ◌<◌, ◌≤◌, Bool, ℤ, pos, negsuc, ◌-ℤ◌, neg_ℤ, sym, refl, ap, ◌∙◌, subst, add-zero, arith, to_z-of_z, w32, SFits, to_z, of_z, le-ltb}
+use Rattle.std.proofs.Common.{◌≡◌, ℕ, zero, suc, ◌-◌, ◌%◌, ◌^◌, ◌<◌, ◌≤◌, Bool, ℤ, pos, negsuc, ◌-ℤ◌, neg_ℤ, sym, refl, ap, ◌∙◌, subst, add-zero, arith, to_z-of_z, w32, SFits, to_z, of_z, le-ltb}
 use borrow.Author.Rules.{sfits_of}
 use lib.IntN.{+ℤ_idl}
 use lib.Signed.{mag}

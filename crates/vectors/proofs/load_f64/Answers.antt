@@ -1,5 +1,5 @@
 -- `vectors::load_f64` meets its contract: each element is what its word stands for. Assumes nothing.
-use Rattle.std.proofs.Common.{◌-◌, rules}
+use Rattle.std.proofs.Common.{rules}
 use Rattle.vectors.proofs.Slices.{begin-load, turn-load, room-load, done-load, fills-load}
 use Rattle.vectors.proofs.load_f64.Goals as goal
 
@@ -16,4 +16,4 @@ pub loop-k-preserved : goal.loop-k-preserved
 loop-k-preserved c = search (turn-load, rules)
 
 pub returns : goal.returns
-returns c = (search (done-load), search (fills-load))
+returns c = record { out_after = search (done-load); fills = search (fills-load) }

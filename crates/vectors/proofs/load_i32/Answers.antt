@@ -1,5 +1,5 @@
 -- `vectors::load_i32` meets its contract: each element is what its word stands for. Assumes nothing.
-use Rattle.std.proofs.Common.{◌≡◌, ℕ, ◌-◌, ◌%◌, ◌^◌, ℤ, ap, ◌∙◌, arith, w32, Fits, to_z, of_z, rules}
+use Rattle.std.proofs.Common.{◌≡◌, ℕ, ◌%◌, ◌^◌, ℤ, ap, ◌∙◌, arith, w32, Fits, to_z, of_z, rules}
 use mir.Facts.{of_z-to_z}
 use Rattle.vectors.proofs.Slices.{begin-load, turn-load, room-load, done-load, fills-load}
 use Rattle.vectors.proofs.load_i32.Goals as goal
@@ -23,4 +23,4 @@ pub loop-k-preserved : goal.loop-k-preserved
 loop-k-preserved c = turn-load c.loop-k.invariant (search rules) c.word_at.ensures (back c.word_at.result c.i32_of.result c.i32_of.ensures)
 
 pub returns : goal.returns
-returns c = (search (done-load), search (fills-load))
+returns c = record { out_after = search (done-load); fills = search (fills-load) }

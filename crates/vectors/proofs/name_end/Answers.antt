@@ -7,7 +7,7 @@ pub returns-then-text-at : goal.returns-then-text-at
 returns-then-text-at c = search (name_past, rules)
 
 pub find-requires : goal.find-requires
-find-requires c = (search (line_low), search (line-high, rules))
+find-requires c = record { low = search (line_low); high = search (line-high, rules) }
 
 pub returns : goal.returns
 returns c = search (name_found, rules)

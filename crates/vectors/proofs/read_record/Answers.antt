@@ -39,7 +39,7 @@ returns-then-not-equals_at c = search (cut_off)
 pub overflow_add-end : goal.overflow_add-end
 overflow_add-end c =
     let text = c.args.text.now in
-    omega (arith, equals_inside text c.words_from-i.result.end c.equals_at.result c.equals_at.ensures c.if-not-equals_at.false)
+    omega (arith, equals_inside text c.words_from-i.result.end c.equals_at.result c.equals_at.ensures (ap not c.if-not-equals_at.false))
 
 pub returns : goal.returns
 returns c = search (complete)

@@ -1,5 +1,5 @@
 -- `vectors::store_f64` meets its contract: the length, and each element's word after it. Assumes nothing.
-use Rattle.std.proofs.Common.{◌-◌, rules}
+use Rattle.std.proofs.Common.{rules}
 use Rattle.vectors.proofs.Slices.{begin-store, turn-store, done-store}
 use Rattle.vectors.proofs.store_f64.Goals as goal
 

@@ -1,5 +1,5 @@
 -- `vectors::store_usize` meets its contract: the length, and each element after it. Assumes nothing.
-use Rattle.std.proofs.Common.{◌-◌, rules}
+use Rattle.std.proofs.Common.{rules}
 use Rattle.vectors.proofs.Slices.{begin-store, turn-plain, done-store}
 use Rattle.vectors.proofs.store_usize.Goals as goal
 

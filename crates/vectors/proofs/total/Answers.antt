@@ -1,5 +1,5 @@
 -- `vectors::total` meets its contract: a loop of the definition's steps. Assumes nothing.
-use Rattle.std.proofs.Common.{◌≡◌, ℕ, ◌+◌, ◌-◌, ◌%◌, ◌^◌, List, get_or, rules}
+use Rattle.std.proofs.Common.{◌≡◌, ℕ, ◌+◌, ◌%◌, ◌^◌, List, get_or, rules}
 use Rattle.loops.proofs.Laws.{loops}
 use Rattle.vectors.specs.Answers.{add_at}
 use Rattle.vectors.proofs.total.Goals as goal

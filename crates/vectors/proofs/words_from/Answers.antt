@@ -1,5 +1,5 @@
 -- `vectors::words_from` meets its contract: each word read leaves the rest of the run, and what is no word ends it. Assumes nothing.
-use Rattle.std.proofs.Common.{◌-◌, rules}
+use Rattle.std.proofs.Common.{rules}
 use Rattle.vectors.proofs.Rows.{begin_words, stop_words, turn_words, done_words}
 use Rattle.vectors.proofs.words_from.Goals as goal
 
