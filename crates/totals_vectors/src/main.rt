@@ -1,8 +1,8 @@
 // Replays the stored answers of the crate `totals`: cards and batches added, and means, refused calls too.
 #![tactic(auto)]
 
-use totals::{Average, Sums, Totals};
 use std::io;
+use totals::{Average, Sums, Totals};
 use vectors::{Compared, Tally};
 
 // ---- words of a row, and answers put into one
