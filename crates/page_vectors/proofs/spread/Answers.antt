@@ -1,5 +1,5 @@
 -- `page_vectors::spread` meets its contract: as many bytes as were passed are there. Assumes nothing.
-use Rattle.std.proofs.Common.{◌≡◌, ℕ, ◌-◌, ◌≤◌, List, length, sym, arith, length-take-le}
+use Rattle.std.proofs.Common.{◌≡◌, ℕ, ◌≤◌, List, length, sym, arith, length-take-le}
 use Rattle.vectors.specs.Slices.{Fills}
 use Rattle.page_vectors.proofs.spread.Goals as goal
 

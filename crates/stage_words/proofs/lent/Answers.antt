@@ -29,10 +29,10 @@ fills : (m : ℕ) (flat : List Float) → m ≤ length flat → Fills m flat
 fills m flat h = (h, sym (length-take-le m flat h))
 
 pub returns-then-n-whole : goal.returns-then-n-whole
-returns-then-n-whole c = (search (enough), fills _ _ (omega arith))
+returns-then-n-whole c = record { value = search (enough); fills = fills _ _ (omega arith) }
 
 pub returns-then-whole-eq0 : goal.returns-then-whole-eq0
-returns-then-whole-eq0 c = (search (none), fills _ _ (omega arith))
+returns-then-whole-eq0 c = record { value = search (none); fills = fills _ _ (omega arith) }
 
 pub returns : goal.returns
-returns c = (search (cut), fills _ _ (omega arith))
+returns c = record { value = search (cut); fills = fills _ _ (omega arith) }

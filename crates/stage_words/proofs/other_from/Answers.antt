@@ -1,5 +1,4 @@
 -- `stage_words::other_from` meets its contract: what is left from k on says the same. Assumes nothing.
-use Prim.Native.Nat.{◌-◌}
 use borrow.Author.Rules.{rules}
 use lib.Ieee.{binary32}
 use Rattle.loops.proofs.Laws.{loops}

@@ -1,5 +1,4 @@
 -- `stage_words::past_width` meets its contract: what is left from k on says the same. Assumes nothing.
-use Prim.Native.Nat.{◌-◌}
 use borrow.Author.Rules.{rules}
 use Rattle.loops.proofs.Laws.{loops}
 use Rattle.stage_words.proofs.Others.{found, passed}

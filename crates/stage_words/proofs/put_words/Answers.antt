@@ -1,5 +1,4 @@
 -- `stage_words::put_words` meets its contract: what is left of the loop puts the rest. Assumes nothing.
-use Prim.Native.Nat.{◌-◌}
 use borrow.Author.Rules.{rules}
 use Rattle.loops.proofs.Laws.{loops}
 use Rattle.stage_words.proofs.Puts.{put-plain}

@@ -1,7 +1,7 @@
 -- `stage_words::spread` meets its contract: what is left of the loop fills the rest. Assumes nothing.
 use mathlib.Core.Path.{◌≡◌, refl, sym, ap, ◌∙◌}
 use mathlib.Core.List.{List}
-use Prim.Native.Nat.{ℕ, ◌+◌, ◌-◌, ◌≤◌, ◌<◌, min}
+use Prim.Native.Nat.{ℕ, ◌+◌, ◌≤◌, ◌<◌, min}
 use native.Mathlib.Omega.{arith}
 use borrow.Author.Rules.{rules}
 use lib.ListN.{length, set, length-set}
@@ -44,4 +44,4 @@ pub loop-k-preserved : goal.loop-k-preserved
 loop-k-preserved c = search (more, rules)
 
 pub returns : goal.returns
-returns c = (search (whole), search (fills))
+returns c = record { out_after = search (whole); fills = search (fills) }

@@ -11,9 +11,9 @@ use Rattle.stage_words.proofs.spread.Given as goal
 
 -- with k of m elements filled
 pub record LeftSpread (n : ℕ) (v : Float) (out₀ : List Float) (m k : ℕ) (out : List Float) : Type 0 where
-  left : Left (spread_at v) m k out (for_up 0 m (spread_at v) out₀)
-  long : length out ≡ length out₀
-  counts : m ≡ min n (length out₀)
+  pub left : Left (spread_at v) m k out (for_up 0 m (spread_at v) out₀)
+  pub long : length out ≡ length out₀
+  pub counts : m ≡ min n (length out₀)
 
 abbrev pub invariant-loop-k : goal.invariant-loop-k
 invariant-loop-k l = LeftSpread l.n l.v l.initial.out l.m l.k l.out

@@ -1,7 +1,7 @@
 -- `stage_words::surface` meets its contract: what is left of the loop reads the rest. Assumes nothing.
 use mathlib.Core.Path.{◌≡◌, ap}
 use mathlib.Core.List.{List}
-use Prim.Native.Nat.{ℕ, ◌+◌, ◌-◌, ◌<◌}
+use Prim.Native.Nat.{ℕ, ◌+◌, ◌<◌}
 use borrow.Author.Rules.{rules}
 use lib.ListN.{set}
 use lib.Ieee.{Float, of_bits}

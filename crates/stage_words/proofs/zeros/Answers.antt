@@ -1,5 +1,4 @@
 -- `stage_words::zeros` meets its contract: what is left of the loop counts the rest. Assumes nothing.
-use Prim.Native.Nat.{◌-◌}
 use borrow.Author.Rules.{rules}
 use Rattle.stage_words.proofs.Others.{begin-zeros, stop-zeros, turn-zeros, done-zeros}
 use Rattle.stage_words.proofs.zeros.Goals as goal
