@@ -4,7 +4,7 @@
 // is read as, and writes that text and nothing else, in one piece at the end.
 #![tactic(auto)]
 
-ghost use Rattle.std.specs.Prelude.{◌≡◌, ◌≤◌, ◌×◌, length, take};
+ghost use Rattle.std.specs.Prelude.{◌≡◌, ◌≤◌, length, take};
 ghost use Rattle.reader.specs.Text.{card_text, listing_room};
 
 use std::io;

@@ -1,5 +1,4 @@
 -- `modulate_vectors::luma_mask_row` is safe and ends: 64 turns. Assumes nothing.
-use Rattle.std.proofs.Common.{◌-◌}
 use Rattle.modulate_vectors.proofs.luma_mask_row.Goals as goal
 
 pub loop-i-init : goal.loop-i-init

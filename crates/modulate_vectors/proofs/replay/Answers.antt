@@ -1,5 +1,4 @@
 -- `modulate_vectors::replay` is safe and ends: each line leaves less of the list. Assumes nothing.
-use Rattle.std.proofs.Common.{◌-◌}
 use Rattle.vectors.proofs.Lines.{line-less}
 use Rattle.modulate_vectors.proofs.replay.Goals as goal
 
