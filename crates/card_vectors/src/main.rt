@@ -4,8 +4,11 @@
 // A line of the list is the name of a card file, a space, and the name of the file that holds its listing.
 #![tactic(auto)]
 
-ghost use Rattle.io.specs.Counts.{IsPrefixLen};
+ghost use Rattle.std.specs.Prelude.{IfOk};
+ghost use Rattle.vectors.specs.Slices.{Fills};
 
+use std::io;
+use std::rt::Files;
 use vectors::{Compared, Tally};
 
 // How many bytes of a, from the first on, are those of b.
@@ -41,45 +44,51 @@ fn compared(card: &[u8], wanted: &[u8], at: usize) -> Compared {
 }
 
 // Loads the file that a part of the list names, and nothing where that is no part of it.
-fn load(list: &[u8], from: usize, to: usize, out: &mut [u8]) -> usize
-    ensures { IsPrefixLen result out.new }
+fn load<R: Files + Alloc>(
+    rt: &R,
+    list: &[u8],
+    from: usize,
+    to: usize,
+    out: &mut [u8],
+) -> io::Result<usize>
+    ensures { IfOk result (λ n. Fills n out.new) }
 {
     if to < from {
-        return 0;
+        return Ok(0);
     }
     if list.len() < to {
-        return 0;
+        return Ok(0);
     }
-    vectors::load(&list[from..to], out)
+    vectors::load(rt, &list[from..to], out)
 }
 
 // Replays the example on the line that begins at `at`.
-fn replayed(list: &[u8], at: usize) -> Compared {
+fn replayed<R: Files + Alloc>(rt: &R, list: &[u8], at: usize) -> io::Result<Compared> {
     let mut card = [0u8; 16385];
     let mut wanted = [0u8; listing::LISTING_ROOM];
     let end = vectors::name_end(list, at);
     let next = std::num::wrapping_add_usize(end, 1);
-    let n = load(list, at, end, &mut card);
-    let m = load(list, next, vectors::line_end(list, at), &mut wanted);
-    compared(&card[..n], &wanted[..m], at)
+    let n = load(rt, list, at, end, &mut card)?;
+    let m = load(rt, list, next, vectors::line_end(list, at), &mut wanted)?;
+    Ok(compared(&card[..n], &wanted[..m], at))
 }
 
 // Goes through all examples of a list.
-fn replay(list: &[u8]) -> Tally {
+fn replay<R: Files + Alloc>(rt: &R, list: &[u8]) -> io::Result<Tally> {
     let mut t = vectors::empty();
     let mut at = 0usize;
     while at < list.len() {
         if !vectors::is_comment(list, at) {
-            t = vectors::counted(t, replayed(list, at));
+            t = vectors::counted(t, replayed(rt, list, at)?);
         }
         at = vectors::next_line(list, at);
     }
-    t
+    Ok(t)
 }
 
-fn main() {
+fn main(rt: HostRuntime) -> io::Result<()> {
     let mut list = [0u8; 4096];
-    let n = vectors::load(b"examples.txt", &mut list);
-    let t = replay(&list[..n]);
-    vectors::report(&list[..n], b"read_card\n", t);
+    let n = vectors::load(&rt, b"examples.txt", &mut list)?;
+    let t = replay(&rt, &list[..n])?;
+    vectors::report(&rt, &list[..n], b"read_card\n", t)
 }

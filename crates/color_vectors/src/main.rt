@@ -4,6 +4,7 @@
 use answers::Number;
 use color::palette::Flag;
 use color::{Lab, Linear, Srgb8, Xyz};
+use std::io;
 use vectors::{Compared, Tally};
 
 // ---- inputs: words of a row
@@ -212,12 +213,12 @@ fn replay(text: &[u8], names: &[u8]) -> Tally {
     t
 }
 
-fn main() {
+fn main(rt: HostRuntime) -> io::Result<()> {
     // the functions, by their numbers: those of bytes and places, then those of floats
     let names =
         b"srgb_to_linear\nsrgb8_to_linear\nsrgb8_to_lab\nrec709_luma\nto_hex\nfrom_hex\nindex\npalette_len\npalette_is_empty\nlinear_to_xyz\nxyz_to_linear\nxyz_to_lab\nlab_to_xyz\nlinear_to_lab\nlab_to_linear\nluminance\nchroma\nab_distance\nclamped\nin_gamut\n";
     let mut text = [0u8; 262144];
-    let n = vectors::load(b"color.txt", &mut text);
+    let n = vectors::load(&rt, b"color.txt", &mut text)?;
     let t = replay(&text[..n], names);
-    vectors::report(&text[..n], names, t);
+    vectors::report(&rt, &text[..n], names, t)
 }

@@ -3,6 +3,7 @@
 
 use answers::outcome_number;
 use stats::ChannelStats;
+use std::io;
 use vectors::{Compared, Tally};
 
 // A count as a word.
@@ -101,11 +102,11 @@ fn replay(text: &[u8], names: &[u8]) -> Tally {
     t
 }
 
-fn main() {
+fn main(rt: HostRuntime) -> io::Result<()> {
     // the functions, by their numbers
     let names = b"colour_counts\n";
     let mut text = [0u8; 65536];
-    let n = vectors::load(b"counts.txt", &mut text);
+    let n = vectors::load(&rt, b"counts.txt", &mut text)?;
     let t = replay(&text[..n], names);
-    vectors::report(&text[..n], names, t);
+    vectors::report(&rt, &text[..n], names, t)
 }

@@ -7,6 +7,7 @@ use illum::IlluminationModel;
 use layout::Layout;
 use stage_words::count;
 use stats::ChannelStats;
+use std::io;
 use vectors::{Compared, Tally};
 
 // ---- the call
@@ -222,11 +223,11 @@ fn replay(text: &[u8], names: &[u8]) -> Tally {
     t
 }
 
-fn main() {
+fn main(rt: HostRuntime) -> io::Result<()> {
     // the one function
     let names = b"score\n";
     let mut text = [0u8; 262144];
-    let n = vectors::load(b"demod.txt", &mut text);
+    let n = vectors::load(&rt, b"demod.txt", &mut text)?;
     let t = replay(&text[..n], names);
-    vectors::report(&text[..n], names, t);
+    vectors::report(&rt, &text[..n], names, t)
 }

@@ -1,6 +1,7 @@
 // Replays the stored answers of the crate `float`: each function's answer, every bit.
 #![tactic(auto)]
 
+use std::io;
 use vectors::{Compared, Tally};
 
 // What a function from f64 to f64 or f32 answers to x, as a word.
@@ -72,11 +73,11 @@ fn replay(text: &[u8], names: &[u8]) -> Tally {
     t
 }
 
-fn main() {
+fn main(rt: HostRuntime) -> io::Result<()> {
     // the functions, by their numbers
     let names = b"sqrt\ncbrt\nnarrow\nwiden\nabs\nabs_f64\nmax\nmin\nclamp\n";
     let mut text = [0u8; 262144];
-    let n = vectors::load(b"float.txt", &mut text);
+    let n = vectors::load(&rt, b"float.txt", &mut text)?;
     let t = replay(&text[..n], names);
-    vectors::report(&text[..n], names, t);
+    vectors::report(&rt, &text[..n], names, t)
 }

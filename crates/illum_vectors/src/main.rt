@@ -8,6 +8,7 @@
 #![tactic(auto)]
 
 use illum::{Correction, IlluminationModel, Marked, Modelled, Unshaded};
+use std::io;
 use vectors::{Compared, Tally};
 
 // ---- answers: words put into a row
@@ -211,11 +212,11 @@ fn replay(text: &[u8], names: &[u8]) -> Tally {
     t
 }
 
-fn main() {
+fn main(rt: HostRuntime) -> io::Result<()> {
     // the functions, by their numbers
     let names = b"identity\ncorrect\nfit\nbasis\ndeshade\n";
     let mut text = [0u8; 262144];
-    let n = vectors::load(b"illum.txt", &mut text);
+    let n = vectors::load(&rt, b"illum.txt", &mut text)?;
     let t = replay(&text[..n], names);
-    vectors::report(&text[..n], names, t);
+    vectors::report(&rt, &text[..n], names, t)
 }

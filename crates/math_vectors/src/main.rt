@@ -4,6 +4,7 @@
 
 use math::Solving;
 use order::Sigma;
+use std::io;
 use vectors::{Compared, Tally};
 
 // An answer as a list has it: 0 solved, FFFF no solution, else the refusal's number.
@@ -243,11 +244,11 @@ fn replay(text: &[u8], names: &[u8]) -> Tally {
     t
 }
 
-fn main() {
+fn main(rt: HostRuntime) -> io::Result<()> {
     // the functions, by their numbers
     let names = b"solve\nleast_squares\nadd_row\nfinish\nmedian\nmad_sigma\n";
     let mut text = [0u8; 262144];
-    let n = vectors::load(b"math.txt", &mut text);
+    let n = vectors::load(&rt, b"math.txt", &mut text)?;
     let t = replay(&text[..n], names);
-    vectors::report(&text[..n], names, t);
+    vectors::report(&rt, &text[..n], names, t)
 }

@@ -9,6 +9,7 @@
 
 use illum::IlluminationModel;
 use measure::Measured;
+use std::io;
 use vectors::{Compared, Tally};
 
 // 0, the noise record and the count of marked references, or the refusal's number.
@@ -113,11 +114,11 @@ fn replay(text: &[u8], names: &[u8]) -> Tally {
     t
 }
 
-fn main() {
+fn main(rt: HostRuntime) -> io::Result<()> {
     // the one function
     let names = b"measure\n";
     let mut text = [0u8; 262144];
-    let n = vectors::load(b"measure.txt", &mut text);
+    let n = vectors::load(&rt, b"measure.txt", &mut text)?;
     let t = replay(&text[..n], names);
-    vectors::report(&text[..n], names, t);
+    vectors::report(&rt, &text[..n], names, t)
 }

@@ -5,6 +5,7 @@
 use answers::{Number, outcome_number};
 use layout::Layout;
 use modulate::Cell;
+use std::io;
 use vectors::{Compared, Tally};
 
 // ---- inputs: words of a row
@@ -341,12 +342,12 @@ fn replay(text: &[u8], names: &[u8]) -> Tally {
     t
 }
 
-fn main() {
+fn main(rt: HostRuntime) -> io::Result<()> {
     // the functions, by their numbers: those of numbers, then those of slices
     let names =
         b"gray\ngray_inverse\nchroma_symbol_to_hue\nhue_to_chroma_symbol\nluma_mask_row\nchroma_rotation\nchroma_mask_apply\nchroma_mask_remove\nread\nchroma_bit_llrs\nunmask_luma\nread_list\ndraw\n";
     let mut text = [0u8; 262144];
-    let n = vectors::load(b"modulate.txt", &mut text);
+    let n = vectors::load(&rt, b"modulate.txt", &mut text)?;
     let t = replay(&text[..n], names);
-    vectors::report(&text[..n], names, t);
+    vectors::report(&rt, &text[..n], names, t)
 }

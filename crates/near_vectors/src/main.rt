@@ -7,6 +7,7 @@ ghost use Rattle.vectors.specs.Slices.{Fills};
 
 use answers::Number;
 use near::Query;
+use std::io;
 use vectors::{Compared, Tally};
 
 // ---- lent memory: every element v, and afterwards as words
@@ -189,11 +190,11 @@ fn replay(text: &[u8], names: &[u8]) -> Tally {
     t
 }
 
-fn main() {
+fn main(rt: HostRuntime) -> io::Result<()> {
     // the functions, one a line
     let names = b"kept\nnearest\nwithin\ncut_off\n";
     let mut text = [0u8; 262144];
-    let n = vectors::load(b"near.txt", &mut text);
+    let n = vectors::load(&rt, b"near.txt", &mut text)?;
     let t = replay(&text[..n], names);
-    vectors::report(&text[..n], names, t);
+    vectors::report(&rt, &text[..n], names, t)
 }

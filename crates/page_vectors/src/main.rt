@@ -4,6 +4,7 @@
 ghost use Rattle.vectors.specs.Slices.{Fills};
 
 use answers::outcome_number;
+use std::io;
 use vectors::{Compared, Tally};
 
 fn count(row: &[u64], at: usize, k: usize) -> usize {
@@ -111,10 +112,10 @@ fn replay(text: &[u8], names: &[u8]) -> Tally {
     t
 }
 
-fn main() {
+fn main(rt: HostRuntime) -> io::Result<()> {
     let names = b"page\n";
     let mut text = [0u8; 262144];
-    let n = vectors::load(b"page.txt", &mut text);
+    let n = vectors::load(&rt, b"page.txt", &mut text)?;
     let t = replay(&text[..n], names);
-    vectors::report(&text[..n], names, t);
+    vectors::report(&rt, &text[..n], names, t)
 }

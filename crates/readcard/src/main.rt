@@ -5,23 +5,25 @@
 #![tactic(auto)]
 
 ghost use Rattle.std.specs.Prelude.{◌≡◌, ◌≤◌, length, take};
-ghost use Rattle.io.specs.Counts.{IsPrefixLen};
 ghost use Rattle.reader.specs.Text.{card_text, listing_room};
+
+use std::io;
+use std::io::{Read, Write};
 
 // The text of a card file, whole, at the start of `out`, and its length.
 fn listed(file: &[u8], out: &mut [u8]) -> usize
     requires { listing_room ≤ length out.old }
     ensures out_after { take result out.new ≡ card_text file.now }
-    ensures prefix_len { IsPrefixLen result out.new }
+    ensures prefix_len { (result ≤ length out.new) × (result ≡ length (take result out.new)) }
 {
     reader::read_card(file, out)
 }
 
 // At most 16,385 bytes are read, one more than a card file may have, so that a longer one is seen to be too long.
-fn main() {
-    let mut file = [0u8; 16385];
+fn main(rt: HostRuntime) -> io::Result<()> {
+    let mut file = Vec::new(rt.alloc());
+    rt.reader().take(16385).read_to_end(&mut file)?;
     let mut out = [0u8; listing::LISTING_ROOM];
-    let read = io::read_full(libc::STDIN_FILENO, &mut file);
-    let wrote = listed(&file[..read], &mut out);
-    io::write_all(libc::STDOUT_FILENO, &out[..wrote]);
+    let wrote = listed(&file, &mut out);
+    io::writer(&rt).write_all(&out[..wrote])
 }

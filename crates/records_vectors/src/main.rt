@@ -13,6 +13,7 @@ ghost use Rattle.records.specs.Records.{flattened};
 use illum::{IlluminationModel, Modelled};
 use measure::Measured;
 use records::Reference;
+use std::io;
 use vectors::{Compared, Tally};
 
 // ---- the calls
@@ -197,11 +198,11 @@ fn replay(text: &[u8], names: &[u8]) -> Tally {
     t
 }
 
-fn main() {
+fn main(rt: HostRuntime) -> io::Result<()> {
     // the functions, one a line
     let names = b"fit\nmeasure\n";
     let mut text = [0u8; 262144];
-    let n = vectors::load(b"records.txt", &mut text);
+    let n = vectors::load(&rt, b"records.txt", &mut text)?;
     let t = replay(&text[..n], names);
-    vectors::report(&text[..n], names, t);
+    vectors::report(&rt, &text[..n], names, t)
 }

@@ -4,6 +4,7 @@
 
 use answers::outcome_number;
 use stats::ChannelStats;
+use std::io;
 use vectors::{Compared, Tally};
 
 // ---- the call
@@ -132,11 +133,11 @@ fn replay(text: &[u8], names: &[u8]) -> Tally {
     t
 }
 
-fn main() {
+fn main(rt: HostRuntime) -> io::Result<()> {
     // the one function
     let names = b"refine\n";
     let mut text = [0u8; 131072];
-    let n = vectors::load(b"refine.txt", &mut text);
+    let n = vectors::load(&rt, b"refine.txt", &mut text)?;
     let t = replay(&text[..n], names);
-    vectors::report(&text[..n], names, t);
+    vectors::report(&rt, &text[..n], names, t)
 }

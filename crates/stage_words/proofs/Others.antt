@@ -1,5 +1,5 @@
 -- Elements with other bits: what is left of a loop that looks for one, or counts zeros up to one, gives the whole. Assumes nothing.
-use mathlib.Core.Path.{◌≡◌, refl, ap, ◌∙◌, sym}
+use mathlib.Core.Path.{◌≡◌, refl, ap, ◌∙◌}
 use mathlib.Core.Bool.{Bool, true, false, cond}
 use mathlib.Core.List.{List}
 use Prim.Native.Nat.{ℕ, ◌+◌, ◌≤◌, ◌<◌}
@@ -7,7 +7,7 @@ use native.Mathlib.Omega.{arith}
 use borrow.Author.Tests.{eq-eqb, ne_eqb}
 use lib.ListN.{length, get_or}
 use lib.Ieee.{Float, Format, nan, binary32, to_bits}
-use Rattle.loops.specs.Loops.{Turn, go, out, for_try}
+use Rattle.loops.specs.Loops.{go, out, for_try}
 use Rattle.loops.proofs.Laws.{LeftAny, turn-any, out-any, LeftTry, begin_try, turn_try, out_try, done_try}
 use Rattle.stage_words.specs.Records.{other_at}
 use Rattle.stage_words.specs.Scratch.{zero_turn, ended, front_zeros}

@@ -1,5 +1,5 @@
 -- What is lent to a call: as many flat floats as its references have; and a scratch, filled before, and afterwards zero in front. Definitions only.
-use Rattle.std.specs.Prelude.{Bool, cond, List, ℕ, ◌+◌, ◌-◌, ◌*◌, ◌/◌, min, leb, eqb, length, set, Float}
+use Rattle.std.specs.Prelude.{cond, List, ℕ, ◌+◌, ◌-◌, ◌*◌, ◌/◌, min, leb, eqb, length, set, Float}
 use Rattle.std.specs.Float.{binary32}
 use Rattle.std.specs.Float.Ieee.{to_bits}
 use Rattle.loops.specs.Loops.{Turn, go, out, for_up, for_try, any_up}

@@ -5,6 +5,7 @@
 use answers::outcome_number;
 use margin::{Threshold, Verdict};
 use stats::{ChannelStats, Figure, Noise};
+use std::io;
 use vectors::{Compared, Tally};
 
 // ---- answers: words put into a row
@@ -220,12 +221,12 @@ fn replay(text: &[u8], names: &[u8]) -> Tally {
     t
 }
 
-fn main() {
+fn main(rt: HostRuntime) -> io::Result<()> {
     // the functions, by their numbers
     let names =
         b"nominal\nsigma_ab_at\nluma_llr\nreliability\nhue_log_likelihoods\nmargin\nmargin_at\n";
     let mut text = [0u8; 163840];
-    let n = vectors::load(b"stats.txt", &mut text);
+    let n = vectors::load(&rt, b"stats.txt", &mut text)?;
     let t = replay(&text[..n], names);
-    vectors::report(&text[..n], names, t);
+    vectors::report(&rt, &text[..n], names, t)
 }

@@ -1,6 +1,7 @@
 // Replays the stored answers of the crate `totals`: cards and batches added, and means, refused calls too.
 #![tactic(auto)]
 
+use std::io;
 use totals::{Average, Sums, Totals};
 use vectors::{Compared, Tally};
 
@@ -97,11 +98,11 @@ fn replay(text: &[u8], names: &[u8]) -> Tally {
     t
 }
 
-fn main() {
+fn main(rt: HostRuntime) -> io::Result<()> {
     // the functions, by their numbers
     let names = b"add_card\nadd_totals\nmean\n";
     let mut text = [0u8; 163840];
-    let n = vectors::load(b"totals.txt", &mut text);
+    let n = vectors::load(&rt, b"totals.txt", &mut text)?;
     let t = replay(&text[..n], names);
-    vectors::report(&text[..n], names, t);
+    vectors::report(&rt, &text[..n], names, t)
 }

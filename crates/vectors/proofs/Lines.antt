@@ -1,10 +1,12 @@
 -- Lines and names end where `bytes::scan::find` finds their last byte, and nothing is found past the end of the text. Assumes nothing.
-use Rattle.std.proofs.Common.{◌≡◌, ℕ, suc, ◌+◌, ◌-◌, ◌<◌, ◌≤◌, min, Bool, true, false, cond, not, ◌&&◌, eqb, ltb, List, [], ◌∷◌, length, take, drop, sym, refl, ap, ◌∙◌, add-zero, arith, length-drop, drop_of_length-le, length-take, length-take-le, ltb-false, ltb-true, le-ltb, lt-ltb, eq-eqb, eqb-true}
+use Rattle.std.proofs.Common.{◌≡◌, ℕ, suc, ◌+◌, ◌-◌, ◌<◌, ◌≤◌, Bool, true, false, cond, not, ◌&&◌, eqb, ltb, List, [], ◌∷◌, length, get_or, take, drop, sym, refl, ap, ◌∙◌, add-zero, add-one, arith, ne_eqb, drop-cons, length-drop, drop_of_length-le, length-take, length-take-le, ltb-false, ltb-true, le-ltb, lt-ltb, eq-eqb}
+use Rattle.std.proofs.lemmas.List.{get_or-take}
 use lib.Seq.{take-nil}
 use lib.Dec.{eqb-suc-zero}
+use lib.Pointwise.{pointwise}
 use Rattle.loops.specs.Loops.{while_do}
 use Rattle.loops.proofs.Laws.{LeftWhile, begin_while, turn_while, done_while}
-use Rattle.bytes.specs.Bytes.{slice, index_of, index_after}
+use Rattle.vectors.specs.Bytes.{slice, index_of, index_after}
 use Rattle.vectors.specs.Lines.{line_end, next_line, name_end, name_of, equal_bytes, Line, line_of, remains, is_other, line_after, number_of, function_of}
 
 -- ---- what is found stands in the part that was looked at
@@ -22,6 +24,45 @@ found_within b (x ∷ l) = one_more (eqb x b) (index_of b l) (length l) (found_w
 found_below : (text : List ℕ) (b at to : ℕ) → at ≤ to → to ≤ length text → at + index_of b (slice at to text) ≤ to
 unfolding slice
 found_below text b at to h l = omega (arith, found_within b (drop at (take to text)), length-drop at (take to text), length-take-le to text l)
+
+-- ---- the search for a byte
+
+-- where the search has come to place i, what is sought stands first where it stands first from there on
+pub record LeftFind (text : List ℕ) (at to b i : ℕ) : Type 0 where
+  pub left : at + index_of b (slice at to text) ≡ i + index_of b (slice i to text)
+
+-- what stands at a place before the end, and the rest
+slice_front : (text : List ℕ) (to i : ℕ) → i < to → to ≤ length text → slice i to text ≡ get_or text i 0 ∷ slice (i + 1) to text
+unfolding slice
+slice_front text to i h l =
+    let k : i < length (take to text) = omega (arith, length-take-le to text l) in
+    let e : get_or (take to text) i 0 ≡ get_or text i 0 = get_or-take to text i 0 h in
+    rw (add-one, drop-cons (take to text) i 0 k) (ap (λ (x : ℕ). x ∷ drop (suc i) (take to text)) e)
+
+module _ {text : List ℕ} {at to b : ℕ} where
+  pub begin_find : LeftFind text at to b at
+  begin_find = record { left = refl }
+
+  module _ {i : ℕ} (inv : LeftFind text at to b i) where
+    pub turn_find : i < to → to ≤ length text → (get_or text i 0 ≡ b → ⊥) → LeftFind text at to b (i + 1)
+    unfolding index_of index_after
+    turn_find h l ne =
+        let e : index_of b (slice i to text) ≡ suc (index_of b (slice (i + 1) to text)) =
+        ap (index_of b) (slice_front text to i h l) ∙ ap (λ (t : Bool). index_after t (index_of b (slice (i + 1) to text))) (ne_eqb (get_or text i 0) b ne) in
+        record { left = omega (arith, inv.left, e) }
+
+    pub found_find : i < to → to ≤ length text → get_or text i 0 ≡ b → i ≡ at + index_of b (slice at to text)
+    unfolding index_of index_after
+    found_find h l same =
+        let e : index_of b (slice i to text) ≡ 0 =
+        ap (index_of b) (slice_front text to i h l) ∙ ap (λ (t : Bool). index_after t (index_of b (slice (i + 1) to text))) (eq-eqb (get_or text i 0) b same) in
+        omega (arith, inv.left, e)
+
+    pub done_find : i ≤ to → to ≤ i → to ≡ at + index_of b (slice at to text)
+    unfolding index_of slice
+    done_find h k =
+        let e : index_of b (slice i to text) ≡ 0 = ap (index_of b) (drop_of_length-le (take to text) (omega (arith, length-take to text))) in
+        omega (arith, inv.left, e)
 
 -- ---- lines and names
 
@@ -109,36 +150,12 @@ name_part text at e h = ap (λ (n : ℕ). take (n - at) (drop at text)) h
 
 -- ---- the same bytes
 
-bytes_same : (xs ys : List ℕ) → xs ≡ ys → equal_bytes xs ys ≡ true
+pub pairs_are : (xs ys : List ℕ) → pointwise eqb xs ys ≡ equal_bytes xs ys
 unfolding equal_bytes
-bytes_same [] [] e = refl
-bytes_same [] (y ∷ ys) e = let z : ◌≡◌ {A = ℕ} 0 1 = cc in absurd (omega arith)
-bytes_same (x ∷ xs) [] e = let z : ◌≡◌ {A = ℕ} 0 1 = cc in absurd (omega arith)
-bytes_same (x ∷ xs) (y ∷ ys) e =
-    let h : x ≡ y = cc in
-    let t : xs ≡ ys = cc in
-    cc (eq-eqb x y h, bytes_same xs ys t)
-
-same_bytes : (xs ys : List ℕ) → equal_bytes xs ys ≡ true → xs ≡ ys
-unfolding equal_bytes
-same_bytes [] [] e = refl
-same_bytes [] (y ∷ ys) e = let z : ◌≡◌ {A = ℕ} 0 1 = cc in absurd (omega arith)
-same_bytes (x ∷ xs) [] e = let z : ◌≡◌ {A = ℕ} 0 1 = cc in absurd (omega arith)
-same_bytes (x ∷ xs) (y ∷ ys) e = both (same_bytes xs ys) (eqb x y) (equal_bytes xs ys) refl refl e
-  where
-    both : (equal_bytes xs ys ≡ true → xs ≡ ys) → (s t : Bool) → eqb x y ≡ s → equal_bytes xs ys ≡ t → s && t ≡ true → x ∷ xs ≡ y ∷ ys
-    both f true true p q r = cc (eqb-true x y p, f q)
-    both f true false p q r = let z : ◌≡◌ {A = ℕ} 0 1 = cc in absurd (omega arith)
-    both f false t p q r = let z : ◌≡◌ {A = ℕ} 0 1 = cc in absurd (omega arith)
-
--- a test that says whether two lists are the same is `equal_bytes` of them
-pub is_same : (r : Bool) (xs ys : List ℕ) → (r ≡ true → xs ≡ ys) → (xs ≡ ys → r ≡ true) → r ≡ equal_bytes xs ys
-is_same true xs ys f g = sym (bytes_same xs ys (f refl))
-is_same false xs ys f g = go (equal_bytes xs ys) refl
-  where
-    go : (b : Bool) → equal_bytes xs ys ≡ b → false ≡ b
-    go true e = g (same_bytes xs ys e)
-    go false e = refl
+pairs_are [] [] = refl
+pairs_are [] (y ∷ ys) = refl
+pairs_are (x ∷ xs) [] = refl
+pairs_are (x ∷ xs) (y ∷ ys) = ap (λ (t : Bool). eqb x y && t) (pairs_are xs ys)
 
 -- ---- the function that a record names
 

@@ -1,14 +1,8 @@
 -- Patterns and NaNs: a pattern above the infinity's, the sign taken off, is a NaN's, and every NaN is written by one pattern. Assumes nothing.
-use Rattle.std.proofs.Common.{◌≡◌, ℕ, ◌*◌, ◌%◌, ◌<◌, ◌≤◌, Bool, true, false, not, T, ltb, sym, refl, ap, ◌∙◌, subst, le-ltb, lt-ltb}
-use lib.Ieee.{Float, nan, inf, fin, Format, binary32, binary64, ones, hid, top, ne, div, fits, is_nan, of_bits, nan_bits, to_bits}
-use lib.Ieee.Bits.{nan_bits_is, nan_bits_above, to_bits-lt}
-use Rattle.float.proofs.NoNan.{no_nan, a_nan}
-
-only_nan : (x : Float) → is_nan x ≡ true → x ≡ nan
-unfolding is_nan
-only_nan nan e = refl
-only_nan (inf s) e = let z : ◌≡◌ {A = ℕ} 0 1 = cc in absurd (omega native.Mathlib.Omega.arith)
-only_nan (fin s m k) e = let z : ◌≡◌ {A = ℕ} 0 1 = cc in absurd (omega native.Mathlib.Omega.arith)
+use Rattle.std.proofs.Common.{◌≡◌, ℕ, ◌*◌, ◌%◌, ◌<◌, ◌≤◌, Bool, true, not, T, sym, refl, ap, ◌∙◌, subst, le-ltb, lt-ltb}
+use lib.Ieee.{Float, nan, Format, binary32, binary64, ones, hid, top, ne, div, of_bits, nan_bits, to_bits}
+use lib.Ieee.Bits.{nan_bits_is, nan_bits_above}
+use Rattle.floatlaws.specs.Nan.{a_nan, only_nan}
 
 module _ (f : Format) (n : ℕ) where
   pub nan_pattern : ones f * hid f < n % top f → nan ≡ of_bits f n

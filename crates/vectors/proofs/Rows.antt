@@ -1,6 +1,6 @@
 -- A run of words: those that are left from a place of the text and of the row on give the whole run. Assumes nothing.
 use Rattle.std.proofs.Common.{◌≡◌, ℕ, ◌+◌, ◌<◌, ◌≤◌, List, length, set, sym, refl, ap, ◌∙◌, arith, length-set}
-use Rattle.loops.specs.Loops.{Turn, go, out, for_try}
+use Rattle.loops.specs.Loops.{Turn, for_try}
 use Rattle.loops.proofs.Laws.{LeftTry, begin_try, turn_try, out_try, done_try}
 use Rattle.vectors.specs.declared.Word.{Word}
 use Rattle.vectors.specs.declared.Word.TheVariants.{Value, Nothing}

@@ -1,8 +1,8 @@
 -- Slices in a row, for every type of element: what is left of a loop that loads one, or stores one, gives the whole. Assumes nothing.
-use Rattle.std.proofs.Common.{◌≡◌, ℕ, ◌+◌, ◌<◌, ◌≤◌, min, true, false, List, length, get_or, take, set, sym, refl, ap, ◌∙◌, arith, length-set, length-take-le, le-ltb, lt-ltb}
+use Rattle.std.proofs.Common.{◌≡◌, ℕ, ◌+◌, ◌<◌, ◌≤◌, List, length, get_or, set, sym, refl, ap, ◌∙◌, arith, length-set, length-take-le, le-ltb, lt-ltb}
 use Rattle.loops.specs.Loops.{for_up}
 use Rattle.loops.proofs.Laws.{Left, begin, turn_to, done}
-use Rattle.vectors.specs.Answers.{Placed, placed, put}
+use Rattle.vectors.specs.Answers.{placed, put}
 use Rattle.vectors.specs.Slices.{past_slice, load_at, filled, load_count, loaded, Fills, store_at, stored}
 
 -- ---- the place past a slice

@@ -1,7 +1,7 @@
 -- A slice in a row: its length, and then its elements, a word each. Definitions only.
 use Rattle.std.specs.Prelude.{◌≡◌, ℕ, ◌+◌, ◌≤◌, min, cond, ◌&&◌, List, length, take, nat_lt, slice_index, slice_index_or, slice_set}
 use Rattle.loops.specs.Loops.{for_up}
-use Rattle.vectors.specs.Answers.{Placed, placed, put}
+use Rattle.vectors.specs.Answers.{Placed, put}
 
 -- the place past a slice that stands at a place, and past the row where the slice does not end in it
 unfoldable pub past_slice : List ℕ → ℕ → ℕ

@@ -1,5 +1,5 @@
 -- The words of a record: hexadecimal digits after a space. Definitions only.
-use Rattle.std.specs.Prelude.{ℕ, ◌+◌, ◌-◌, ◌*◌, ◌%◌, Bool, true, false, cond, ◌&&◌, List, [], ◌∷◌, length, drop, ◌==◌, nat_le, nat_lt, slice_set}
+use Rattle.std.specs.Prelude.{ℕ, ◌+◌, ◌-◌, ◌*◌, ◌%◌, Bool, false, cond, ◌&&◌, List, [], ◌∷◌, length, drop, ◌==◌, nat_le, nat_lt, slice_set}
 use Rattle.loops.specs.Loops.{Turn, go, out, for_try}
 use Rattle.vectors.specs.Lines.{byte_at, name_end}
 use Rattle.vectors.specs.declared.Digits.{Digits}

@@ -9,15 +9,19 @@
 // One row of words holds the inputs of a record, another the answers that it wants, and a third those got.
 #![tactic(auto)]
 
-ghost use Rattle.std.specs.Prelude.{◌≡◌, ◌+◌, ◌*◌, ◌%◌, ◌^◌, ◌<◌, ◌≤◌, min, true, length, take, from_bits, slice_index, to_bits};
+ghost use Rattle.std.specs.Prelude.{◌≡◌, ◌+◌, ◌*◌, ◌%◌, ◌^◌, ◌<◌, ◌≤◌, min, true, length, take, from_bits, slice_index, to_bits, IfOk};
 ghost use Rattle.std.specs.Int.{w32};
 ghost use Rattle.std.proofs.Common.{to_z};
 ghost use Rattle.std.specs.Float.{nan, binary32, binary64};
-ghost use Rattle.io.specs.Counts.{IsPrefixLen};
+ghost use Rattle.vectors.specs.Bytes.{slice, index_of};
 ghost use Rattle.vectors.specs.Lines.{byte_at, line_end, next_line, is_comment, name_end, name_of, equal_bytes, function_of};
 ghost use Rattle.vectors.specs.Words as reading;
 ghost use Rattle.vectors.specs.Answers as comparing;
 ghost use Rattle.vectors.specs.Slices.{past_slice, filled, loaded, Fills, stored};
+
+use std::io::{ErrorKind, Read, Write};
+use std::rt::Files;
+use std::{fs, io};
 
 // The function number of a record that is not read: a name that the program does not know, or a broken line.
 pub const NOT_READ: usize = 31;
@@ -34,6 +38,20 @@ pub fn byte(text: &[u8], at: usize) -> u8
     0
 }
 
+// The place of the first byte `b` from `at` on, or `to` where none stands before that.
+fn find(text: &[u8], at: usize, to: usize, b: u8) -> usize
+    requires low { at ≤ to }
+    requires high { to ≤ length text.now }
+    ensures { result ≡ at + index_of b (slice at to text.now) }
+{
+    for i in at..to {
+        if text[i] == b {
+            return i;
+        }
+    }
+    to
+}
+
 // The place of the first line feed from `at` on, or the end of the text.
 pub fn line_end(text: &[u8], at: usize) -> usize
     ensures { result ≡ line_end text.now at }
@@ -41,7 +59,7 @@ pub fn line_end(text: &[u8], at: usize) -> usize
     if text.len() <= at {
         return at;
     }
-    bytes::scan::find(text, at, text.len(), b'\n')
+    find(text, at, text.len(), b'\n')
 }
 
 // The place past the line that `at` stands in.
@@ -68,7 +86,7 @@ pub fn name_end(text: &[u8], at: usize) -> usize
     if text.len() <= at {
         return at;
     }
-    bytes::scan::find(text, at, line_end(text, at), b' ')
+    find(text, at, line_end(text, at), b' ')
 }
 
 // Whether the record that begins at `at` has this name.
@@ -79,7 +97,7 @@ pub fn name_is(text: &[u8], at: usize, name: &[u8]) -> bool
         return name.len() == 0;
     }
     let end = name_end(text, at);
-    check::same(&text[at..end], name)
+    &text[at..end] == name
 }
 
 // Whether the record that begins at `at` has the name that stands on the line of `names` that begins at `line`.
@@ -723,111 +741,117 @@ pub fn hex(word: u64) -> [u8; 16]
 
 // ---- input and output: no contract can say what is read or written
 
-// Reads a file into a buffer, as much as it holds, and answers how many bytes.
-pub fn load(path: &[u8], text: &mut [u8]) -> usize
-    ensures { IsPrefixLen result text.new }
-{
-    let fd = os::open_read(path);
-    if fd < 0 {
-        os::fail(path);
-        return 0;
+// A path's bytes as text, or an error where they are none.
+fn path_of(path: &[u8]) -> io::Result<&str> {
+    match str::from_utf8(path) {
+        Ok(text) => Ok(text),
+        Err(_) => Err(io::Error::from(ErrorKind::InvalidInput)),
     }
-    let n = io::read_full(fd, text);
-    libc::close(fd);
-    n
 }
 
-fn print(text: &[u8]) {
-    io::write_all(libc::STDOUT_FILENO, text);
+// Reads a file into a buffer, as much as it holds, and answers how many bytes.
+pub fn load<R: Files + Alloc>(rt: &R, path: &[u8], text: &mut [u8]) -> io::Result<usize>
+    ensures { IfOk result (λ n. Fills n text.new) }
+{
+    let mut read = Vec::new(rt.alloc());
+    fs::open(rt, path_of(path)?)?
+        .take(text.len() as u64)
+        .read_to_end(&mut read)?;
+    let n = smaller(read.len(), text.len());
+    text[..n].copy_from_slice(&read[..n]);
+    Ok(n)
 }
 
-fn print_number(n: u64) {
-    io::print_decimal(libc::STDOUT_FILENO, n);
+fn print(rt: &impl Print, text: &[u8]) -> io::Result<()> {
+    io::writer(rt).write_all(text)
 }
 
 // Prints a word: eight digits, or sixteen where it has more.
-fn print_word(word: u64) {
+fn print_word(rt: &impl Print, word: u64) -> io::Result<()> {
     let out = hex(word);
     if word < 0x1_0000_0000 {
-        print(&out[8..]);
+        print(rt, &out[8..])
     } else {
-        print(&out);
+        print(rt, &out)
     }
 }
 
 // Prints an answer, if there is one.
-fn print_answer(there: bool, word: u64) {
+fn print_answer(rt: &impl Print, there: bool, word: u64) -> io::Result<()> {
     if there {
-        print_word(word);
+        print_word(rt, word)
     } else {
-        print(b"none");
+        print!(rt; "none")
     }
 }
 
 // Prints the name of the record that begins at `at`.
-fn print_name(text: &[u8], at: usize) {
-    if at <= text.len() {
-        let end = name_end(text, at);
-        print(&text[at..end]);
+fn print_name(rt: &impl Print, text: &[u8], at: usize) -> io::Result<()> {
+    if text.len() < at {
+        return Ok(());
     }
+    let end = name_end(text, at);
+    print(rt, &text[at..end])
 }
 
 // Prints what one record that differs got and wanted.
-fn print_difference(text: &[u8], c: Compared) {
-    print(b"record ");
-    print_number(c.number);
-    print(b" ");
-    print_name(text, c.at);
+fn print_difference(rt: &impl Print, text: &[u8], c: Compared) -> io::Result<()> {
+    let number = c.number;
+    print!(rt; "record {number} ")?;
+    print_name(rt, text, c.at)?;
     if c.function == NOT_READ {
-        print(b" is not read\n");
-        return;
+        return println!(rt; " is not read");
     }
-    print(b": answer ");
-    print_number(c.agree as u64);
-    print(b" got ");
-    print_answer(c.agree < c.answers, c.got);
-    print(b" wanted ");
-    print_answer(c.agree < c.due, c.wanted);
-    print(b"\n");
+    let agree = c.agree;
+    print!(rt; ": answer {agree} got ")?;
+    print_answer(rt, c.agree < c.answers, c.got)?;
+    print!(rt; " wanted ")?;
+    print_answer(rt, c.agree < c.due, c.wanted)?;
+    println!(rt)
 }
 
 // Prints the first records that differ.
-fn print_differences(text: &[u8], t: Tally) {
+fn print_differences(rt: &impl Print, text: &[u8], t: Tally) -> io::Result<()> {
     let first = t.first;
     for k in 0..8usize {
         if k < t.kept {
-            print_difference(text, first[k]);
+            print_difference(rt, text, first[k])?;
         }
     }
+    Ok(())
 }
 
-fn print_counts(compared: u64, differ: u64) {
-    print(b" ");
-    print_number(compared);
-    print(b" compared, ");
-    print_number(differ);
-    print(b" differ");
+fn print_counts(rt: &impl Print, compared: u64, differ: u64) -> io::Result<()> {
+    print!(rt; " {compared} compared, {differ} differ")
 }
 
 // Prints the line of a function: its name, which stands on a line of `names`, how many of its records were compared and
 // how many differ.
-fn print_function(names: &[u8], line: usize, t: Tally, function: usize) {
-    if function < 32 {
-        print_name(names, line);
-        print_counts(t.compared[function], t.differ[function]);
-        print(b"\n");
+fn print_function(
+    rt: &impl Print,
+    names: &[u8],
+    line: usize,
+    t: Tally,
+    function: usize,
+) -> io::Result<()> {
+    if 32 <= function {
+        return Ok(());
     }
+    print_name(rt, names, line)?;
+    print_counts(rt, t.compared[function], t.differ[function])?;
+    println!(rt)
 }
 
 // Prints the line of each function that `names` has.
-fn print_functions(names: &[u8], t: Tally) {
+fn print_functions(rt: &impl Print, names: &[u8], t: Tally) -> io::Result<()> {
     let mut line = 0usize;
     let mut number = 0usize;
     while line < names.len() {
-        print_function(names, line, t, number);
+        print_function(rt, names, line, t, number)?;
         line = next_line(names, line);
         number += 1;
     }
+    Ok(())
 }
 
 // The sum of the counts of all functions, those not read left out.
@@ -842,20 +866,19 @@ fn total(counts: [u64; 32]) -> u64
 }
 
 // Prints the last line: all that were compared, that differ, and that were not read.
-fn print_total(t: Tally) {
+fn print_total(rt: &impl Print, t: Tally) -> io::Result<()> {
     let compared = t.compared;
     let differ = t.differ;
-    print(b"total");
-    print_counts(total(compared), total(differ));
-    print(b", ");
-    print_number(compared[NOT_READ]);
-    print(b" not read\n");
+    print!(rt; "total")?;
+    print_counts(rt, total(compared), total(differ))?;
+    let unread = compared[NOT_READ];
+    println!(rt; ", {unread} not read")
 }
 
 // Prints the report of a run over a list: a line for each function that `names` has, the first records that differ,
 // and the totals.
-pub fn report(text: &[u8], names: &[u8], t: Tally) {
-    print_functions(names, t);
-    print_differences(text, t);
-    print_total(t);
+pub fn report(rt: &impl Print, text: &[u8], names: &[u8], t: Tally) -> io::Result<()> {
+    print_functions(rt, names, t)?;
+    print_differences(rt, text, t)?;
+    print_total(rt, t)
 }

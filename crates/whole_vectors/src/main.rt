@@ -9,6 +9,7 @@ use illum::IlluminationModel;
 use layout::Layout;
 use stage_words::count;
 use stats::ChannelStats;
+use std::io;
 use vectors::{Compared, Tally};
 
 // ---- the calls
@@ -333,11 +334,11 @@ fn replay(text: &[u8], names: &[u8]) -> Tally {
     t
 }
 
-fn main() {
+fn main(rt: HostRuntime) -> io::Result<()> {
     // the one kind of record
     let names = b"whole\n";
     let mut text = [0u8; 262144];
-    let n = vectors::load(b"whole.txt", &mut text);
+    let n = vectors::load(&rt, b"whole.txt", &mut text)?;
     let t = replay(&text[..n], names);
-    vectors::report(&text[..n], names, t);
+    vectors::report(&rt, &text[..n], names, t)
 }

@@ -3,6 +3,7 @@
 #![tactic(auto)]
 
 use order::Sigma;
+use std::io;
 use vectors::{Compared, Tally};
 
 // ---- each function: from the inputs in a row to the answers in another, and how many these are
@@ -110,11 +111,11 @@ fn replay(text: &[u8], names: &[u8]) -> Tally {
     t
 }
 
-fn main() {
+fn main(rt: HostRuntime) -> io::Result<()> {
     // the functions, by their numbers
     let names = b"sqrt\ncbrt\nmedian\nmad_sigma\noverwritten\n";
     let mut text = [0u8; 4096];
-    let n = vectors::load(b"wrong.txt", &mut text);
+    let n = vectors::load(&rt, b"wrong.txt", &mut text)?;
     let t = replay(&text[..n], names);
-    vectors::report(&text[..n], names, t);
+    vectors::report(&rt, &text[..n], names, t)
 }

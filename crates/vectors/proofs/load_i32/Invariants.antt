@@ -1,0 +1,10 @@
+-- `vectors::load_i32` meets its contract: each element is what its word stands for. Assumes nothing.
+use Rattle.std.proofs.Common.{ℕ, ◌-◌, ◌%◌, ◌^◌, w32, to_z}
+use Rattle.vectors.proofs.Slices.{LeftLoad}
+use Rattle.vectors.proofs.load_i32.Given as goal
+
+abbrev pub invariant-loop-k : goal.invariant-loop-k
+invariant-loop-k l = LeftLoad (λ (w : ℕ). to_z w32 (w % 2 ^ 32)) l.row l.at l.initial.out l.n l.k l.out
+
+abbrev pub decreases-loop-k : goal.decreases-loop-k
+decreases-loop-k l = l.n - l.k
