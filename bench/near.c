@@ -1,7 +1,7 @@
 /*
  * Times purdolve_nearest and purdolve_within through the static library, which have no Rust beside them:
  *
- *     cc -O2 -I bindings/c bench/near.c target/staticlib/libexports.a -lm -o target/near && target/near
+ *     cc -O2 -I bindings/c bench/near.c crates/exports/out/libexports.a -lm -o target/near && target/near
  *
  * All references are kept and lie anywhere on a card of side 1,024. The radius takes all of them, so that all are sorted.
  * Printed: references, and processor microseconds of one call, the median of 101.

@@ -5,7 +5,7 @@
     python3 examples/make/examples.py --check   compares them with the stored ones
 
 The oracle must be built (oracle/build). The files that the gate replays lie with the programs that do so
-(crates/readcard, crates/card_vectors/data), and examples/ has links to them.
+(crates/readcard, crates/card_vectors/data), and examples/ has copies of them, which the gate compares.
 """
 import math
 import os
@@ -82,6 +82,10 @@ def season(listings):
     return "cards %d\nmodules %d\nundecided %d\nunder 12 %d\nsum %d\nmean %d/%d\nleft out %d\n" % counts
 
 
+# the copies in examples/ that have another name than what they are copied from
+COPIES = {"crates/readcard/stdin": "two-modules.card", "crates/readcard/stdout": "two-modules.txt"}
+
+
 def examples():
     """Every stored file, by its path."""
     made = {}
@@ -105,6 +109,8 @@ def examples():
         put(file, data % (name, "card"), data % (name, "txt"))
     listings = [text.decode() for path, text in made.items() if path.startswith("crates/") and path.endswith((".txt", "stdout"))]
     made["examples/season.txt"] = season(listings).encode()
+    for path in [p for p in made if p.startswith("crates/")]:
+        made["examples/" + COPIES.get(path, os.path.basename(path))] = made[path]
     return made
 
 
