@@ -1,13 +1,13 @@
 -- What a call answers by the number that its sentences give, and what it knows where they give 0: that none of them holds. Assumes nothing.
 use mathlib.Core.Path.{◌≡◌, refl, sym, ap, ◌∙◌}
 use mathlib.Core.Bool.{Bool, true, false}
-use mathlib.Core.List.{List, [], ◌∷◌}
+use mathlib.Core.List.{List, []}
 use mathlib.Core.Option.{none-ne-some, some-injective}
 use Prim.Native.Nat.{ℕ, zero, suc, ◌≤◌, ◌<◌}
 use native.Mathlib.Omega.{arith}
-use Rattle.sentences.specs.Sentences.{Sentence, ◌when◌, refusal, decided, at, sound, fresh}
+use Rattle.sentences.specs.Sentences.{Sentence, refusal, decided, at, sound, fresh}
 use Rattle.sentences.proofs.Laws.{refuses, accepts, holds, passed, none, none-holds}
-use Rattle.limits.specs.Limits.{bad_hues, bad_cell}
+use Rattle.limits.specs.Limits.{bad_hues}
 use Rattle.limits.proofs.Laws.{hues_in}
 use Rattle.answers.specs.declared.Outcome.TheVariants as outcome
 use Rattle.answers.specs.Answers.{outcome_number, refused_by, gives, answered, hues_only, hues_and_cell, Ended, ended, written_or}

@@ -7,7 +7,7 @@ use Rattle.sentences.specs.Sentences.{decided}
 use Rattle.demod.specs.Call.{report_of}
 use Rattle.guarantee.specs.Card.{Setting, Card, to_score, scored_card, refined_card, unmasked_card, luma_read, chroma_read, Accepted, bits_read}
 use Rattle.guarantee.proofs.Guarantee.{read_as_drawn}
-use Rattle.bits.specs.Reading.{Lent, Left, left, stopped, done, after_scoring, after_refinement, after_unmasking, after_luma, after_chroma, read_of, drawn_from, bits_left, ReadAs, Joined}
+use Rattle.bits.specs.Reading.{Lent, Left, stopped, done, after_scoring, after_refinement, after_unmasking, after_luma, after_chroma, read_of, drawn_from, bits_left, ReadAs, Joined}
 
 -- where the number is 0, the call's is, and what follows it decides
 goes_on : (n : ℕ) (m : Lent) (next : Left) → (decided n (stopped m) next).number ≡ 0 → (n ≡ 0) × (decided n (stopped m) next ≡ next)

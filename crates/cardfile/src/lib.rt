@@ -4,7 +4,6 @@
 // definition makes false, fails this crate.
 #![tactic(auto)]
 
-
 ghost use Rattle.cardfile.specs.Laws.{CaseIsRead, FileOpens, FileReturns, OpenedReturns};
 
 // Document 01's case, written as a card file by the document's words, is read as the three lines that the document

@@ -1,7 +1,7 @@
 -- The unit model leaves the colours bit for bit: it returns every finite colour but for -0 (crates/illum/proofs/UnitModel.antt), and the linear value of every byte is finite and not negative. Assumes nothing.
-use mathlib.Core.Path.{◌≡◌, refl, sym, ap, ◌∙◌}
+use mathlib.Core.Path.{◌≡◌, sym, ap, ◌∙◌}
 use mathlib.Core.Bool.{true, false, true≢false}
-use Prim.Native.Nat.{ℕ, ◌*◌, ◌/◌, ◌%◌, ◌≤◌, ◌<◌}
+use Prim.Native.Nat.{ℕ, ◌/◌, ◌%◌, ◌≤◌, ◌<◌}
 use native.Mathlib.Omega.{arith}
 use lib.IntN.{pos}
 use lib.Ieee.{Float, fin, binary32, round, fits}
@@ -9,7 +9,7 @@ use Rattle.floatlaws.specs.Value.{negative}
 use Rattle.floatlaws.specs.Finite.{Fin}
 use Rattle.color.specs.declared.Linear.{Linear}
 use Rattle.color.specs.Srgb.{srgb_to_linear}
-use Rattle.color.specs.Color.{linear, fraction, srgb8_to_linear, linear_to_lab, srgb8_to_lab}
+use Rattle.color.specs.Color.{fraction, srgb8_to_linear, linear_to_lab, srgb8_to_lab}
 use Rattle.color.proofs.Linears.{srgb_nearest}
 use Rattle.illum.specs.Correct.{corrected, unit_model}
 use Rattle.illum.specs.Returned.{ReturnedColour}

@@ -1,6 +1,6 @@
 -- What a call leaves, as its own contract has it, is what its export leaves: the answer is turned into a struct, and the slices are the same.
 -- Assumes nothing.
-use mathlib.Core.Path.{◌≡◌, refl, ap₂, ◌∙◌}
+use mathlib.Core.Path.{◌≡◌, ap₂, ◌∙◌}
 use mathlib.Core.Bool.{Bool}
 use mathlib.Core.List.{List}
 use Prim.Native.Nat.{ℕ}

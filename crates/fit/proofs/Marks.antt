@@ -12,7 +12,6 @@ use lib.Ieee.{Float}
 use Rattle.loops.specs.Loops.{raise}
 use Rattle.loops.proofs.Laws.{for_up_same, for_up-done, for_up_to}
 use Rattle.lists.proofs.Laws.{reached}
-use Rattle.illum.specs.declared.IlluminationModel.{IlluminationModel}
 use Rattle.illum.specs.declared.Modelled.{Modelled}
 use Rattle.equations.specs.Live.{is_live, live_count}
 use Rattle.fit.specs.Fit.{kept_mark, mark_at, marks_of, is_mark, marked, MarksAddUp, Request, Final, final, ran_of, fit_of}

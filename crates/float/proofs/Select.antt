@@ -8,7 +8,7 @@ use lib.Ieee.{Float, nan, inf, fin, Format, lt, neg, is_nan, fits}
 use lib.Ieee.Fits.{inf-fits, neg-fits}
 use Rattle.floatlaws.specs.Value.{mag, hi, lo, Num, mag_le, one_side, both-sides}
 use Rattle.floatlaws.specs.Order.{Le, Lt, of_lt, of_not_lt, le_refl, le_trans, of_sides, hi_neg, lo_neg}
-use Rattle.floatlaws.specs.Finite.{Fin, num}
+use Rattle.floatlaws.specs.Finite.{Fin}
 use Rattle.float.specs.Select.{abs, max, min, clamp}
 
 -- ---- the size without the sign

@@ -7,7 +7,7 @@ use Rattle.std.proofs.Math.Nat.{sub-zero, zero-sub}
 use Rattle.std.specs.Float.{nan, inf, fin, Format, binary32, binary64}
 use Rattle.std.specs.Float.Ieee.{prec, emax, low, neg, add, sub, mul, div, of_int, in_float}
 use Rattle.std.specs.Float.Ieee.Fits.{two, two-le_pos, reach}
-use Rattle.std.specs.Float.Ieee.Scale.{overflow, finite}
+use Rattle.std.specs.Float.Ieee.Scale.{overflow}
 use Rattle.floatlaws.specs.Whole.{exp_lt}
 use Rattle.floatlaws.specs.Value.{unit, unit-pos, limit, mag, hi, lo, Num, one_side, each-side, both-sides, shape, mag-shape}
 use Rattle.floatlaws.specs.Order.{Lt, Same, hi_neg, lo_neg}

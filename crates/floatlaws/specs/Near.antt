@@ -7,7 +7,7 @@ use Rattle.std.proofs.Math.Path.{ap}
 use Rattle.std.proofs.Math.Nat.{mul-sub, eq_of_mul-eq-mul_right}
 use Rattle.std.proofs.Math.Bool.{false, cond}
 use Rattle.std.specs.Float.{nan, inf, fin, Format, binary32, binary64}
-use Rattle.std.specs.Float.Ieee.{prec, low, size, odd, units, round, is_nan}
+use Rattle.std.specs.Float.Ieee.{prec, low, odd, units, round, is_nan}
 use Rattle.std.specs.Float.Ieee.Fits.{round_is, round-fits, inf-fits}
 use Rattle.std.specs.Float.Ieee.Exact.{round_exact}
 use Rattle.std.specs.Float.Ieee.Order.{kept, drop, round_mono}

@@ -1,6 +1,6 @@
 -- Adding -0 changes no value of a format, not even a zero, whose sign it keeps: a number's magnitude grows by none, and a value of the format is rounded to itself. Assumes nothing.
 use Rattle.std.specs.Prelude.{Bool, true, false, ◌≡◌, refl, ℕ, ◌*◌, ◌^◌, T, ℤ, pos, Float}
-use Rattle.std.proofs.Common.{sym, ap, ◌∙◌, zero-mul, mul-one, add-zero, arith, le-ltb, pow_pos}
+use Rattle.std.proofs.Common.{sym, ◌∙◌, zero-mul, mul-one, add-zero, arith, le-ltb, pow_pos}
 use Rattle.std.proofs.Math.Nat.{sub-zero}
 use Rattle.std.specs.Float.{nan, inf, fin, Format}
 use Rattle.std.specs.Float.Ieee.{up, down, low, round, sum, add, fits}

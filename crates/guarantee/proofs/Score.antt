@@ -7,7 +7,7 @@ use Prim.Native.Nat.{ℕ, ◌+◌}
 use native.Mathlib.Omega.{arith}
 use lib.Dec.{T}
 use lib.Ieee.{Float, binary32, neg, add, sub, mul, div, le, round, of_bits, fits}
-use Rattle.floatlaws.specs.Value.{unit-pos, hi, lo, both-sides, Num}
+use Rattle.floatlaws.specs.Value.{unit-pos, lo, both-sides, Num}
 use Rattle.floatlaws.specs.Order.{Le, Lt, of_le, to_le, sides, le_trans, neg-num, neg_anti, hi_neg, lo_neg}
 use Rattle.floatlaws.specs.Near.{above, under}
 use Rattle.floatlaws.specs.Ops.{add_rounds, sub-rounds}

@@ -1,7 +1,7 @@
 -- `sigma_ab_at` of a record inside the margin is a number from 0.5 to 2,000, at every L up to 2^21 in magnitude: the pooled sigma, or d + fl(fl(m) × t) with t from 0 to 1 and m the difference of two
 -- sigmas. Below the dark level's sigma d it goes by at most fl(m), which is that difference and a part in 2^24 of it. Assumes nothing.
 use mathlib.Core.Path.{◌≡◌, refl}
-use mathlib.Core.Logic.{◌⊎◌, inl, inr, ⊎_elim}
+use mathlib.Core.Logic.{inl, inr, ⊎_elim}
 use mathlib.Core.Bool.{Bool, true, false, cond, ◌||◌}
 use Prim.Native.Nat.{ℕ, zero, suc, ◌+◌, ◌-◌, ◌*◌, ◌^◌, ◌≤◌, ◌<◌}
 use native.Mathlib.Nat.{mul-le-mul_left, mul_comm, zero-mul}

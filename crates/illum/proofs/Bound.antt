@@ -1,10 +1,10 @@
 -- An f64 rounds to an f32 from -1,048,576 to 1,048,576 exactly where it lies between these, or beyond them by half a step of an f32 at most, which is a part in 2 ^ 24: a tie goes to the even one. Assumes nothing.
-use Rattle.std.proofs.Common.{◌≡◌, ℕ, ◌+◌, ◌-◌, ◌*◌, ◌^◌, ◌<◌, ◌≤◌, Bool, true, false, not, ◌&&◌, T, pos, negsuc, sym, refl, ap, ◌∙◌, subst, arith, leb→le}
+use Rattle.std.proofs.Common.{◌≡◌, ℕ, ◌+◌, ◌-◌, ◌*◌, ◌^◌, ◌<◌, ◌≤◌, Bool, true, false, not, ◌&&◌, T, pos, negsuc, sym, refl, ◌∙◌, subst, arith, leb→le}
 use lib.Ieee.{Float, nan, inf, fin, binary32, binary64, neg, le, lt, eq, round, fits, is_nan}
 use Rattle.floatlaws.specs.Value.{unit, hi, lo, mag, limit, Num}
 use Rattle.floatlaws.specs.Order.{Le, of_le, to_le, sides, neg-num, hi_neg, lo_neg, widen-sides}
 use Rattle.floatlaws.specs.Near.{Rounds}
-use Rattle.floatlaws.specs.Finite.{Fin, num, neg-fin, fin-under}
+use Rattle.floatlaws.specs.Finite.{fin-under}
 use Rattle.floatlaws.specs.Const.{Const, const, is_const}
 use Rattle.floatlaws.specs.Error.{at_most}
 use Rattle.float.specs.Single.{to_single}

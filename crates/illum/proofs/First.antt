@@ -1,5 +1,5 @@
 -- Whether one of the first 4, or of 9, numbers is not finite, as tests of four numbers at once. Assumes nothing.
-use Rattle.std.proofs.Common.{◌≡◌, ℕ, Bool, true, false, cond, ◌||◌, List, get_or, sym, refl, ◌∙◌}
+use Rattle.std.proofs.Common.{◌≡◌, ℕ, Bool, true, false, cond, ◌||◌, List, get_or, refl, ◌∙◌}
 use lib.Ieee.{Float, nan}
 use Rattle.loops.specs.Loops.{any_up, some_of}
 use Rattle.illum.specs.Refusals.{not_finite, not_finite4, not_finite_at, not_finite_up_to}

@@ -1,13 +1,13 @@
 -- A finite number less itself is +0, and any other less itself is a NaN; zeros add to zero and a NaN stays: so the sum of four such differences is 0 exactly where the four are finite. Assumes nothing.
-use Rattle.std.proofs.Common.{◌≡◌, ℕ, ◌-◌, ◌*◌, ◌^◌, ◌<◌, Bool, true, false, cond, not, ◌&&◌, ◌||◌, ltb, pos, sym, refl, ap, ◌∙◌, mul-pos, zero-mul, mul_right_comm, arith, pow_pos, le-ltb}
+use Rattle.std.proofs.Common.{◌≡◌, ℕ, ◌-◌, ◌*◌, ◌^◌, ◌<◌, Bool, true, false, cond, not, ◌&&◌, ◌||◌, pos, sym, refl, ap, ◌∙◌, mul-pos, zero-mul, mul_right_comm, arith, pow_pos, le-ltb}
 use native.Mathlib.Nat.{eq_of_mul-eq-mul_right}
-use lib.Ieee.{Float, nan, inf, fin, Format, binary32, binary64, prec, low, emax, up, down, round, sum, add, sub, neg, eq, ne, fits}
+use lib.Ieee.{Float, nan, inf, fin, binary64, low, up, down, round, sum, add, sub, neg, eq, ne, fits}
 use lib.Ieee.Scale.{finite}
 use lib.Ieee.Fits.{round-fits, down_pos}
 use lib.Ieee.Exact.{HasValue, round_exact}
 use Rattle.floatlaws.specs.Bits.{same_value}
 use Rattle.illum.specs.Surface.{zero64}
-use Rattle.illum.specs.Refusals.{not_finite, not_finite4}
+use Rattle.illum.specs.Refusals.{not_finite4}
 
 -- ---- nothing, rounded
 

@@ -1,7 +1,7 @@
 -- A finite result has finite operands, step by step from a corrected colour back to the numbers of its model. A quotient hides a divisor that is infinite,
 -- but is 0 then. So a colour that is not wild, from inverses that are not 0, has a model whose numbers are finite. Assumes nothing.
-use Rattle.std.proofs.Common.{◌≡◌, ℕ, zero, suc, ◌-◌, Bool, true, false, cond, not, ◌||◌, T, List, get_or, sym, refl, ap, ◌∙◌, subst}
-use lib.Ieee.{Float, nan, inf, fin, binary32, binary64, add, sub, mul, div, neg, eq, lt, le, round}
+use Rattle.std.proofs.Common.{◌≡◌, ℕ, zero, suc, ◌-◌, Bool, true, false, cond, not, ◌||◌, T, List, get_or, refl, ap, ◌∙◌, subst}
+use lib.Ieee.{Float, nan, inf, fin, binary64, add, sub, mul, neg, eq, lt, le, round}
 use lib.Ieee.Scale.{finite}
 use Rattle.loops.specs.Loops.{turns, for_up, some_of, any_up}
 use Rattle.floatlaws.specs.Operands.{add-operands, sub-operands, mul-operands, div-operands}
@@ -11,10 +11,9 @@ use Rattle.color.specs.declared.Linear.{Linear}
 use Rattle.color.specs.Color.{fraction}
 use Rattle.color.specs.Palette.{wild, wild_linear}
 use Rattle.illum.specs.declared.IlluminationModel.{IlluminationModel}
-use Rattle.illum.specs.declared.Unshaded.{Unshaded}
 use Rattle.illum.specs.Surface.{zero64, terms_used, add_term, least_gain, is_held, hold_gain, surface_at, deshade, basis_at}
 use Rattle.illum.specs.Correct.{affine_row, unshaded, mixed, corrected}
-use Rattle.illum.specs.Refusals.{not_finite, not_finite_at, not_finite_up_to, not_finite_affine, not_finite_gains, not_finite_flares, not_finite_model}
+use Rattle.illum.specs.Refusals.{not_finite_at, not_finite_up_to, not_finite_affine, not_finite_gains, not_finite_flares, not_finite_model}
 use Rattle.illum.specs.Shown.{leaves_open}
 
 -- ---- tests

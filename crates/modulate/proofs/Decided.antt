@@ -1,24 +1,21 @@
 -- Where one hue's likelihood leads, every bit score has the sign of that hue's symbol: the best of the hues with its bit is the leader's own likelihood, the best of the others
 -- lies at most at the runner-up's, and a score is the one less the other. So what is drawn is what is read. Assumes nothing.
 use mathlib.Core.Path.{◌≡◌, refl, sym, ap, ◌∙◌, subst}
-use mathlib.Core.Logic.{⊎_elim}
 use mathlib.Core.Bool.{Bool, true, false, not, cond, ◌||◌}
 use mathlib.Core.List.{List}
-use Prim.Native.Nat.{ℕ, zero, suc, ◌+◌, ◌-◌, ◌*◌, ◌/◌, ◌%◌, ◌^◌, ◌≤◌, ◌<◌}
+use Prim.Native.Nat.{ℕ, zero, suc, ◌-◌, ◌/◌, ◌^◌, ◌≤◌, ◌<◌}
 use native.Mathlib.Nat.{mod-lt}
 use native.Mathlib.Omega.{arith}
 use borrow.Author.Tests.{eqb-true, eqb-false}
 use lib.Dec.{T, eqb}
-use lib.IntN.{pos}
 use lib.ListN.{get_or}
-use lib.Ieee.{Float, nan, inf, fin, Format, binary32, sub, lt, is_nan, fits}
+use lib.Ieee.{Float, nan, inf, Format, binary32, sub, lt, is_nan, fits}
 use Rattle.float.specs.Select.{max}
-use Rattle.floatlaws.specs.Value.{hi, lo, mag, limit, big, Num, overflow_le_big, one_side}
-use Rattle.floatlaws.specs.Order.{Le, Lt, to_lt, of_lt, le_lt_trans, not-both, le_of_lt, le_trans, le_refl, above-none}
+use Rattle.floatlaws.specs.Value.{hi, lo, mag, limit, big, Num, overflow_le_big}
+use Rattle.floatlaws.specs.Order.{Le, Lt, to_lt, of_lt, le_lt_trans, not-both, le_of_lt, le_trans, le_refl}
 use Rattle.floatlaws.specs.Finite.{Fin, num, fin-under, sub-num, sub_num'}
 use Rattle.floatlaws.specs.Mono.{sub_mono}
 use Rattle.floatlaws.specs.Exact.{sub-above, sub-below}
-use Rattle.floatlaws.specs.Ops.{zero-num, zero-sides}
 use Rattle.loops.proofs.Laws.{for_up_to}
 use Rattle.limits.specs.Limits.{bad_hues}
 use Rattle.limits.specs.Chroma.{log2}
@@ -27,7 +24,6 @@ use Rattle.modulate.specs.declared.Cell.{Cell}
 use Rattle.modulate.specs.declared.Cell.TheVariants.{Unmasked, At}
 use Rattle.modulate.specs.declared.Best.{Best}
 use Rattle.symbols.specs.Gray.{chroma_symbol_to_hue, hue_to_chroma_symbol}
-use Rattle.symbols.specs.Mask.{chroma_mask_apply, chroma_mask_remove}
 use Rattle.modulate.specs.Score.{unmasked_hue, symbol_bit, bit_of_hue, best, bettered, better_at, best_of, bit_llr}
 use Rattle.reading.specs.Read.{reads}
 use Rattle.reading.proofs.Sign.{read-zero, read_one}

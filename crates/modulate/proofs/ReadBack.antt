@@ -4,7 +4,6 @@ use mathlib.Core.Path.{◌≡◌, refl, sym, ap, ◌∙◌, subst}
 use mathlib.Core.Bool.{Bool, true, false, cond, xor}
 use mathlib.Core.List.{List}
 use Prim.Native.Nat.{ℕ, ◌+◌, ◌*◌, ◌^◌, ◌≤◌, ◌<◌}
-use native.Mathlib.Omega.{arith}
 use borrow.Author.Tests.{lt-ltb, le-ltb}
 use lib.IntN.{ℤ}
 use lib.ListN.{length, get_or}
@@ -15,7 +14,7 @@ use Rattle.limits.specs.Limits.{bad_hues}
 use Rattle.limits.specs.Chroma.{log2, chroma_on, symbol_bits}
 use Rattle.limits.proofs.Laws.{hues_in, symbol_bits_on}
 use Rattle.modulate.specs.declared.Cell.TheVariants.{Unmasked, At}
-use Rattle.modulate.specs.Score.{bit_of_hue, symbol_bit, bit_llr, coordinate, masked_at, unmask_at}
+use Rattle.modulate.specs.Score.{bit_of_hue, symbol_bit, bit_llr, masked_at, unmask_at}
 use Rattle.reading.specs.Read.{reads}
 use Rattle.reading.proofs.Sign.{read-zero, read_one}
 use Rattle.modulate.specs.Draw.{is_set, bit_of, grid_level, ring_level, symbol_at, cell_hue, ring_hue, level_at, hue_at}

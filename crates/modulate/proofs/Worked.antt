@@ -1,7 +1,7 @@
 -- The hue scores of document 01's table, (0, -1, -4, -9): bits (4, 1) without a cell and (-1, 4) at cell (1, 0). By computation. Assumes nothing.
 use mathlib.Core.Path.{◌≡◌, refl}
 use mathlib.Core.Bool.{true, false}
-use mathlib.Core.List.{List, [], ◌∷◌}
+use mathlib.Core.List.{[], ◌∷◌}
 use Prim.Native.Nat.{ℕ}
 use lib.Ieee.{Float, binary32, round, sub, add, neg, lt, is_nan}
 use Rattle.float.specs.Select.{max}

@@ -1,9 +1,9 @@
 -- The call: what is known where no sentence holds, and what each of its two ways out answers. A number of 32 bits that is given on is read
 -- back from its bits, `to_z w32 (of_z w32 x)`. Assumes nothing.
 use mathlib.Core.Path.{◌≡◌, refl, sym, ap, ap₂, ◌∙◌, subst}
-use mathlib.Core.Bool.{Bool, true, false, not, ◌||◌}
+use mathlib.Core.Bool.{Bool, false, not, ◌||◌}
 use mathlib.Core.List.{List}
-use Prim.Native.Nat.{ℕ, ◌+◌, ◌*◌, ◌/◌, ◌%◌, ◌≤◌, ◌<◌}
+use Prim.Native.Nat.{ℕ, ◌*◌, ◌/◌, ◌%◌, ◌≤◌}
 use native.Mathlib.Omega.{arith}
 use borrow.Author.Tests.{ltb-false}
 use lib.Dec.{T, ltb, eqb}
@@ -24,7 +24,7 @@ use Rattle.answers.specs.Answers.{refused_by, gives}
 use Rattle.near.specs.declared.Query.{Query}
 use Rattle.near.specs.declared.Query.TheVariants as query
 use Rattle.near.specs.Order.{Strict}
-use Rattle.near.specs.Near.{centre, before, chosen, IsPromised, SameList, Rest, IsRadiusSquared, short, bad_column, bad_positions, bad_module, bad_places, bad_radius}
+use Rattle.near.specs.Near.{centre, before, chosen, IsPromised, SameList, Rest, IsRadiusSquared, short, bad_positions, bad_module, bad_places, bad_radius}
 use Rattle.near.specs.Near.{Request, request, references, sentences_of, before_of, chosen_of, list_of, final, written, near_of, Found}
 use Rattle.near.proofs.Numbers.{number, strict}
 use Rattle.near.proofs.Radius.{radius-exact}

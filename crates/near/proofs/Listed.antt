@@ -12,7 +12,7 @@ use lib.ListN.{length, get_or, take, drop, length-append, length-drop, get_or-ap
 use lib.Seq.{length-take-le, take_all, get_or-take, get_or-drop, get_or-append-add, ext_get_or}
 use Rattle.near.specs.declared.Query.{Query}
 use Rattle.near.specs.declared.Query.TheVariants as query
-use Rattle.near.specs.Order.{Once, Sorted, Has, Strict}
+use Rattle.near.specs.Order.{Sorted, Has, Strict}
 use Rattle.near.specs.Near.{inserted, listed, queried, written, Among, All, FirstThree, Rest, IsPromised, SameList}
 
 -- ---- i put into l gives p: at the place `slot`, with those before it as they were and the others one further

@@ -1,23 +1,23 @@
 -- Distances are numbers where sentence 7 does not hold: positions and centres lie within 2,048, and each operation keeps such a bound. So
 -- `before` is a strict order. Assumes nothing.
-use mathlib.Core.Path.{◌≡◌, refl, sym, ap, ◌∙◌, subst}
-use mathlib.Core.Logic.{◌⊎◌, inl, inr, ⊎_elim}
-use mathlib.Core.Bool.{Bool, true, false, not, ◌&&◌, ◌||◌, cond}
+use mathlib.Core.Path.{◌≡◌, refl, sym, ◌∙◌, subst}
+use mathlib.Core.Logic.{◌⊎◌, inl, inr}
+use mathlib.Core.Bool.{Bool, true, false, not, ◌&&◌, ◌||◌}
 use mathlib.Core.List.{List}
-use Prim.Native.Nat.{ℕ, zero, suc, ◌+◌, ◌*◌, ◌^◌, ◌≤◌, ◌<◌}
+use Prim.Native.Nat.{ℕ, zero, suc, ◌+◌, ◌*◌, ◌≤◌, ◌<◌}
 use native.Mathlib.Omega.{arith}
-use borrow.Author.Tests.{ltb-true, ltb-false, leb-false, eqb-true, eqb-false, lt-ltb, le-ltb, eq-eqb, ne_eqb}
+use borrow.Author.Tests.{ltb-true, ltb-false, leb-false, eqb-true, eqb-false, lt-ltb, le-ltb, eq-eqb}
 use lib.Dec.{T, ltb, leb, eqb}
 use lib.IntN.{ℤ, pos, negsuc}
-use lib.ListN.{length, get_or}
-use lib.Ieee.{Float, nan, inf, fin, Format, binary32, binary64, add, sub, mul, neg, le, lt, eq, round, of_int, fits, is_nan}
-use lib.Ieee.Fits.{fits_widens, and_l, and_r}
+use lib.ListN.{get_or}
+use lib.Ieee.{Float, nan, inf, fin, Format, binary32, binary64, add, mul, neg, le, lt, eq, round, of_int, fits, is_nan}
+use lib.Ieee.Fits.{and_l, and_r}
 use lib.Ieee.Scale.{finite}
-use Rattle.floatlaws.specs.Value.{hi, lo, negative, Num, lt_is, eq_is}
+use Rattle.floatlaws.specs.Value.{hi, lo, Num, lt_is, eq_is}
 use Rattle.floatlaws.specs.Near.{round-num}
 use Rattle.floatlaws.specs.Order.{Le, of_le, to_le, le_trans, sides, neg-num, widen-num}
 use Rattle.floatlaws.specs.Ops.{int-rounds}
-use Rattle.floatlaws.specs.Finite.{Fin, num, neg-fin}
+use Rattle.floatlaws.specs.Finite.{Fin, num}
 use Rattle.floatlaws.specs.Mono.{int_mono}
 use Rattle.floatlaws.specs.Exact.{int-exact}
 use Rattle.floatlaws.specs.Magnitude.{Within, of_sizes, of_tests, self, add-within, sub_within, mul-within}

@@ -2,17 +2,17 @@
 -- leaves f64's range. Assumes nothing.
 use mathlib.Core.Path.{◌≡◌, refl, sym, ap, ◌∙◌}
 use mathlib.Core.Logic.{◌⊎◌, inl, inr}
-use mathlib.Core.Bool.{Bool, true, false, not, ◌&&◌}
-use Prim.Native.Nat.{ℕ, suc, ◌+◌, ◌-◌, ◌*◌, ◌^◌, ◌≤◌, ◌<◌}
+use mathlib.Core.Bool.{Bool, true, false, ◌&&◌}
+use Prim.Native.Nat.{ℕ, ◌+◌, ◌-◌, ◌*◌, ◌^◌, ◌≤◌, ◌<◌}
 use native.Mathlib.Nat.{le_trans, le_of_lt, le_of_eq, lt_of_le_of_lt, zero-mul, mul-zero, mul_assoc, mul-mul-mul_comm, mul-le-mul, mul-le-mul_right}
 use native.Mathlib.Omega.{arith}
 use lib.Dec.{T, lit<}
 use lib.IntN.{ℤ, pos}
 use lib.Pow.{pow-add, pow_pos}
-use lib.Ieee.{Float, nan, inf, fin, binary32, binary64, mul, le, lt, eq, of_int, round, fits}
-use lib.Ieee.Fits.{and_l, and_r, fits_widens}
-use lib.Ieee.Scale.{overflow, finite}
-use Rattle.floatlaws.specs.Value.{unit, unit-pos, mag, hi, lo, Num, shape, mag-shape, one_side, each-side}
+use lib.Ieee.{Float, nan, inf, fin, binary32, binary64, le, lt, eq, of_int, round, fits}
+use lib.Ieee.Fits.{and_l, fits_widens}
+use lib.Ieee.Scale.{overflow}
+use Rattle.floatlaws.specs.Value.{unit, unit-pos, mag, hi, lo, shape, mag-shape, one_side, each-side}
 use Rattle.floatlaws.specs.Near.{near, near-exact, near-zero}
 use Rattle.floatlaws.specs.Order.{of_le, widen-sides}
 use Rattle.floatlaws.specs.Ops.{mul-rounds, int-rounds}

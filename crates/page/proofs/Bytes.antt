@@ -1,10 +1,10 @@
 -- What an accepted call leaves, byte by byte: the front of the slice is the text, whose bytes are known line by line, and the square of a position is that of the last module listed there, since
 -- different positions have different squares. Assumes nothing.
-use mathlib.Core.Path.{◌≡◌, refl, sym, ap, ◌∙◌}
+use mathlib.Core.Path.{◌≡◌, refl, ap, ◌∙◌}
 use mathlib.Core.Bool.{Bool, true, false}
 use mathlib.Core.List.{List}
 use mathlib.Core.Option.{Option, none, some}
-use Prim.Native.Nat.{ℕ, zero, suc, ◌+◌, ◌-◌, ◌*◌, ◌/◌, ◌%◌, ◌^◌, ◌≤◌, ◌<◌}
+use Prim.Native.Nat.{ℕ, zero, suc, ◌+◌, ◌-◌, ◌*◌, ◌/◌, ◌%◌, ◌≤◌, ◌<◌}
 use native.Mathlib.Omega.{arith}
 use borrow.Author.Tests.{ltb-true, ltb-false, eq-eqb, ne_eqb}
 use lib.Dec.{ltb}
@@ -17,7 +17,7 @@ use Rattle.places.specs.Places.{index_of, square_of}
 use Rattle.places.specs.Last.{stands_at, last_at}
 use Rattle.places.proofs.Last.{is_last, is_none}
 use Rattle.reading.specs.Read.{reads}
-use Rattle.page.specs.Lines.{columns, page_length, field_columns, shown, square_byte, overlaid}
+use Rattle.page.specs.Lines.{columns, page_length, field_columns, shown, square_byte}
 use Rattle.page.specs.Steps.{field_byte}
 use Rattle.page.specs.Calls.{Request, numbers_of, modules_of, text_of, laid_out_bytes, sentences_of, page_of}
 use Rattle.page.specs.Laws.{StandsAt, LastThere, byte_at, digit_at, Page, Pages}

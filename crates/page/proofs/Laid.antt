@@ -1,14 +1,14 @@
 -- Every byte as it is without modules, then each module's digit in list order, is the text: a later module writes over an earlier one at its position, nobody else writes there, since different
 -- positions have different places, and nothing but squares of the grid is written. Assumes nothing.
-use mathlib.Core.Path.{◌≡◌, refl, sym, ap, ◌∙◌, subst}
-use mathlib.Core.Bool.{Bool, true, false, cond, ◌||◌}
-use mathlib.Core.List.{List, ◌++◌}
-use mathlib.Core.Option.{none, some}
+use mathlib.Core.Path.{◌≡◌, refl, sym, ap, ◌∙◌}
+use mathlib.Core.Bool.{Bool, true, false, cond}
+use mathlib.Core.List.{List}
+use mathlib.Core.Option.{some}
 use Prim.Native.Nat.{ℕ, suc, ◌+◌, ◌-◌, ◌*◌, ◌/◌, ◌%◌, ◌≤◌, ◌<◌}
 use native.Mathlib.Omega.{arith}
 use borrow.Author.Tests.{eqb-true, eqb-false, eq-eqb, ne_eqb, ltb-true, ltb-false, lt-ltb, le-ltb}
 use lib.Dec.{eqb, ltb}
-use lib.IntN.{ℤ, pos, nat_abs}
+use lib.IntN.{pos, nat_abs}
 use lib.ListN.{length, get_or, set, drop, length-set, length-append, length-drop, get_or-append}
 use lib.Seq.{get_or-set_same, get_or-set_other, get_or-drop, ext_get_or}
 use lib.Ieee.{nan}
@@ -20,7 +20,7 @@ use Rattle.places.specs.Last.{last_where, last_at}
 use Rattle.places.proofs.Placed.{in_ring, grid_in_ring, on_grid, grid-position}
 use Rattle.places.proofs.Squares.{index_one}
 use Rattle.reading.specs.Read.{reads}
-use Rattle.page.specs.Lines.{columns, page_length, field_columns, shown, Modules, square_byte, page_text, overlaid}
+use Rattle.page.specs.Lines.{columns, page_length, field_columns, shown, Modules, page_text, overlaid}
 use Rattle.page.specs.Steps.{field_byte, blank_byte, blank_at, blank_page, place_of, show_at, show_all}
 use Rattle.page.proofs.Pieces.{behind}
 use Rattle.page.proofs.Text.{Numbers, text-length, text_head, text-square, text-padding, text_end}

@@ -1,12 +1,11 @@
 -- The page's text, byte by byte: a line's place is its number times 51, the first line holds the numbers' fields, and a row's columns are its squares. Assumes nothing.
 use mathlib.Core.Path.{◌≡◌, refl, ap, ◌∙◌}
-use mathlib.Core.List.{List, [], ◌∷◌, ◌++◌}
+use mathlib.Core.List.{List, [], ◌∷◌}
 use Prim.Native.Nat.{ℕ, zero, suc, ◌+◌, ◌-◌, ◌*◌, ◌/◌, ◌%◌, ◌^◌, ◌≤◌, ◌<◌}
 use native.Mathlib.Omega.{arith}
-use native.Mathlib.Nat.{mul-one}
 use lib.ListN.{length, get_or, length-append, get_or-append}
 use Rattle.listing.specs.Text.{lines_below}
-use Rattle.page.specs.Lines.{columns, line, page_length, field_columns, field, field_at, head_line, Modules, square_byte, square_at, row_line, page_text}
+use Rattle.page.specs.Lines.{columns, page_length, field_columns, field_at, head_line, Modules, square_byte, square_at, row_line, page_text}
 use Rattle.page.specs.Steps.{field_byte, place_of}
 use Rattle.page.proofs.Pieces.{behind, pieces-length, piece_at, line-length, line-text, line-padding, line-end}
 use Rattle.page.proofs.Fields.{field-length, field-at}

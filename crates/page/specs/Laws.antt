@@ -1,5 +1,5 @@
 -- What holds of the page that an accepted call leaves, byte by byte. `proofs/Bytes.antt` proves it. Definitions only.
-use Rattle.std.specs.Prelude.{◌≡◌, List, ℕ, ◌+◌, ◌-◌, ◌*◌, ◌/◌, ◌%◌, ◌^◌, ◌≤◌, ◌<◌, ℤ, pos, length, get_or}
+use Rattle.std.specs.Prelude.{◌≡◌, ℕ, ◌+◌, ◌-◌, ◌*◌, ◌/◌, ◌%◌, ◌^◌, ◌≤◌, ◌<◌, pos, length, get_or}
 use Rattle.std.specs.Float.{nan}
 use Rattle.answers.specs.declared.Outcome.TheVariants.{Refused, Done}
 use Rattle.reading.specs.Read.{reads}

@@ -1,5 +1,5 @@
 -- How the code lays a page out: every byte as it is where no module stands on the grid, then, in list order, each module's digit on its square. Definitions only.
-use Rattle.std.specs.Prelude.{Bool, cond, List, ℕ, zero, suc, ◌+◌, ◌-◌, ◌*◌, ◌/◌, ◌%◌, ◌≤◌, ltb, eqb, ℤ, pos, nat_abs, length, get_or, set, Float}
+use Rattle.std.specs.Prelude.{cond, List, ℕ, zero, suc, ◌+◌, ◌-◌, ◌*◌, ◌/◌, ◌%◌, ◌≤◌, ltb, eqb, pos, nat_abs, length, get_or, set}
 use Rattle.std.specs.Float.{nan}
 use Rattle.loops.specs.Loops as loop
 use Rattle.lists.specs.Lists.{replaced}

@@ -1,5 +1,5 @@
 -- What it is to be the last entry of a position: it stands there, and no later one does; and where there is none, no entry stands there. By the definition, entry by entry from the last. Assumes nothing.
-use mathlib.Core.Path.{◌≡◌, refl, sym, ap, ◌∙◌}
+use mathlib.Core.Path.{◌≡◌, refl, sym, ap}
 use mathlib.Core.Logic.{⊎_elim}
 use mathlib.Core.Bool.{Bool, true, false, cond}
 use mathlib.Core.Option.{Option, none, some, none-ne-some, some-injective}

@@ -1,18 +1,16 @@
 -- A mark is `is_held` of the gain, and `hold_gain` is the gain or 0.05 of its sign by the same test. A count of a test is at most the numbers that it is asked of, and 0 exactly where it holds of none
 -- (crate `loops`). Assumes nothing.
 use mathlib.Core.Path.{◌≡◌, refl, sym, ap, ◌∙◌}
-use mathlib.Core.Bool.{Bool, true, false, cond}
-use mathlib.Core.List.{List}
+use mathlib.Core.Bool.{Bool}
 use mathlib.Core.Option.{none-ne-some, some-injective}
-use Prim.Native.Nat.{ℕ, zero, suc, ◌-◌, ◌≤◌, ◌<◌}
+use Prim.Native.Nat.{ℕ, zero, suc}
 use native.Mathlib.Omega.{arith}
 use borrow.Author.Tests.{lt-ltb, le-ltb}
 use lib.ListN.{length}
-use lib.Ieee.{Float, nan, inf, lt, of_bits, round}
+use lib.Ieee.{Float, lt, of_bits, round}
 use Rattle.sentences.specs.Sentences.{refusal, decided}
 use Rattle.loops.specs.Loops.{count_up}
 use Rattle.loops.proofs.Laws.{any_up-none, any_up-false, count_up-most, count_up-zero, count_up-none}
-use Rattle.limits.specs.Chroma.{chroma_on}
 use Rattle.answers.specs.Answers.{gives}
 use Rattle.float.specs.Select.{abs}
 use Rattle.color.specs.declared.Linear.{Linear}
@@ -21,13 +19,12 @@ use Rattle.illum.specs.Surface.{least_gain, is_held, hold_gain, deshade}
 use Rattle.illum.specs.Correct.{unshaded, mixed, held_at}
 use Rattle.measure.specs.declared.Measurement.{Measurement}
 use Rattle.measure.specs.Measure as measuring
-use Rattle.observed.specs.Colours.{held_cells}
 use Rattle.scores.specs.Score.{chroma_held}
 use Rattle.demod.specs.declared.ScoreReport.{ScoreReport}
 use Rattle.demod.specs.declared.Scored.TheVariants.{Done}
 use Rattle.demod.specs.Call as scoring
 use Rattle.demod.proofs.Accepted.{report_is}
-use Rattle.promises.specs.Marks.{Channel, Marks, Gains, Count, References, Reported}
+use Rattle.promises.specs.Marks.{Marks, Gains, Count, References, Reported}
 
 -- ---- one colour
 

@@ -4,7 +4,6 @@
 // theorems in their proofs/.
 #![tactic(auto)]
 
-
 ghost use Rattle.guarantee.specs.Guarantee.{EachReadAtNine};
 ghost use Rattle.promises.specs.Card.{Met, Worked};
 ghost use Rattle.promises.specs.Premises.{ReadableAreSingles, DrawingAfterScoring};

@@ -1,5 +1,5 @@
 -- Reading: a score becomes a bit. Definitions only.
-use Rattle.std.specs.Prelude.{Bool, false, cond, List, [], ◌∷◌, ℕ, ltb, pos, length, get_or, Float}
+use Rattle.std.specs.Prelude.{false, cond, List, [], ◌∷◌, ℕ, ltb, pos, length, get_or, Float}
 use Rattle.std.specs.Float.{nan, fin}
 use Rattle.std.specs.Float.Ieee.{lt}
 use Rattle.sentences.specs.Sentences.{Sentence, ◌when◌}

@@ -21,7 +21,7 @@ use Rattle.layout.specs.Groups.{shape, placement, module_placement}
 use Rattle.listing.specs.Listing.{refused_line}
 use Rattle.listing.proofs.Room.{listing-length, refused-length}
 use Rattle.answers.specs.declared.Outcome.TheVariants as outcome
-use Rattle.answers.specs.Answers.{outcome_number, ended, written_or}
+use Rattle.answers.specs.Answers.{ended, written_or}
 use Rattle.lists.specs.Lists.{replace_at}
 use Rattle.modulate.specs.Score.{unmask_sentences, unmask_luma_of}
 use Rattle.reading.specs.Read.{reads, read_score_at, read_list, read_sentences, read_list_of}

@@ -1,5 +1,5 @@
 -- What `palette_sigmas` writes is the chroma noise of each palette colour at its place: each turn writes one place and keeps the others. Assumes nothing.
-use mathlib.Core.Path.{◌≡◌, sym, ap, subst}
+use mathlib.Core.Path.{◌≡◌, sym, subst}
 use mathlib.Core.List.{List}
 use Prim.Native.Nat.{ℕ, ◌*◌, ◌≤◌}
 use native.Mathlib.Nat.{le_trans, le_of_eq}

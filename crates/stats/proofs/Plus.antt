@@ -8,7 +8,6 @@ use native.Mathlib.Omega.{arith}
 use lib.Dec.{T}
 use lib.Ieee.{Float, nan, inf, fin, binary32, up, down, unlike, round, add, mul, is_nan, fits}
 use lib.Ieee.Fits.{down_pos}
-use lib.Ieee.Scale.{finite}
 use Rattle.floatlaws.specs.Value.{mag, hi, lo, unit, Num, overflow-pos}
 use Rattle.floatlaws.specs.Near.{near, near-zero, round-num, lo_round, Rounds}
 use Rattle.floatlaws.specs.Finite.{Fin, num, add-num, div-num}

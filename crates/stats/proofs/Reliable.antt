@@ -14,7 +14,7 @@ use Rattle.loops.proofs.Laws.{for_up_to}
 use Rattle.floatlaws.specs.Value.{unit, unit-pos, hi, lo, Num}
 use Rattle.floatlaws.specs.Order.{Le, sides}
 use Rattle.floatlaws.specs.Near.{above, under}
-use Rattle.floatlaws.specs.Finite.{num, add-num, div_num'}
+use Rattle.floatlaws.specs.Finite.{add-num, div_num'}
 use Rattle.floatlaws.specs.Ops.{add_rounds, div-rounds}
 use Rattle.floatlaws.specs.Const.{Const, const, is_const}
 use Rattle.floatlaws.specs.Interval.{In, within}

@@ -1,5 +1,5 @@
 -- Gray code and its inverse undo each other: n xor n/2, and g xor g/2 xor g/4 .., halve as their arguments do, and what is put in twice drops out. Over powers of two so do the symbols and hues. Assumes nothing.
-use mathlib.Core.Path.{◌≡◌, refl, sym, ap, ap₂, ◌∙◌, subst}
+use mathlib.Core.Path.{◌≡◌, refl, sym, ap, ap₂, ◌∙◌}
 use Prim.Native.Nat.{ℕ, zero, suc, ◌/◌, ◌%◌, ◌^◌, ◌≤◌, ◌<◌}
 use native.Mathlib.Nat.{le_refl, mod-lt, mod-eq_of_lt, div-le_self, lt_of_le_of_lt}
 use native.Mathlib.Decide.{le_ind}

@@ -1,5 +1,5 @@
 -- Rotations are sums by remainder: removing undoes applying both ways round, two rotations in turn are one by their sum, in either order. Over any hue count above 0. Assumes nothing.
-use mathlib.Core.Path.{◌≡◌, refl, sym, ap, ◌∙◌}
+use mathlib.Core.Path.{◌≡◌, sym, ap, ◌∙◌}
 use Prim.Native.Nat.{ℕ, ◌+◌, ◌-◌, ◌%◌, ◌<◌, ◌≤◌}
 use native.Mathlib.Nat.{mod-lt, mod-eq_of_lt, mod-add-mod, add-mod-mod, add-mod_right, add_comm, add_assoc}
 use native.Mathlib.Omega.{arith}

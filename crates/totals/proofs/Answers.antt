@@ -12,13 +12,13 @@ use lib.ListN.{length}
 use lib.Ieee.{Float}
 use Rattle.sentences.specs.Sentences.{◌when◌, refusal, at, sound, fresh}
 use Rattle.sentences.proofs.Laws.{neither, holds, passed, none}
-use Rattle.answers.specs.Answers.{gives, refused_by, answered}
+use Rattle.answers.specs.Answers.{gives, refused_by}
 use Rattle.answers.proofs.Answers.{none_of, says-refused, says-given, given-none-holds, given_is}
 use Rattle.totals.specs.declared.Totals.{Totals}
 use Rattle.totals.specs.declared.Ratio.{Ratio}
-use Rattle.totals.specs.Batch.{plus, of_card, of_cards, bad_totals, Good, unfit_in, FitCard, AllFit, nil, cons}
+use Rattle.totals.specs.Batch.{plus, of_card, of_cards, bad_totals, Good, FitCard, AllFit, nil, cons}
 use Rattle.totals.specs.Calls.{full, card_sentences, add_card_of, CardAdded, too_many, totals_sentences, add_totals_of, BatchesAdded}
-use Rattle.totals.specs.LowestTerms.{over, ratio_of, mean_sentences, mean_of, Lowest, MeanLowest}
+use Rattle.totals.specs.LowestTerms.{ratio_of, mean_sentences, mean_of, Lowest, MeanLowest}
 use Rattle.totals.proofs.Shapes.{good, not-bad, nothing-good, both-good, plus-good}
 use Rattle.totals.proofs.Batches.{plus_comm, batches-add, card_anywhere, card-good}
 use Rattle.totals.proofs.Divisor.{ratio-none, lowest, only-lowest}

@@ -1,5 +1,5 @@
 -- The calls that add: their sentences in checking order, what they answer, and what holds of it. Definitions only.
-use Rattle.std.specs.Prelude.{◌≡◌, Bool, false, ◌||◌, List, [], ◌∷◌, ◌++◌, ℕ, ◌+◌, ◌≤◌, ◌<◌, ltb, length, Float}
+use Rattle.std.specs.Prelude.{◌≡◌, Bool, false, ◌||◌, List, [], ◌∷◌, ◌++◌, ◌+◌, ◌≤◌, ◌<◌, ltb, length, Float}
 use Rattle.sentences.specs.Sentences.{Sentence, ◌when◌}
 use Rattle.answers.specs.Answers.{Said, refused_by, gives, answered}
 use Rattle.totals.specs.declared.Totals.{Totals}

@@ -1,5 +1,4 @@
 -- `card::coordinates` meets its contract: each turn writes one number, the rest is left for the next ones. Assumes nothing.
-use Prim.Native.Nat.{◌-◌}
 use Rattle.loops.proofs.Laws.{loops}
 use Rattle.card.proofs.Filled.{stored}
 use borrow.Author.Rules.{rules}

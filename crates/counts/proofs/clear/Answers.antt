@@ -1,6 +1,5 @@
 -- `clear` meets its contract: what is left from i on gives the same. Assumes nothing.
 use borrow.Author.Rules.{rules}
-use Prim.Native.Nat.{◌-◌}
 use Rattle.loops.proofs.Laws.{loops}
 use Rattle.counts.proofs.Sums.{none_yet}
 use Rattle.counts.proofs.clear.Goals as goal

@@ -1,6 +1,5 @@
 -- `count_all` meets its contract: what is left from i on gives the same, and the counts so far add up to i. Assumes nothing.
 use borrow.Author.Rules.{rules}
-use Prim.Native.Nat.{◌-◌}
 use Rattle.loops.proofs.Laws.{loops}
 use Rattle.counts.proofs.Sums.{all_turns}
 use Rattle.counts.proofs.count_all.Goals as goal

@@ -1,6 +1,5 @@
 -- `highest` meets its contract: what is left from h on gives the same, and the best so far is the highest of the hues before h. Assumes nothing.
 use borrow.Author.Rules.{rules}
-use Prim.Native.Nat.{◌-◌}
 use Rattle.loops.proofs.Laws.{loops}
 use Rattle.counts.proofs.Ranks.{highest-here, better_in}
 use Rattle.counts.proofs.highest.Goals as goal

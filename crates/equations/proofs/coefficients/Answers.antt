@@ -1,6 +1,5 @@
 -- `equations::coefficients` meets its contract: what is left of the terms from k on copies the rest.
 -- Assumes nothing.
-use Prim.Native.Nat.{◌-◌}
 use lib.Ieee.{of_bits}
 use Rattle.loops.proofs.Laws.{turn_to, loops}
 use Rattle.equations.specs.Once.{taken_at}

@@ -1,6 +1,5 @@
 -- `equations::scale_terms` meets its contract: what is left of the terms from k on writes the rest.
 -- Assumes nothing.
-use Prim.Native.Nat.{◌-◌}
 use Rattle.loops.proofs.Laws.{turn_to, loops}
 use Rattle.equations.specs.Once.{scale_at}
 use borrow.Author.Rules.{rules}

@@ -1,6 +1,5 @@
 -- `equations::surface_rows` meets its contract: what is left from i on adds the rest.
 -- Assumes nothing.
-use Prim.Native.Nat.{◌-◌}
 use Rattle.loops.proofs.Laws.{loops}
 use borrow.Author.Rules.{rules}
 use Rattle.equations.proofs.surface_rows.Goals as goal

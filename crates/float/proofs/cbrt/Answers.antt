@@ -4,7 +4,7 @@ use Rattle.std.proofs.Common.{◌≡◌, ℕ, true, ◌+◌, ◌-◌, ◌*◌, �
 use lib.Ieee.{Float, binary32, fits, nan_bits, to_bits, of_bits}
 use lib.Ieee.Bits.{to_bits-lt}
 use Rattle.floatlaws.specs.Nan.{no_nan}
-use Rattle.floatlaws.specs.Bits.{value_of, real-pattern, sign_bit, unsigned}
+use Rattle.floatlaws.specs.Bits.{real-pattern, sign_bit, unsigned}
 use Rattle.float.specs.Parts.{Split}
 use Rattle.float.proofs.Rounding.{moved_lt, moved-below, cbrt-nan, cbrt-zero, cbrt-inf, cbrt-finite, cbrt-digits, cbrt-made}
 use Rattle.float.proofs.cbrt.Goals as goal

@@ -1,6 +1,6 @@
 -- `illum::large` meets its contract: what is left from i on says the same.
 -- Assumes nothing.
-use Rattle.std.proofs.Common.{◌-◌, rules}
+use Rattle.std.proofs.Common.{rules}
 use lib.Ieee.{of_bits}
 use Rattle.loops.proofs.Laws.{loops}
 use Rattle.illum.proofs.large.Goals as goal

@@ -1,5 +1,4 @@
 -- `limits::bad_cells` meets its contract: what is left of the list says what the whole list says. Assumes nothing.
-use Prim.Native.Nat.{◌-◌}
 use borrow.Author.Rules.{rules}
 use Rattle.loops.proofs.Laws.{loops}
 use Rattle.limits.proofs.bad_cells.Goals as goal

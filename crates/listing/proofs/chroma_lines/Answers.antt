@@ -1,5 +1,4 @@
 -- `listing::chroma_lines` meets its contract: each turn writes one line, the rest is left for the next ones. Assumes nothing.
-use Prim.Native.Nat.{◌-◌}
 use Rattle.loops.proofs.Laws.{loops}
 use Rattle.listing.proofs.Write.{begin_lines}
 use borrow.Author.Rules.{rules}

@@ -1,5 +1,4 @@
 -- `local::above` meets its contract: what is left of the samples from i on takes the classes to the answer. Assumes nothing.
-use Prim.Native.Nat.{◌-◌}
 use borrow.Author.Rules.{rules}
 use Rattle.loops.proofs.Laws.{loops}
 use Rattle.local.specs.Local.{above_at}

@@ -1,6 +1,6 @@
 -- `local::classify` meets its contract: what is left of the samples from i on takes the classes to the answer. Assumes nothing.
 use mathlib.Core.Path.{◌≡◌}
-use Prim.Native.Nat.{ℕ, ◌-◌}
+use Prim.Native.Nat.{ℕ}
 use borrow.Author.Rules.{rules}
 use Rattle.loops.proofs.Laws.{loops}
 use Rattle.local.specs.Local.{dx_at, dy_at, y_at, classes, classify_by, classify_at, classified}

@@ -5,7 +5,7 @@ use mathlib.Core.Path.{◌≡◌, sym, ◌∙◌}
 use borrow.Author.Tests.{eq-eqb, ne_eqb, not-true, not-false}
 use lib.Ieee.{Float}
 use Rattle.answers.specs.Answers.{Said, gives, gives_none}
-use Rattle.local.specs.Local.{halves_of, split_of, above_of, plane, refits_of, single_of, spread_of, amount_of, FitValues, fit_values, fit_of, concluded, local_fit}
+use Rattle.local.specs.Local.{halves_of, split_of, above_of, refits_of, single_of, spread_of, amount_of, FitValues, fit_values, fit_of, concluded, local_fit}
 use Rattle.local.specs.declared.Classes.{Classes}
 use Rattle.local.specs.declared.Halves.{Halves}
 use Rattle.local.specs.declared.Single.{Single}

@@ -1,6 +1,6 @@
 -- `local::mean` meets its contract: what is left of the samples from i on takes s to the sum. Assumes nothing.
 use mathlib.Core.Path.{◌≡◌}
-use Prim.Native.Nat.{ℕ, ◌-◌, ◌≤◌}
+use Prim.Native.Nat.{ℕ, ◌≤◌}
 use native.Mathlib.Omega.{arith}
 use borrow.Author.Rules.{rules}
 use lib.Ieee.{Float, binary32, of_bits, div, of_int}

@@ -1,6 +1,6 @@
 -- `local::place_sums` meets its contract: what is left of the samples from i on takes the sums to the answer. Assumes nothing.
 use mathlib.Core.Path.{◌≡◌}
-use Prim.Native.Nat.{ℕ, ◌-◌}
+use Prim.Native.Nat.{ℕ}
 use borrow.Author.Rules.{rules}
 use lib.Ieee.{Float, of_bits}
 use Rattle.loops.proofs.Laws.{loops}

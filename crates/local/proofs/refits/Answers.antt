@@ -2,7 +2,6 @@
 use mathlib.Core.Bool.{Bool, true}
 use mathlib.Core.List.{List}
 use mathlib.Core.Path.{◌≡◌}
-use Prim.Native.Nat.{◌-◌}
 use borrow.Author.Rules.{rules}
 use Rattle.loops.proofs.Laws.{Left, loops, begin}
 use Rattle.local.specs.Local.{no_plane, classes, refit_turn, refits_of}

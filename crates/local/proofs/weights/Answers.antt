@@ -1,5 +1,4 @@
 -- `local::weights` meets its contract: after i turns the first i places are the classes as numbers. Assumes nothing.
-use Prim.Native.Nat.{◌-◌}
 use borrow.Author.Rules.{rules}
 use Rattle.local.specs.Sums.{weight_at}
 use Rattle.local.proofs.Firsts.{firsts}

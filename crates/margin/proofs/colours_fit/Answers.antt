@@ -1,6 +1,5 @@
 -- `colours_fit` meets its contract: what is left from i on says the same. Assumes nothing.
 use borrow.Author.Rules.{rules}
-use Prim.Native.Nat.{◌-◌}
 use Rattle.loops.proofs.Laws.{loops}
 use Rattle.stats.proofs.Tests.{everies}
 use Rattle.margin.proofs.colours_fit.Goals as goal

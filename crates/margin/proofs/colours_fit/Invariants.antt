@@ -1,7 +1,7 @@
 -- `colours_fit` meets its contract: what is left from i on says the same. Assumes nothing.
 use mathlib.Core.Path.{◌≡◌}
 use Prim.Native.Nat.{◌*◌, ◌-◌}
-use Rattle.loops.proofs.Laws.{LeftAny, loops}
+use Rattle.loops.proofs.Laws.{LeftAny}
 use Rattle.margin.specs.Margin.{fails_at, colour_fits}
 use Rattle.margin.proofs.colours_fit.Given as goal
 

@@ -1,6 +1,5 @@
 -- `hues_clear` meets its contract: what is left from h on says the same. Assumes nothing.
 use borrow.Author.Rules.{rules}
-use Prim.Native.Nat.{◌-◌}
 use Rattle.loops.proofs.Laws.{loops}
 use Rattle.stats.proofs.Tests.{everies}
 use Rattle.margin.proofs.hues_clear.Goals as goal

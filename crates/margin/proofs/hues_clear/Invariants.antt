@@ -1,6 +1,6 @@
 -- `hues_clear` meets its contract: what is left from h on says the same. Assumes nothing.
 use Prim.Native.Nat.{◌-◌}
-use Rattle.loops.proofs.Laws.{LeftAny, loops}
+use Rattle.loops.proofs.Laws.{LeftAny}
 use Rattle.margin.specs.Margin.{fails_at, hue_clear}
 use Rattle.margin.proofs.hues_clear.Given as goal
 

@@ -1,6 +1,6 @@
 -- `others_far` meets its contract: what is left from h on says the same. Assumes nothing.
 use Prim.Native.Nat.{◌-◌}
-use Rattle.loops.proofs.Laws.{LeftAny, loops}
+use Rattle.loops.proofs.Laws.{LeftAny}
 use Rattle.margin.specs.Margin.{fails_at, other_far}
 use Rattle.margin.proofs.others_far.Given as goal
 

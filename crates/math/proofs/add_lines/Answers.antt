@@ -1,5 +1,4 @@
 -- `math::add_lines` meets its contract: what is left of the lines gives the same equations. Assumes nothing.
-use Prim.Native.Nat.{◌-◌}
 use borrow.Author.Rules.{rules}
 use Rattle.loops.proofs.Laws.{loops}
 use Rattle.math.specs.Normal.{add_row}

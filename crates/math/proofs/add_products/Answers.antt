@@ -1,5 +1,4 @@
 -- `math::add_products` meets its contract: what is left of the row gives the same matrix. Assumes nothing.
-use Prim.Native.Nat.{◌-◌}
 use borrow.Author.Rules.{rules}
 use Rattle.loops.proofs.Laws.{loops}
 use Rattle.math.proofs.add_products.Goals as goal

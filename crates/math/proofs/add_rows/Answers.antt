@@ -1,5 +1,4 @@
 -- `math::add_rows` meets its contract: what is left of the rows gives the same equations. Assumes nothing.
-use Prim.Native.Nat.{◌-◌}
 use borrow.Author.Rules.{rules}
 use Rattle.loops.proofs.Laws.{loops}
 use Rattle.math.proofs.add_rows.Goals as goal

@@ -1,5 +1,4 @@
 -- `math::eliminate` meets its contract: what is left of the columns takes the system to the same end, or leaves it at the same column. Assumes nothing.
-use Prim.Native.Nat.{◌-◌}
 use borrow.Author.Rules.{rules}
 use Rattle.loops.proofs.Laws.{loops}
 use Rattle.math.proofs.eliminate.Goals as goal

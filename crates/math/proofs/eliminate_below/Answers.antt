@@ -1,6 +1,6 @@
 -- `math::eliminate_below` meets its contract: what is left of the rows gives the same system, d being what stood on the diagonal before the first of them. Assumes nothing.
 use mathlib.Core.Path.{◌≡◌}
-use Prim.Native.Nat.{ℕ, ◌+◌, ◌-◌}
+use Prim.Native.Nat.{ℕ, ◌+◌}
 use borrow.Author.Rules.{rules}
 use mathlib.Core.List.{List}
 use lib.Ieee.{Float}

@@ -1,5 +1,4 @@
 -- `math::nudge` meets its contract: what is left of the diagonal gives the same matrix. Assumes nothing.
-use Prim.Native.Nat.{◌-◌}
 use borrow.Author.Rules.{rules}
 use Rattle.loops.proofs.Laws.{loops}
 use Rattle.math.proofs.nudge.Goals as goal

@@ -1,5 +1,4 @@
 -- `math::pivot_row` meets its contract: what is left of the rows finds the same pivot, and every row that it finds is below n. Assumes nothing.
-use Prim.Native.Nat.{◌-◌}
 use borrow.Author.Rules.{rules}
 use Rattle.loops.proofs.Laws.{loops}
 use Rattle.math.proofs.pivot_row.Goals as goal

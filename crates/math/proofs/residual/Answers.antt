@@ -1,5 +1,4 @@
 -- `math::residual` meets its contract: what is left of the row gives the same difference. Assumes nothing.
-use Prim.Native.Nat.{◌-◌}
 use borrow.Author.Rules.{rules}
 use Rattle.loops.proofs.Laws.{turn_to, loops}
 use Rattle.math.specs.Gauss as gauss

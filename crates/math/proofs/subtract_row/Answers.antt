@@ -1,5 +1,4 @@
 -- `math::subtract_row` meets its contract: what is left of the row gives the same matrix. Assumes nothing.
-use Prim.Native.Nat.{◌-◌}
 use borrow.Author.Rules.{rules}
 use Rattle.loops.proofs.Laws.{loops}
 use Rattle.math.proofs.subtract_row.Goals as goal

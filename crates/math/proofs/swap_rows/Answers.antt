@@ -1,5 +1,4 @@
 -- `math::swap_rows` meets its contract: what is left of the columns gives the same matrix. Assumes nothing.
-use Prim.Native.Nat.{◌-◌}
 use borrow.Author.Rules.{rules}
 use Rattle.loops.proofs.Laws.{loops}
 use Rattle.math.proofs.swap_rows.Goals as goal

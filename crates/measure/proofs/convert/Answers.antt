@@ -1,6 +1,5 @@
 -- `measure::convert` meets its contract: before turn i the numbers of i references are written, the colours of the others stand,
 -- and every slot in use holds a colour with what is known of it. Assumes nothing.
-use Prim.Native.Nat.{◌-◌}
 use lib.Ieee.{binary32}
 use Rattle.floatlaws.specs.Nan.{zero_by_zero}
 use Rattle.measure.proofs.Noting.{convert_begin, convert_turn, convert_done}

@@ -1,5 +1,4 @@
 -- `measure::correct` meets its contract: before turn i the corrected colours of i references are written, and those that have a mark are counted. Assumes nothing.
-use Prim.Native.Nat.{◌-◌}
 use Rattle.loops.proofs.Laws.{loops}
 use Rattle.measure.proofs.Noting.{correct_begin, correct_turn, correct_done}
 use Rattle.measure.proofs.Observed.{seen-colour, seen-counted}

@@ -1,5 +1,4 @@
 -- `measure::list` meets its contract: what is listed before turn i, with what is left from i on, is the whole. Assumes nothing.
-use Prim.Native.Nat.{◌-◌}
 use Rattle.measure.proofs.Listing.{list-begin, list-upto, list-long, list-turn, list-taken, list_count, list-kept}
 use borrow.Author.Rules.{rules}
 use Rattle.measure.proofs.list.Goals as goal

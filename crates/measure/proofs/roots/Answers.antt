@@ -1,5 +1,4 @@
 -- `measure::roots` meets its contract: before turn i the roots of i references are taken. Assumes nothing.
-use Prim.Native.Nat.{◌-◌}
 use Rattle.measure.proofs.Noting.{root-begin, root-turn, root-done}
 use borrow.Author.Rules.{rules}
 use Rattle.measure.proofs.roots.Goals as goal

@@ -1,7 +1,6 @@
 -- `measure::wild_corrected` meets its contract: what is left from i on says the same. A colour in reach of the model is not wild; any other is looked at. Assumes nothing.
 use mathlib.Core.Path.{refl, sym, ap}
 use mathlib.Core.Bool.{false, not}
-use Prim.Native.Nat.{◌-◌}
 use Rattle.loops.proofs.Laws.{turn-any, loops}
 use Rattle.illum.proofs.Moderate.{in_reach}
 use Rattle.measure.proofs.Observed.{seen-wild}
@@ -19,7 +18,7 @@ pub loop-i-preserved : goal.loop-i-preserved
 loop-i-preserved c =
     let g = c.loop-i.invariant in
     elim c.if-not-within.branch [
-      then-not-within+else-wild_mix w ↦ turn-any g c.loop-i-test.true (seen-wild _ _ _ _ _ _ c.seen_at-o.ensures w.unshade-d.ensures refl _ w.wild_mix.ensures) w.if-wild_mix.false
+      | then-not-within+else-wild_mix w ↦ turn-any g c.loop-i-test.true (seen-wild _ _ _ _ _ _ c.seen_at-o.ensures w.unshade-d.ensures refl _ w.wild_mix.ensures) w.if-wild_mix.false
       | else-not-within w ↦ turn-any g c.loop-i-test.true (seen-wild _ _ _ _ _ _ c.seen_at-o.ensures refl refl false (sym (in_reach _ _ _ _ _ _ c.reach-reach.ensures c.within.ensures (ap not w.if-not-within.false)))) refl
     ]
 

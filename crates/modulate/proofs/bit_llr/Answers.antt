@@ -2,7 +2,7 @@
 use mathlib.Core.Path.{◌≡◌, ap}
 use borrow.Author.Rules.{rules}
 use mathlib.Core.List.{List}
-use Prim.Native.Nat.{ℕ, ◌-◌}
+use Prim.Native.Nat.{ℕ}
 use lib.ListN.{get_or}
 use lib.Ieee.{Float, nan, binary32, sub, div, neg, of_bits}
 use Rattle.loops.proofs.Laws.{begin, loops}

@@ -1,7 +1,7 @@
 -- `modulate::bit_llr` meets its contract: what is left of the hues gives the best of all; the code starts at minus infinity. Assumes nothing.
 use Prim.Native.Nat.{◌-◌}
 use Rattle.loops.proofs.Laws.{Left}
-use Rattle.modulate.specs.Score.{best, better_at, best_of}
+use Rattle.modulate.specs.Score.{better_at, best_of}
 use Rattle.modulate.proofs.bit_llr.Given as goal
 
 abbrev pub invariant-loop-h : goal.invariant-loop-h

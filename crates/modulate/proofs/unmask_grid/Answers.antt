@@ -1,6 +1,5 @@
 -- `modulate::unmask_grid` meets its contract: what is left of the grid modules gives the list. Assumes nothing.
 use borrow.Author.Rules.{rules}
-use Prim.Native.Nat.{◌-◌}
 use Rattle.loops.proofs.Laws.{loops}
 use Rattle.layout.proofs.Laws.{position_at}
 use Rattle.modulate.proofs.unmask_grid.Goals as goal

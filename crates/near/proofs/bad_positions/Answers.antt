@@ -1,6 +1,5 @@
 -- `near::bad_positions` meets its contract: what is left from i on says the same.
 -- Assumes nothing.
-use Prim.Native.Nat.{◌-◌}
 use Rattle.loops.proofs.Laws.{loops}
 use borrow.Author.Rules.{rules}
 use Rattle.near.proofs.bad_positions.Goals as goal

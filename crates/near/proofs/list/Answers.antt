@@ -1,6 +1,5 @@
 -- `near::list` meets its contract: after i turns those below i are listed.
 -- Assumes nothing.
-use Prim.Native.Nat.{◌-◌}
 use native.Mathlib.Omega.{arith}
 use Rattle.near.proofs.Listing.{collect_starts, collect_goes, collect_ends}
 use Rattle.near.proofs.list.Goals as goal

@@ -23,8 +23,11 @@ radius-fits q g r e = subst T (sym (owed Q.the_type Q'.the_laws (query.Within r)
 
 pub returns-then-n-ne0 : goal.returns-then-n-ne0
 returns-then-n-ne0 c =
-    let s = c in record { out_after = refused-answer s.args.xy.now s.args.kept.now s.args.side s.args.x s.args.y s.args.query s.args.out.now s.ranges.x s.ranges.y c.refused-n.result
-          c.refused-n.ensures c.if-n-ne0.true; found = λ e. absurd (c.if-n-ne0.true e) }
+    let s = c in record {
+      out_after = refused-answer s.args.xy.now s.args.kept.now s.args.side s.args.x s.args.y s.args.query s.args.out.now s.ranges.x s.ranges.y c.refused-n.result
+          c.refused-n.ensures c.if-n-ne0.true;
+      found = λ e. absurd (c.if-n-ne0.true e);
+    }
 
 pub find-count-requires : goal.find-count-requires
 find-count-requires c =
@@ -37,7 +40,7 @@ pub returns : goal.returns
 returns c =
     let s = c in
     let r = found-answer s.args.xy.now s.args.kept.now s.args.side s.args.x s.args.y s.args.query s.args.out.now s.ranges.x s.ranges.y c.refused-n.result
-      c.refused-n.ensures c.if-n-ne0.false c.centre.result c.centre-2.result c.centre.ensures c.centre-2.ensures
-      c.find-count.result c.find-count.new.out (λ i. c.shared_slice_known-1.given i) (radius-fits s.args.query s.well_formed.1.1.1.1.1.0)
-      (c.find-count.ensures.promised, c.find-count.ensures.upper_bound) in
+    c.refused-n.ensures c.if-n-ne0.false c.centre.result c.centre-2.result c.centre.ensures c.centre-2.ensures
+    c.find-count.result c.find-count.new.out (λ i. c.shared_slice_known-1.given i) (radius-fits s.args.query s.well_formed.1.1.1.1.1.0)
+    (c.find-count.ensures.promised, c.find-count.ensures.upper_bound) in
     record { out_after = r.0; found = r.1 }

@@ -1,6 +1,5 @@
 -- `near::nearest` meets its contract: after i turns the first three of those below i are listed.
 -- Assumes nothing.
-use Prim.Native.Nat.{◌-◌}
 use native.Mathlib.Omega.{arith}
 use Rattle.near.proofs.Leading.{lead-starts, lead-places, lead-goes, lead_ends}
 use Rattle.near.proofs.nearest.Goals as goal

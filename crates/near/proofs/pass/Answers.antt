@@ -1,6 +1,5 @@
 -- `near::pass` meets its contract: after k turns the first k are sorted, where the steps are of 1.
 -- Assumes nothing.
-use Prim.Native.Nat.{◌-◌}
 use native.Mathlib.Omega.{arith}
 use Rattle.near.proofs.Sifting.{pass-starts, pass-ready, pass-goes, pass_ends}
 use Rattle.near.proofs.pass.Goals as goal

@@ -2,7 +2,6 @@
 use mathlib.Core.Path.{refl, sym, ap}
 use mathlib.Core.Bool.{false, not}
 use borrow.Author.Rules.{rules}
-use Prim.Native.Nat.{◌-◌}
 use Rattle.loops.proofs.Laws.{turn-any, loops}
 use Rattle.illum.proofs.Moderate.{in_reach}
 use Rattle.observed.proofs.Spots.{cell-wild}
@@ -14,11 +13,13 @@ returns-then-wild_mix c = search (cell-wild, loops, rules)
 
 pub loop-i-preserved : goal.loop-i-preserved
 loop-i-preserved c =
-    let g = c.loop-i.invariant in
-    (g.0, elim c.if-not-within.branch [
-      then-not-within+else-wild_mix w ↦ turn-any g.1 c.loop-i-test.true (cell-wild _ _ _ _ w.unshade-d.ensures _ _ _ _ c.cell_spot-s.ensures _ w.wild_mix.ensures) w.if-wild_mix.false
-      | else-not-within w ↦ turn-any g.1 c.loop-i-test.true (cell-wild _ _ _ _ refl _ _ _ _ c.cell_spot-s.ensures false (sym (in_reach _ _ _ _ _ _ c.reach-reach.ensures c.within.ensures (ap not w.if-not-within.false)))) refl
-    ] )
+    let g = c.loop-i.invariant in (
+      g.0,
+      elim c.if-not-within.branch [
+        | then-not-within+else-wild_mix w ↦ turn-any g.1 c.loop-i-test.true (cell-wild _ _ _ _ w.unshade-d.ensures _ _ _ _ c.cell_spot-s.ensures _ w.wild_mix.ensures) w.if-wild_mix.false
+        | else-not-within w ↦ turn-any g.1 c.loop-i-test.true (cell-wild _ _ _ _ refl _ _ _ _ c.cell_spot-s.ensures false (sym (in_reach _ _ _ _ _ _ c.reach-reach.ensures c.within.ensures (ap not w.if-not-within.false)))) refl
+      ],
+    )
 
 pub loop-i-init : goal.loop-i-init
 loop-i-init c = search (loops, rules)

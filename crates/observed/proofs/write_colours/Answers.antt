@@ -1,6 +1,5 @@
 -- `write_colours` meets its contract: what is left from i on gives the same, of the colours and of the count. Assumes nothing.
 use borrow.Author.Rules.{rules}
-use Prim.Native.Nat.{◌-◌}
 use Rattle.loops.proofs.Laws.{turn_to, loops}
 use Rattle.observed.proofs.Places.{exact_at}
 use Rattle.observed.proofs.Spots.{colour_step, module_counted}

@@ -1,7 +1,7 @@
 -- `order::clear` meets its contract: before turn i the first i zeros are written. Assumes nothing.
 use mathlib.Core.Path.{◌≡◌, sym, ap, ◌∙◌}
 use mathlib.Core.List.{List, ◌++◌}
-use Prim.Native.Nat.{ℕ, ◌-◌, ◌≤◌, ◌<◌}
+use Prim.Native.Nat.{ℕ, ◌≤◌, ◌<◌}
 use borrow.Author.Rules.{rules}
 use lib.ListN.{length, get_or, replicate, drop, length-replicate, get_or-replicate}
 use lib.Ieee.{Float, nan, of_bits}

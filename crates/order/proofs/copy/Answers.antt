@@ -1,6 +1,5 @@
 -- `order::copy` meets its contract: before turn i the first i values are written. Assumes nothing.
 use mathlib.Core.Path.{refl}
-use Prim.Native.Nat.{◌-◌}
 use borrow.Author.Rules.{rules}
 use Rattle.order.proofs.Fill.{fill-begin, fills}
 use Rattle.order.proofs.copy.Goals as goal

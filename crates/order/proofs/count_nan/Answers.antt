@@ -1,5 +1,4 @@
 -- `order::count_nan` meets its contract: before turn i the first i values are counted. Assumes nothing.
-use Prim.Native.Nat.{◌-◌}
 use borrow.Author.Rules.{rules}
 use Rattle.order.proofs.Tally.{counts}
 use Rattle.order.proofs.count_nan.Goals as goal

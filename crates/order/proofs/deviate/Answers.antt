@@ -1,5 +1,4 @@
 -- `order::deviate` meets its contract: before turn i the distances of the first i values are written. Assumes nothing.
-use Prim.Native.Nat.{◌-◌}
 use borrow.Author.Rules.{rules}
 use Rattle.order.proofs.Fill.{fills}
 use Rattle.order.proofs.Distances.{distances-long, distance-each}

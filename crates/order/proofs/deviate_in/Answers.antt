@@ -1,6 +1,5 @@
 -- `order::deviate_in` meets its contract: before turn i the distances of the first i values are written, and the others stand as they were.
 -- Assumes nothing.
-use Prim.Native.Nat.{◌-◌}
 use borrow.Author.Rules.{rules}
 use Rattle.order.proofs.Fill.{fill-begin, fill-turn, fill-ahead, fill-whole}
 use Rattle.order.proofs.Distances.{distances-long, distance-each}

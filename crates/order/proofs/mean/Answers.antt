@@ -1,5 +1,4 @@
 -- `order::mean` meets its contract: it is safe and ends. Assumes nothing.
-use Prim.Native.Nat.{◌-◌}
 use native.Mathlib.Omega.{arith}
 use Rattle.order.proofs.Small.{small}
 use Rattle.order.proofs.mean.Goals as goal

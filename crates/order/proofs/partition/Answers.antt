@@ -2,7 +2,6 @@
 -- something left, both scans are stopped within the slice. The measure is how many places are to go. Assumes nothing.
 use Prim.Native.Nat.{◌-◌}
 use mathlib.Core.Path.{refl, sym, ap, ◌∙◌}
-use lib.ListN.{length}
 use native.Mathlib.Omega.{arith}
 use Rattle.order.specs.Median.{Parted}
 use Rattle.order.proofs.Parting as parting

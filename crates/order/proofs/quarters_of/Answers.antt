@@ -1,6 +1,5 @@
 -- `order::quarters_of` meets its contract: what is left of the quarters gives the same four numbers. Assumes nothing.
 use mathlib.Core.Path.{refl}
-use Prim.Native.Nat.{◌-◌}
 use borrow.Author.Rules.{rules}
 use lib.Ieee.{div, neg, of_bits, is_nan}
 use Rattle.loops.proofs.Laws.{begin, loops}

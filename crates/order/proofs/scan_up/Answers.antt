@@ -1,6 +1,5 @@
 -- `order::scan_up` meets its contract. The invariant: something still stops the scan, and the scan from i finds what it finds from `from`.
 -- Assumes nothing.
-use Prim.Native.Nat.{◌-◌}
 use mathlib.Core.Path.{refl, sym, ◌∙◌}
 use Rattle.order.proofs.Scan.{up_step, up_stop, up_next}
 use native.Mathlib.Omega.{arith}

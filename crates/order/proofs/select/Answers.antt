@@ -1,6 +1,5 @@
 -- `order::select` meets its contract. The invariant, `Narrowing`: what is left to do from here comes to the whole selection, and k is in the range.
 -- The measure is the range's length. Assumes nothing.
-use Prim.Native.Nat.{◌-◌, ◌<◌}
 use mathlib.Core.Path.{◌≡◌, sym, ap, ◌∙◌}
 use mathlib.Core.List.{List}
 use lib.ListN.{length, get_or}
@@ -45,30 +44,30 @@ pub bounds-v-k : goal.bounds-v-k
 bounds-v-k c =
     let g = c.loop-lo.invariant in
     let h : length c.loop-lo-test.v ≡ length c.args.v.now =
-      elim c.loop-lo-test.branch [
-          else-loop-lo-test w ↦ ap (λ (x : List Float). length x) w.v-is ∙ g.same
-          | then-loop-lo-test+else-k-cut+else-cut-k w ↦
-            let q = w.partition-cut.ensures in ap (λ (x : List Float). length x) w.v-is ∙ narrowing.length-left _ _ _ _ _ _ g w.loop-lo-test.true _ _ _ q.v_after q.up_value q.end_value
-        ]
+    elim c.loop-lo-test.branch [
+      | else-loop-lo-test w ↦ ap (λ (x : List Float). length x) w.v-is ∙ g.same
+      | then-loop-lo-test+else-k-cut+else-cut-k w ↦
+          let q = w.partition-cut.ensures in ap (λ (x : List Float). length x) w.v-is ∙ narrowing.length-left _ _ _ _ _ _ g w.loop-lo-test.true _ _ _ q.v_after q.up_value q.end_value
+    ]
     in omega arith
 
 pub shape_of-v : goal.shape_of-v
 shape_of-v c =
     let g = c.loop-lo.invariant in
     elim c.loop-lo-test.branch [
-        else-loop-lo-test w ↦ ap (λ (x : List Float). length x) w.v-is ∙ g.same
-        | then-loop-lo-test+else-k-cut+else-cut-k w ↦
+      | else-loop-lo-test w ↦ ap (λ (x : List Float). length x) w.v-is ∙ g.same
+      | then-loop-lo-test+else-k-cut+else-cut-k w ↦
           let q = w.partition-cut.ensures in ap (λ (x : List Float). length x) w.v-is ∙ narrowing.length-left _ _ _ _ _ _ g w.loop-lo-test.true _ _ _ q.v_after q.up_value q.end_value
-      ]
+    ]
 
 pub returns : goal.returns
 returns c =
     let g = c.loop-lo.invariant in
     let e : selected c.args.k c.args.v.now ≡ c.loop-lo-test.v =
-      elim c.loop-lo-test.branch [
-          else-loop-lo-test w ↦ g.left ∙ narrowed-done _ _ _ _ g.rounds w.loop-lo-test.false ∙ sym w.v-is
-          | then-loop-lo-test+else-k-cut+else-cut-k w ↦
-            let q = w.partition-cut.ensures in narrowing.narrow-met _ _ _ _ _ _ g w.loop-lo-test.true _ _ _ q.v_after q.up_value q.end_value w.if-k-cut.false w.if-cut-k.false ∙ sym w.v-is
-        ]
+    elim c.loop-lo-test.branch [
+      | else-loop-lo-test w ↦ g.left ∙ narrowed-done _ _ _ _ g.rounds w.loop-lo-test.false ∙ sym w.v-is
+      | then-loop-lo-test+else-k-cut+else-cut-k w ↦
+          let q = w.partition-cut.ensures in narrowing.narrow-met _ _ _ _ _ _ g w.loop-lo-test.true _ _ _ q.v_after q.up_value q.end_value w.if-k-cut.false w.if-cut-k.false ∙ sym w.v-is
+    ]
     in
     record { v_after = sym e; value = ap (λ (x : List Float). get_or x c.args.k nan) (sym e) }

@@ -1,5 +1,4 @@
 -- `page::show_all` meets its contract: what is left of the modules takes the page to the answer. Assumes nothing.
-use Prim.Native.Nat.{◌-◌}
 use borrow.Author.Rules.{rules}
 use Rattle.loops.proofs.Laws.{loops}
 use Rattle.page.proofs.show_all.Goals as goal

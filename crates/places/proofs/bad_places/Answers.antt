@@ -10,7 +10,7 @@ use mir.Syntax.{w32}
 use mir.Val.{to_z, of_z}
 use mir.Facts.{to_z-of_z}
 use lib.ListN.{get_or}
-use Prim.Native.Nat.{ℕ, ◌-◌, ◌^◌, ◌<◌}
+use Prim.Native.Nat.{ℕ, ◌^◌, ◌<◌}
 use Rattle.loops.proofs.Laws.{loops}
 use Rattle.places.specs.Places.{misplaced, misplaced_at}
 use Rattle.places.proofs.bad_places.Goals as goal

@@ -1,6 +1,6 @@
 -- `records::fit` meets its contract: what was copied is fitted, and that is the fit of all. Assumes nothing.
-use Rattle.std.proofs.Common.{◌≡◌, ℕ, ◌*◌, ◌≤◌, take, length, subst, ap, ◌∙◌, arith}
-use Rattle.records.specs.Records.{flattened, copied}
+use Rattle.std.proofs.Common.{◌≡◌, ℕ, ◌*◌, take, length, subst, ◌∙◌, arith}
+use Rattle.records.specs.Records.{flattened}
 use Rattle.records.proofs.Limit.{copied-most, copied-few, fit-laid}
 use Rattle.records.proofs.fit.Goals as goal
 

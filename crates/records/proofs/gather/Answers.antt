@@ -1,5 +1,5 @@
 -- `records::gather` meets its contract: a turn adds the record at i. Assumes nothing.
-use Rattle.std.proofs.Common.{◌≡◌, ◌+◌, ◌*◌, ◌<◌, ◌++◌, ℕ, List, length, get_or, take, refl, sym, ap, ◌∙◌, add-one, arith}
+use Rattle.std.proofs.Common.{◌≡◌, ◌+◌, ◌<◌, ◌++◌, ℕ, List, length, get_or, take, refl, sym, ap, ◌∙◌, add-one, arith}
 use Rattle.std.proofs.lemmas.List.{get_or_default}
 use lib.Ieee.{Float}
 use Rattle.records.specs.declared.Reference.{Reference}
@@ -21,8 +21,7 @@ loop-i-init c = (omega arith, refl, refl)
 pub loop-i-preserved : goal.loop-i-preserved
 loop-i-preserved c =
     let g = c.loop-i.invariant in
-    let h : c.loop-i.i < length c.args.refs.now = omega arith in
-    (
+    let h : c.loop-i.i < length c.args.refs.now = omega arith in (
       omega arith,
       omega arith,
       one_more _ _ _ _ _ h g.2 c.put.ensures,

@@ -1,6 +1,6 @@
 -- `records::measure` meets its contract: what was copied is measured, and that is the measurement of all. Assumes nothing.
-use Rattle.std.proofs.Common.{◌≡◌, ℕ, ◌*◌, ◌≤◌, take, length, subst, ap, ◌∙◌, arith}
-use Rattle.records.specs.Records.{flattened, copied}
+use Rattle.std.proofs.Common.{◌≡◌, ℕ, ◌*◌, take, length, subst, ◌∙◌, arith}
+use Rattle.records.specs.Records.{flattened}
 use Rattle.records.proofs.Limit.{copied-most, copied-few, measure_laid}
 use Rattle.records.proofs.measure.Goals as goal
 

@@ -1,6 +1,5 @@
 -- `references::bad_colour` meets its contract: what is left from k on says the same.
 -- Assumes nothing.
-use Prim.Native.Nat.{◌-◌}
 use Rattle.loops.proofs.Laws.{loops}
 use Rattle.references.specs.References.{bad_colour_at}
 use borrow.Author.Rules.{rules}

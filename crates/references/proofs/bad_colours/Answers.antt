@@ -1,6 +1,5 @@
 -- `references::bad_colours` meets its contract: what is left from i on says the same.
 -- Assumes nothing.
-use Prim.Native.Nat.{◌-◌}
 use Rattle.loops.proofs.Laws.{loops}
 use borrow.Author.Rules.{rules}
 use Rattle.references.proofs.bad_colours.Goals as goal

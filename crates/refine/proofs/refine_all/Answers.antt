@@ -1,5 +1,4 @@
 -- `refine::refine_all` meets its contract: what is left of the modules takes the scores to the answer. Assumes nothing.
-use Prim.Native.Nat.{◌-◌}
 use borrow.Author.Rules.{rules}
 use Rattle.loops.proofs.Laws.{loops}
 use Rattle.layout.proofs.Laws.{position_at}

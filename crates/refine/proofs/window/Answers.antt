@@ -1,5 +1,4 @@
 -- `refine::window` meets its contract: what is left of the seven rows takes the samples to the window; after r rows there are at most 7 r. Assumes nothing.
-use Prim.Native.Nat.{◌-◌}
 use borrow.Author.Rules.{rules}
 use lib.Ieee.{of_bits}
 use Rattle.loops.proofs.Laws.{begin}

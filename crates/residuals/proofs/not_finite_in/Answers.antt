@@ -1,6 +1,5 @@
 -- `residuals::not_finite_in` meets its contract: what is left from k on says the same.
 -- Assumes nothing.
-use Prim.Native.Nat.{◌-◌}
 use Rattle.loops.proofs.Laws.{loops}
 use borrow.Author.Rules.{rules}
 use Rattle.residuals.proofs.not_finite_in.Goals as goal

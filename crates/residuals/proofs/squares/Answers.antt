@@ -1,6 +1,5 @@
 -- `residuals::squares` meets its contract: what is left from i on adds the rest.
 -- Assumes nothing.
-use Prim.Native.Nat.{◌-◌}
 use lib.Ieee.{of_bits}
 use Rattle.loops.proofs.Laws.{loops}
 use borrow.Author.Rules.{rules}

@@ -2,7 +2,7 @@
 use mathlib.Core.Path.{◌≡◌}
 use borrow.Author.Rules.{rules}
 use native.Mathlib.Omega.{arith}
-use Prim.Native.Nat.{ℕ, ◌+◌, ◌-◌, ◌*◌, ◌≤◌, ◌<◌}
+use Prim.Native.Nat.{ℕ, ◌+◌, ◌*◌, ◌≤◌, ◌<◌}
 use Rattle.loops.proofs.Laws.{loops}
 use Rattle.limits.specs.Chroma.{symbol_bits}
 use Rattle.scores.proofs.Chroma.{entry_of}

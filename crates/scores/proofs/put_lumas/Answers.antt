@@ -1,6 +1,5 @@
 -- `put_lumas` meets its contract: what is left from j on gives the same. Assumes nothing.
 use borrow.Author.Rules.{rules}
-use Prim.Native.Nat.{◌-◌}
 use Rattle.loops.proofs.Laws.{loops}
 use Rattle.scores.proofs.put_lumas.Goals as goal
 

@@ -1,6 +1,5 @@
 -- `weighted_lumas` meets its contract: what is left from the block's first module on gives the same, and a block makes the turns of its modules. Assumes nothing.
 use borrow.Author.Rules.{rules}
-use Prim.Native.Nat.{◌-◌}
 use Rattle.loops.proofs.Laws.{loops}
 use Rattle.scores.proofs.Blocks.{block_to}
 use Rattle.scores.proofs.weighted_lumas.Goals as goal

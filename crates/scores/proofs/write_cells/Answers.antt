@@ -1,6 +1,5 @@
 -- `write_cells` meets its contract: what is left from the block's first cell on gives the same, of the scores and of the count, and a block makes the turns of its cells. Assumes nothing.
 use borrow.Author.Rules.{rules}
-use Prim.Native.Nat.{◌-◌}
 use Rattle.loops.proofs.Laws.{loops}
 use Rattle.scores.proofs.Blocks.{block_to}
 use Rattle.scores.proofs.Chroma.{part-long}

@@ -1,6 +1,5 @@
 -- `put_likelihoods` meets its contract: what is left from h on gives the same. Assumes nothing.
 use borrow.Author.Rules.{rules}
-use Prim.Native.Nat.{◌-◌}
 use Rattle.loops.proofs.Laws.{loops}
 use Rattle.stats.proofs.put_likelihoods.Goals as goal
 

@@ -1,6 +1,5 @@
 -- `totals::add_scores` meets its contract: after i turns the scores so far are added, which leaves room for one more. Assumes nothing.
 use mathlib.Core.Path.{refl}
-use Prim.Native.Nat.{◌-◌}
 use native.Mathlib.Omega.{arith}
 use borrow.Author.Rules.{rules}
 use Rattle.totals.proofs.Batches.{begun, none_yet, room, fits-there, turned, card-summed}

@@ -1,5 +1,4 @@
 -- `totals::bad_scores` meets its contract: what is left of the list says the same. Assumes nothing.
-use Prim.Native.Nat.{◌-◌}
 use borrow.Author.Rules.{rules}
 use Rattle.loops.proofs.Laws.{loops}
 use Rattle.totals.proofs.bad_scores.Goals as goal

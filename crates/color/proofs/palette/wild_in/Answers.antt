@@ -1,6 +1,5 @@
 -- `color::palette::wild_in` meets its contract: what is left of the list says the same.
 -- Assumes nothing.
-use Prim.Native.Nat.{◌-◌}
 use borrow.Author.Rules.{rules}
 use Rattle.loops.proofs.Laws.{loops}
 use Rattle.color.proofs.palette.wild_in.Goals as goal

@@ -1,6 +1,5 @@
 -- `equations::live::live_count` meets its contract: what is left from i on counts the rest; no more are live than were passed.
 -- Assumes nothing.
-use Prim.Native.Nat.{◌-◌}
 use Rattle.loops.proofs.Laws.{loops}
 use borrow.Author.Rules.{rules}
 use Rattle.equations.proofs.live.live_count.Goals as goal

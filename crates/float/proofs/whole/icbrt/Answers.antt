@@ -1,5 +1,5 @@
 -- `float::whole::icbrt` meets its contract. The interval from lo to hi always holds the root, and the measure is its length. Assumes nothing.
-use Rattle.std.proofs.Common.{◌≡◌, ℕ, ◌+◌, ◌-◌, ◌*◌, ◌<◌, subst, arith}
+use Rattle.std.proofs.Common.{◌≡◌, ℕ, ◌+◌, ◌*◌, ◌<◌, subst, arith}
 use Rattle.float.proofs.Cubes.{square-fits, cube-fits}
 use Rattle.float.proofs.whole.icbrt.Goals as goal
 

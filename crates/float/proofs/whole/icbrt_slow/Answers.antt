@@ -1,6 +1,6 @@
 -- `float::whole::icbrt_slow` meets its contract. The invariant is `Digits` of `proofs/Cubes.antt`: q is the whole part of the cube root of a * 8 ^
 -- i, and r is what is left. Assumes nothing.
-use Rattle.std.proofs.Common.{◌≡◌, ℕ, ◌-◌, ◌<◌, sym, subst₂, ⊎_elim, arith}
+use Rattle.std.proofs.Common.{◌≡◌, ℕ, sym, subst₂, arith}
 use Rattle.float.proofs.Cubes.{square-fits, cube-fits, pair_fits, pairs-fit, step_fits, rest-fits, Digits, short, begin, one, none, done}
 use Rattle.float.proofs.whole.icbrt_slow.Goals as goal
 use Rattle.float.proofs.whole.icbrt_slow.Goals.{then-step-r, else-step-r}
@@ -40,9 +40,9 @@ overflow_add-q c = omega (arith, short c.loop-i.q c.loop-i.i c.loop-i-test.true 
 
 pub loop-i-preserved : goal.loop-i-preserved
 loop-i-preserved c = elim c.if-step-r.branch [
-    then-step-r w ↦ moved _ _ w.q-is w.r-is (one _ _ _ _ c.loop-i.invariant c.loop-i-test.true w.if-step-r.true)
-    | else-step-r w ↦ moved _ _ w.q-is w.r-is (none _ _ _ _ c.loop-i.invariant c.loop-i-test.true w.if-step-r.false)
-  ]
+  | then-step-r w ↦ moved _ _ w.q-is w.r-is (one _ _ _ _ c.loop-i.invariant c.loop-i-test.true w.if-step-r.true)
+  | else-step-r w ↦ moved _ _ w.q-is w.r-is (none _ _ _ _ c.loop-i.invariant c.loop-i-test.true w.if-step-r.false)
+]
 
 pub returns : goal.returns
 returns c = done _ _ _ _ c.loop-i.invariant c.loop-i-test.false

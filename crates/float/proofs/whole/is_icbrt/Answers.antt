@@ -1,6 +1,6 @@
 -- `float::whole::is_icbrt` meets its contract: the cube is `high` times 2 ^ 24 and `low`, and that of g + 1 is 3 g (g + 1) + 1 more. Assumes
 -- nothing.
-use Rattle.std.proofs.Common.{◌≡◌, ℕ, ◌<◌, ◌≤◌, true, false, arith, rules, leb-true}
+use Rattle.std.proofs.Common.{◌≡◌, ℕ, ◌<◌, ◌≤◌, true, false, arith, leb-true}
 use Rattle.float.proofs.Cubes.{square-under, high_part, low_part, cube-rest}
 use Rattle.float.proofs.whole.is_icbrt.Goals as goal
 

@@ -1,7 +1,6 @@
 -- `nearest` meets its contract: what is left from i on gives the same. Assumes nothing.
 use mathlib.Core.Path.{refl, ap}
 use borrow.Author.Rules.{rules}
-use Prim.Native.Nat.{◌-◌}
 use Rattle.loops.proofs.Laws.{loops}
 use Rattle.stats.proofs.Literals.{infinite}
 use Rattle.stats.proofs.ChannelStats.nearest.Goals as goal

@@ -1,6 +1,5 @@
 -- `ChannelStats::palette_sigmas` meets its contract: what is left from i on gives the same. Assumes nothing.
 use borrow.Author.Rules.{rules}
-use Prim.Native.Nat.{◌-◌}
 use Rattle.loops.proofs.Laws.{loops}
 use Rattle.stats.proofs.ChannelStats.palette_sigmas.Goals as goal
 
