@@ -1,5 +1,4 @@
 -- `records_vectors::references` is safe and ends: it goes through the 64 places of the array. Assumes nothing.
-use Prim.Native.Nat.{◌-◌}
 use Rattle.records_vectors.proofs.references.Goals as goal
 
 pub loop-k-init : goal.loop-k-init

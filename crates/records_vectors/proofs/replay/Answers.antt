@@ -1,5 +1,4 @@
 -- `records_vectors::replay` is safe and ends: each line leaves less of the list. Assumes nothing.
-use Prim.Native.Nat.{◌-◌}
 use Rattle.vectors.proofs.Lines.{line-less}
 use Rattle.records_vectors.proofs.replay.Goals as goal
 
