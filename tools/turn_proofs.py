@@ -87,7 +87,7 @@ def imports(uses, text):
         for item in (x.strip() for x in m.group(2).split(",")):
             n = item.split(" as ")[-1].strip()
             parts = [p for p in n.split("◌") if p]
-            if "◌" in n and all(p in words or p in whole for p in parts) or n in words:
+            if "◌" in n and all(p in words or p in whole for p in parts) or n in words or "→" in n and n in whole:
                 kept.append(item)
         if kept:
             out.append("use %s.{%s}" % (m.group(1), ", ".join(kept)))

@@ -12,8 +12,9 @@ use Rattle.float.specs.Root.{cbrt_of}
 use Rattle.floatlaws.specs.Value.{Num}
 use Rattle.floatlaws.specs.Order.{Le, of_le, le_trans}
 use Rattle.floatlaws.specs.Finite.{Fin, num, neg-fin, div-num}
-use Rattle.floatlaws.specs.Mono.{div_mono}
-use Rattle.floatlaws.specs.Interval.{In, within, point, add_in, sub_in, mul_in_signed}
+use Rattle.floatlaws.proofs.Mono.{div_mono}
+use Rattle.floatlaws.specs.Interval.{In, within, point}
+use Rattle.floatlaws.proofs.Interval.{add_in, sub_in, mul_in_signed}
 use Rattle.sentences.proofs.Laws.{neither}
 use Rattle.color.specs.declared.Linear.{Linear}
 use Rattle.color.specs.declared.Xyz.{Xyz}

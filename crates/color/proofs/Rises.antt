@@ -15,7 +15,7 @@ use Rattle.floatlaws.specs.Order.{Le, Lt, of_le, to_le, of_lt, of_not_lt, not-bo
 use Rattle.floatlaws.specs.Order as order
 use Rattle.floatlaws.specs.Ops.{hi_positive, mul-swap}
 use Rattle.floatlaws.specs.Finite.{Fin, num, add_num', sub_num', mul-num-pos, div-num}
-use Rattle.floatlaws.specs.Mono.{add_mono, sub_mono, mul_mono, mul_mono', div_mono}
+use Rattle.floatlaws.proofs.Mono.{add_mono, sub_mono, mul_mono, mul_mono', div_mono}
 use Rattle.color.specs.declared.Xyz.{Xyz}
 use Rattle.color.specs.Color.{fraction, whole, white_y, delta3, line, lab_f, lightness, xyz_to_lab}
 

@@ -10,7 +10,8 @@ use lib.ListN.{length, get_or}
 use lib.Ieee.{Float, nan, binary32, neg, mul, round, fits}
 use Rattle.limits.specs.Chroma.{weighted}
 use Rattle.floatlaws.specs.Ops.{mul-swap}
-use Rattle.floatlaws.specs.Interval.{In, mul_in_signed}
+use Rattle.floatlaws.specs.Interval.{In}
+use Rattle.floatlaws.proofs.Interval.{mul_in_signed}
 use Rattle.float.proofs.Single.{single-fits}
 use Rattle.color.specs.declared.Linear.{Linear}
 use Rattle.color.specs.Color.{whole, fraction, linear_to_lab}

@@ -13,9 +13,10 @@ use Rattle.floatlaws.specs.Whole.{size_at, closest_is, closest-zero, closest_hi,
 use Rattle.floatlaws.specs.Nan.{a_nan, zero_by_zero}
 use Rattle.floatlaws.specs.Value.{big, mag, hi, lo, Num, shape, mag-shape, mag_is}
 use Rattle.floatlaws.specs.Order.{Le, widen-num, widen-sides}
-use Rattle.floatlaws.specs.Near.{Rounds, round-num, round-rounds, inf-rounds}
+use Rattle.floatlaws.specs.Near.{Rounds, round-num}
+use Rattle.floatlaws.proofs.Near.{round-rounds, inf-rounds}
 use Rattle.floatlaws.specs.Finite.{Fin}
-use Rattle.floatlaws.specs.Mono.{same_den}
+use Rattle.floatlaws.proofs.Mono.{same_den}
 use Rattle.floatlaws.specs.Nearest.{Apart, nearest}
 use Rattle.floatlaws.specs.Bits.{read-high, by_fields, real-pattern, sign_bit, own_value, same_value, inf_bits, units_bits, units-inf, round_at}
 use Rattle.float.specs.Single.{to_single, Narrows}

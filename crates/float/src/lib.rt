@@ -81,9 +81,9 @@ pub fn widen(x: f32) -> f64
 
 // Core: n / 2^k to the nearest whole number, a tie to the even one.
 pub fn round_shift(n: u64, k: u64) -> u64
-    requires fact_1 { n < 2 ^ 63 }
-    requires fact_2 { 1 ≤ k }
-    requires fact_3 { k < 63 }
+    requires in_range { n < 2 ^ 63 }
+    requires some { 1 ≤ k }
+    requires in_width { k < 63 }
     ensures { result ≡ closest n (2 ^ k) }
 {
     let half = 1u64 << (k - 1);

@@ -1,6 +1,6 @@
 -- Laws of IEEE 754 arithmetic, over the definitions of `lib.Ieee`, for binary32 and binary64 at once. No code. One idea carries them: in units of a
 -- format's smallest value every finite float is a whole number, and each operation's result is its exact result rounded once (`Rounds`).
--- Where to look:
+-- Where to look, the laws that rest on `near_mono` being in proofs/, in the module of the same name:
 --   Value     what a float is worth, `hi` - `lo` in units (`unit` of them are 1); `Num f x`, a value of f and no NaN; the tests `lt`, `eq`, `le`
 --   Order     `Le`, `Lt`, `Same`: the order, its laws, the way to a program's tests and back (`of_le`, `to_le`); negation; binary32 as binary64
 --   Near      `near`, rounding on numbers: monotone, exact at a value of the format. `Rounds`; a value of the format that is at most the exact

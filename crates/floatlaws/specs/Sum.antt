@@ -5,20 +5,16 @@ use Rattle.std.proofs.Common.{ap, ◌∙◌, subst, le_refl, le_of_suc-le-suc, n
 use Rattle.std.proofs.Math.Nat.{le_step}
 use Rattle.std.specs.Float.{fin, Format}
 use Rattle.std.specs.Float.Ieee.{add, fits}
-use Rattle.std.specs.Float.Ieee.Fits.{and_i, and_l, and_r}
+use Rattle.std.specs.Float.Ieee.Fits.{and_l, and_r}
 use Rattle.std.specs.Float.Ieee.Scale.{finite}
 use Rattle.floatlaws.specs.Value.{Num}
-use Rattle.floatlaws.specs.Order as Order
-use Rattle.floatlaws.specs.Order.{Le}
 use Rattle.floatlaws.specs.Finite.{Fin, num, add_num'}
-use Rattle.floatlaws.specs.Mono.{add_mono}
-use Rattle.floatlaws.specs.Interval.{In, point, add_in}
 
 unfoldable pub sum_to : Format → (ℕ → Float) → ℕ → Float
 sum_to f g zero = fin false 0 (pos 0)
 sum_to f g (suc n) = add f (sum_to f g n) (g n)
 
-start : (f : Format) → Fin f (fin false 0 (pos 0))
+pub start : (f : Format) → Fin f (fin false 0 (pos 0))
 start f = record { fit = unfold fits in tt; finite = tt }
 
 -- finite terms sum to no NaN
@@ -26,18 +22,6 @@ pub sum_num : (f : Format) (g : ℕ → Float) (n : ℕ) → ((i : ℕ) → i < 
 unfolding sum_to
 sum_num f g zero p = num (start f)
 sum_num f g (suc n) p = add_num' (sum_num f g n (λ i h. p i (le_step h))) (p n (le_refl (suc n)))
-
-pub sum_mono : (f : Format) (g h : ℕ → Float) (n : ℕ) → ((i : ℕ) → i < n → Fin f (g i)) → ((i : ℕ) → i < n → Fin f (h i))
-    → ((i : ℕ) → i < n → Le f (g i) (h i)) → Le f (sum_to f g n) (sum_to f h n)
-unfolding sum_to
-sum_mono f g h zero p q l = Order.le_refl f (fin false 0 (pos 0))
-sum_mono f g h (suc n) p q l =
-    let a = sum_num f g n (λ i k. p i (le_step k)) in
-    let b = sum_num f h n (λ i k. q i (le_step k)) in
-    let P = p n (le_refl (suc n)) in
-    let Q = q n (le_refl (suc n)) in
-    add_mono a b (num P) (num Q) (add_num' a P) (add_num' b Q)
-    (sum_mono f g h n (λ i k. p i (le_step k)) (λ i k. q i (le_step k)) (λ i k. l i (le_step k))) (l n (le_refl (suc n)))
 
 -- ---- the sums of up to n times a, each from the one before, are finite: n additions, where the test is computed
 unfoldable pub sums-finite : Format → Float → ℕ → Float → Bool
@@ -67,19 +51,5 @@ onto-finite f a (suc n) s t zero h = and_l (finite (add f s a)) (sums-finite f a
 onto-finite f a (suc n) s t (suc k) h =
     onto-finite f a n (add f s a) (and_r (finite (add f s a)) (sums-finite f a n (add f s a)) t) k (le_of_suc-le-suc h)
 
-each-finite : (f : Format) (a : Float) (n : ℕ) → T (sums-finite f a n (fin false 0 (pos 0))) → (k : ℕ) → k < n → T (finite (sum_to f (λ i. a) (suc k)))
+pub each-finite : (f : Format) (a : Float) (n : ℕ) → T (sums-finite f a n (fin false 0 (pos 0))) → (k : ℕ) → k < n → T (finite (sum_to f (λ i. a) (suc k)))
 each-finite f a n t k h = subst (λ (z : Float). T (finite z)) (onto_is f a (suc k)) (onto-finite f a n (fin false 0 (pos 0)) t k h)
-
-terms_in : (f : Format) (a b : Float) (g : ℕ → Float) (n : ℕ) → ((i : ℕ) → i < n → In f a b (g i))
-    → ((k : ℕ) → k < n → T (finite (sum_to f (λ i. a) (suc k)))) → ((k : ℕ) → k < n → T (finite (sum_to f (λ i. b) (suc k))))
-    → In f (sum_to f (λ i. a) n) (sum_to f (λ i. b) n) (sum_to f g n)
-unfolding sum_to
-terms_in f a b g zero p s t = point (start f)
-terms_in f a b g (suc n) p s t =
-    add_in (terms_in f a b g n (λ i k. p i (le_step k)) (λ i k. s i (le_step k)) (λ i k. t i (le_step k))) (p n (le_refl (suc n)))
-    (and_i (finite (sum_to f (λ i. a) (suc n))) (finite (sum_to f (λ i. b) (suc n))) (s n (le_refl (suc n))) (t n (le_refl (suc n))))
-
-pub sum_in : (f : Format) (a b : Float) (g : ℕ → Float) (n : ℕ) → ((i : ℕ) → i < n → In f a b (g i)) → T (sums-finite f a n (fin false 0 (pos 0)))
-    → T (sums-finite f b n (fin false 0 (pos 0)))
-    → In f (sum_to f (λ i. a) n) (sum_to f (λ i. b) n) (sum_to f g n)
-sum_in f a b g n p s t = terms_in f a b g n p (each-finite f a n s) (each-finite f b n t)

@@ -13,11 +13,12 @@ use lib.Ieee.{Float, nan, inf, fin, binary32, neg, mul, round, fits}
 use lib.Ieee.Scale.{finite}
 use Rattle.floatlaws.specs.Value.{unit, unit-pos, hi, lo, mag, negative, Num}
 use Rattle.floatlaws.specs.Order.{sides, neg-num, hi_neg, lo_neg}
-use Rattle.floatlaws.specs.Near.{above, under}
-use Rattle.floatlaws.specs.Ops.{sub-rounds, div-rounds}
+use Rattle.floatlaws.proofs.Near.{above, under}
+use Rattle.floatlaws.proofs.Ops.{sub-rounds, div-rounds}
 use Rattle.floatlaws.specs.Finite.{Fin, num, neg-fin, sub-num, div-num}
-use Rattle.floatlaws.specs.Exact.{div-halve}
-use Rattle.floatlaws.specs.Interval.{In, within, none, in_pos, mul_in}
+use Rattle.floatlaws.proofs.Exact.{div-halve}
+use Rattle.floatlaws.specs.Interval.{In, within, none, in_pos}
+use Rattle.floatlaws.proofs.Interval.{mul_in}
 use Rattle.float.specs.Select.{abs}
 use Rattle.float.proofs.Select.{abs-num, abs-sides, abs_le}
 use Rattle.color.specs.Color.{whole, fraction}

@@ -10,14 +10,17 @@ use lib.Dec.{T, ltb}
 use lib.Ieee.{Float, binary32, emax, neg, add, sub, mul, div, lt, le, round}
 use Rattle.floatlaws.specs.Value.{unit, unit-pos, limit, limit-above, mag, hi, lo, one_side, both-sides, Num}
 use Rattle.floatlaws.specs.Order.{Le, Lt, of_le, of_lt, sides, le_lt_trans, neg-num, hi_neg, lo_neg}
-use Rattle.floatlaws.specs.Near.{Rounds, rounds_mono, rounds-self, above}
-use Rattle.floatlaws.specs.Error.{Normal, gap-plus, over, at_most, div-apart}
-use Rattle.floatlaws.specs.Ops.{add_rounds, sub-rounds, mul-plus, div-neg}
-use Rattle.floatlaws.specs.Mono.{add_mono, mul-both, div_mono}
-use Rattle.floatlaws.specs.Exact.{scale'}
+use Rattle.floatlaws.specs.Near.{Rounds}
+use Rattle.floatlaws.proofs.Near.{rounds_mono, rounds-self, above}
+use Rattle.floatlaws.specs.Error.{Normal, at_most}
+use Rattle.floatlaws.proofs.Error.{gap-plus, over, div-apart}
+use Rattle.floatlaws.proofs.Ops.{add_rounds, sub-rounds, mul-plus, div-neg}
+use Rattle.floatlaws.proofs.Mono.{add_mono, mul-both, div_mono}
+use Rattle.floatlaws.proofs.Exact.{scale'}
 use Rattle.floatlaws.specs.Finite.{Fin, num, neg-fin, fin-under, fin_of, sub-num, mul-num, div-num}
 use Rattle.floatlaws.specs.Const.{Const, const, is_const}
-use Rattle.floatlaws.specs.Interval.{In, point, none, in_pos, in_normal, add_in, sub_in, mul_in, div_in}
+use Rattle.floatlaws.specs.Interval.{In, point, none, in_pos, in_normal}
+use Rattle.floatlaws.proofs.Interval.{add_in, sub_in, mul_in, div_in}
 use Rattle.float.specs.Select.{abs}
 use Rattle.float.proofs.Select.{abs_one, abs-num, abs-sides, of_abs_le}
 use Rattle.color.specs.Color.{whole, fraction}

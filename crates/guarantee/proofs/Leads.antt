@@ -12,7 +12,7 @@ use lib.Ieee.{Float, nan, fin, binary32, neg, mul, lt, le, of_bits, fits}
 use Rattle.floatlaws.specs.Value.{unit-pos, mag, hi, lo, Num}
 use Rattle.floatlaws.specs.Order.{Le, Lt, sides, le_trans, above-none, hi_neg, lo_neg}
 use Rattle.floatlaws.specs.Ops.{hi_positive, mul-swap}
-use Rattle.floatlaws.specs.Mono.{mul-both, mul_mono, mul_anti'}
+use Rattle.floatlaws.proofs.Mono.{mul-both, mul_mono, mul_anti'}
 use Rattle.floatlaws.specs.Finite.{Fin, num, neg-fin, mul-num, mul-num-pos}
 use Rattle.floatlaws.specs.Interval.{none, in_pos}
 use Rattle.float.specs.Select.{abs, clamp}

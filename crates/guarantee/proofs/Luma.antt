@@ -7,10 +7,11 @@ use lib.Ieee.{Float, binary32, neg, add, sub, mul, le, round}
 use Rattle.floatlaws.specs.Value.{hi, lo, Num}
 use Rattle.floatlaws.specs.Order.{Le, of_le, le_refl, above-none}
 use Rattle.floatlaws.specs.Finite.{Fin, num, neg-fin, div-num}
-use Rattle.floatlaws.specs.Mono.{sub_mono, mul_mono', div_mono}
+use Rattle.floatlaws.proofs.Mono.{sub_mono, mul_mono', div_mono}
 use Rattle.floatlaws.specs.Const.{Const, const, is_const}
-use Rattle.floatlaws.specs.Interval.{In, within, point, none, in_pos, add_in, sub_in, mul_in, mul_in_signed}
-use Rattle.floatlaws.specs.Exact.{sub-above}
+use Rattle.floatlaws.specs.Interval.{In, within, point, none, in_pos}
+use Rattle.floatlaws.proofs.Interval.{add_in, sub_in, mul_in, mul_in_signed}
+use Rattle.floatlaws.proofs.Exact.{sub-above}
 use Rattle.float.proofs.Select.{clamp_mono}
 use Rattle.color.specs.Color.{whole, fraction}
 use Rattle.stats.specs.declared.ChannelStats.{ChannelStats}

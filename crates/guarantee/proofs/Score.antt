@@ -9,12 +9,13 @@ use lib.Dec.{T}
 use lib.Ieee.{Float, binary32, neg, add, sub, mul, div, le, round, of_bits, fits}
 use Rattle.floatlaws.specs.Value.{unit-pos, lo, both-sides, Num}
 use Rattle.floatlaws.specs.Order.{Le, Lt, of_le, to_le, sides, le_trans, neg-num, neg_anti, hi_neg, lo_neg}
-use Rattle.floatlaws.specs.Near.{above, under}
-use Rattle.floatlaws.specs.Ops.{add_rounds, sub-rounds}
-use Rattle.floatlaws.specs.Mono.{mul_mono, mul_mono', mul_anti'}
+use Rattle.floatlaws.proofs.Near.{above, under}
+use Rattle.floatlaws.proofs.Ops.{add_rounds, sub-rounds}
+use Rattle.floatlaws.proofs.Mono.{mul_mono, mul_mono', mul_anti'}
 use Rattle.floatlaws.specs.Finite.{Fin, num, neg-fin, mul-num}
 use Rattle.floatlaws.specs.Const.{Const, const, is_const}
-use Rattle.floatlaws.specs.Interval.{In, within, point, none, add_in, sub_in, div_in}
+use Rattle.floatlaws.specs.Interval.{In, within, point, none}
+use Rattle.floatlaws.proofs.Interval.{add_in, sub_in, div_in}
 use Rattle.float.specs.Select.{abs}
 use Rattle.float.proofs.Select.{abs-sides, abs-num}
 use Rattle.color.specs.Color.{whole, fraction}

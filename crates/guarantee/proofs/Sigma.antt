@@ -9,12 +9,15 @@ use native.Mathlib.Omega.{arith}
 use lib.Ieee.{Float, binary32, neg, add, sub, mul, le, round}
 use Rattle.floatlaws.specs.Value.{unit, limit, hi, lo, Num, one_side}
 use Rattle.floatlaws.specs.Order.{Le, of_le, sides, le_trans as trans}
-use Rattle.floatlaws.specs.Near.{near, Rounds, above}
+use Rattle.floatlaws.specs.Near.{near, Rounds}
+use Rattle.floatlaws.proofs.Near.{above}
 use Rattle.floatlaws.specs.Error.{near-kept}
-use Rattle.floatlaws.specs.Ops.{add_rounds, sub-rounds, mul-rounds, mul-swap}
+use Rattle.floatlaws.specs.Ops.{mul-swap}
+use Rattle.floatlaws.proofs.Ops.{add_rounds, sub-rounds, mul-rounds}
 use Rattle.floatlaws.specs.Finite.{Fin, num, fin-under, div-num}
 use Rattle.floatlaws.specs.Const.{Const, const, is_const}
-use Rattle.floatlaws.specs.Interval.{In, within, none, in_pos, add_in, sub_in, mul_in_signed}
+use Rattle.floatlaws.specs.Interval.{In, within, none, in_pos}
+use Rattle.floatlaws.proofs.Interval.{add_in, sub_in, mul_in_signed}
 use Rattle.float.specs.Select.{max}
 use Rattle.float.proofs.Select.{max-num, max-right, max_le, clamp-num, clamp_range}
 use Rattle.color.specs.Color.{whole, fraction}

@@ -12,11 +12,12 @@ use lib.Ieee.Scale.{finite}
 use Rattle.loops.proofs.Laws.{for_up_to}
 use Rattle.floatlaws.specs.Value.{negative}
 use Rattle.floatlaws.specs.Order.{sides, le_trans, hi_neg, lo_neg}
-use Rattle.floatlaws.specs.Ops.{div-neg}
-use Rattle.floatlaws.specs.Mono.{div_mono}
+use Rattle.floatlaws.proofs.Ops.{div-neg}
+use Rattle.floatlaws.proofs.Mono.{div_mono}
 use Rattle.floatlaws.specs.Finite.{num, neg-fin, div-num}
 use Rattle.floatlaws.specs.Const.{Const, const, is_const}
-use Rattle.floatlaws.specs.Interval.{In, within, point, add_in, sub_in, mul_in, div_in}
+use Rattle.floatlaws.specs.Interval.{In, within, point}
+use Rattle.floatlaws.proofs.Interval.{add_in, sub_in, mul_in, div_in}
 use Rattle.float.specs.Root.{sqrt_of}
 use Rattle.float.proofs.Select.{Least, least_start, least_step}
 use Rattle.float.proofs.Roots.{sqrt_in}

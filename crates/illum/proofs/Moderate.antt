@@ -6,9 +6,11 @@ use lib.Ieee.Scale.{finite}
 use Rattle.floatlaws.specs.Value.{negative, Num}
 use Rattle.floatlaws.specs.Order.{Le, of_le, to_le, of_not_lt, le_refl, le_trans, neg-num, widen_le}
 use Rattle.floatlaws.specs.Finite.{Fin, num, neg-fin, between, mul-num, div-num, sub_num'}
-use Rattle.floatlaws.specs.Mono.{mul_mono', div_mono, sub_mono}
-use Rattle.floatlaws.specs.Interval.{plain, le_pos, within, add_in}
-use Rattle.floatlaws.specs.Magnitude.{Within, of_tests, to_tests, self, wider, add-within, sub_within, mul-within, div-within}
+use Rattle.floatlaws.proofs.Mono.{mul_mono', div_mono, sub_mono}
+use Rattle.floatlaws.specs.Interval.{plain, le_pos, within}
+use Rattle.floatlaws.proofs.Interval.{add_in}
+use Rattle.floatlaws.specs.Magnitude.{Within, of_tests, to_tests, self, wider}
+use Rattle.floatlaws.proofs.Magnitude.{add-within, sub_within, mul-within, div-within}
 use Rattle.loops.specs.Loops.{for_up, turns}
 use Rattle.loops.proofs.Laws.{any_up-false}
 use Rattle.float.specs.Single.{to_single}

@@ -7,8 +7,8 @@ use lib.Ieee.Exact.{HasValue, round_exact}
 use lib.Ieee.Scale.{overflow}
 use Rattle.floatlaws.specs.Value.{Num}
 use Rattle.floatlaws.specs.Order.{to_le, to_eq}
-use Rattle.floatlaws.specs.Ops.{int-rounds}
-use Rattle.floatlaws.specs.Mono.{int_mono}
+use Rattle.floatlaws.proofs.Ops.{int-rounds}
+use Rattle.floatlaws.proofs.Mono.{int_mono}
 use Rattle.illum.specs.Refusals.{bad_model_side}
 
 -- 1.0 and 1024.0 as the code has them

@@ -9,10 +9,11 @@ use lib.Ieee.Fits.{up_pos, down_pos, round-fits, fits_widens}
 use lib.Ieee.Scale.{finite, round_same}
 use Rattle.floatlaws.specs.Value.{hi, lo, mag, limit, shape}
 use Rattle.floatlaws.specs.Order.{Le, widen-num, widen_le, widen-sides}
-use Rattle.floatlaws.specs.Ops.{int-rounds}
-use Rattle.floatlaws.specs.Mono.{int_mono}
+use Rattle.floatlaws.proofs.Ops.{int-rounds}
+use Rattle.floatlaws.proofs.Mono.{int_mono}
 use Rattle.floatlaws.specs.Finite.{Fin, num, fin-under, mag-zero}
-use Rattle.floatlaws.specs.Magnitude.{Within, of_sizes, self, sub_within, mul-within, div-within}
+use Rattle.floatlaws.specs.Magnitude.{Within, of_sizes, self}
+use Rattle.floatlaws.proofs.Magnitude.{sub_within, mul-within, div-within}
 use Rattle.floatlaws.specs.Bits.{same_value, same_float}
 use Rattle.floatlaws.specs.NegativeZero.{add-negative-zero}
 use Rattle.float.specs.Select.{abs}

@@ -14,7 +14,8 @@ use lib.Ieee.Scale.{finite}
 use Rattle.floatlaws.specs.Value.{hi, negative}
 use Rattle.floatlaws.specs.Order.{Le, of_le, le_trans}
 use Rattle.floatlaws.specs.Finite.{Fin, num, neg-fin, mag-zero}
-use Rattle.floatlaws.specs.Interval.{In, within, point, add_in, sub_in, mul_in, mul_in_signed}
+use Rattle.floatlaws.specs.Interval.{In, within, point}
+use Rattle.floatlaws.proofs.Interval.{add_in, sub_in, mul_in, mul_in_signed}
 use Rattle.float.specs.Select.{abs}
 use Rattle.float.specs.Root.{sqrt_of}
 use Rattle.float.proofs.Select.{abs-sides, abs-num, abs_le}

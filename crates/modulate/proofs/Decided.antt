@@ -14,8 +14,8 @@ use Rattle.float.specs.Select.{max}
 use Rattle.floatlaws.specs.Value.{hi, lo, mag, limit, big, Num, overflow_le_big}
 use Rattle.floatlaws.specs.Order.{Le, Lt, to_lt, of_lt, le_lt_trans, not-both, le_of_lt, le_trans, le_refl}
 use Rattle.floatlaws.specs.Finite.{Fin, num, fin-under, sub-num, sub_num'}
-use Rattle.floatlaws.specs.Mono.{sub_mono}
-use Rattle.floatlaws.specs.Exact.{sub-above, sub-below}
+use Rattle.floatlaws.proofs.Mono.{sub_mono}
+use Rattle.floatlaws.proofs.Exact.{sub-above, sub-below}
 use Rattle.loops.proofs.Laws.{for_up_to}
 use Rattle.limits.specs.Limits.{bad_hues}
 use Rattle.limits.specs.Chroma.{log2}

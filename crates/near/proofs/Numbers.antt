@@ -16,11 +16,12 @@ use lib.Ieee.Scale.{finite}
 use Rattle.floatlaws.specs.Value.{hi, lo, Num, lt_is, eq_is}
 use Rattle.floatlaws.specs.Near.{round-num}
 use Rattle.floatlaws.specs.Order.{Le, of_le, to_le, le_trans, sides, neg-num, widen-num}
-use Rattle.floatlaws.specs.Ops.{int-rounds}
+use Rattle.floatlaws.proofs.Ops.{int-rounds}
 use Rattle.floatlaws.specs.Finite.{Fin, num}
-use Rattle.floatlaws.specs.Mono.{int_mono}
-use Rattle.floatlaws.specs.Exact.{int-exact}
-use Rattle.floatlaws.specs.Magnitude.{Within, of_sizes, of_tests, self, add-within, sub_within, mul-within}
+use Rattle.floatlaws.proofs.Mono.{int_mono}
+use Rattle.floatlaws.proofs.Exact.{int-exact}
+use Rattle.floatlaws.specs.Magnitude.{Within, of_sizes, of_tests, self}
+use Rattle.floatlaws.proofs.Magnitude.{add-within, sub_within, mul-within}
 use Rattle.loops.proofs.Laws.{any_up-false}
 use Rattle.sentences.proofs.Laws.{neither}
 use Rattle.places.specs.Places.{outside}

@@ -15,8 +15,8 @@ use lib.Ieee.Scale.{overflow}
 use Rattle.floatlaws.specs.Value.{unit, unit-pos, mag, hi, lo, shape, mag-shape, one_side, each-side}
 use Rattle.floatlaws.specs.Near.{near, near-exact, near-zero}
 use Rattle.floatlaws.specs.Order.{of_le, widen-sides}
-use Rattle.floatlaws.specs.Ops.{mul-rounds, int-rounds}
-use Rattle.floatlaws.specs.Exact.{int-exact}
+use Rattle.floatlaws.proofs.Ops.{mul-rounds, int-rounds}
+use Rattle.floatlaws.proofs.Exact.{int-exact}
 use Rattle.floatlaws.specs.Finite.{Fin, num, mul-num}
 use Rattle.near.specs.declared.Query.{Query}
 use Rattle.near.specs.declared.Query.TheVariants as query

@@ -1,7 +1,7 @@
 // Replays stored answers of `fit` and `measure` through the crate `records`: up to 64 references as records of an array, the
 // first of which are lent as a slice. Each call's number, model or noise record, and the scratch that it leaves behind, every bit.
 //
-// `fit_first` and `measure_first` take the array by value, so that their callers are covered; the two are proved by a walk.
+// `fit_first` and `measure_first` take the array by value, and lend the first of its records.
 #![tactic(auto)]
 
 ghost use Rattle.std.specs.Prelude.{◌≡◌, ◌≤◌, take};

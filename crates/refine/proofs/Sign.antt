@@ -18,8 +18,9 @@ use Rattle.floatlaws.specs.Order.{Le, Lt, of_lt, to_lt, of_not_lt, hi_neg, lo_ne
 use Rattle.floatlaws.specs.Ops.{mul-swap}
 use Rattle.floatlaws.specs.Finite.{num, neg-fin, add_num'}
 use Rattle.floatlaws.specs.Const.{Const, const, is_const}
-use Rattle.floatlaws.specs.Interval.{In, within, mul_in_signed}
-use Rattle.floatlaws.specs.Exact.{add-above, add-below}
+use Rattle.floatlaws.specs.Interval.{In, within}
+use Rattle.floatlaws.proofs.Interval.{mul_in_signed}
+use Rattle.floatlaws.proofs.Exact.{add-above, add-below}
 use Rattle.float.specs.Select.{clamp}
 use Rattle.float.proofs.Select.{clamp-nan, clamp-num, clamp_gt, clamp_lt}
 use Rattle.limits.specs.Chroma.{weighted}

@@ -11,7 +11,7 @@ use lib.Ieee.Fits.{down_pos}
 use Rattle.floatlaws.specs.Value.{mag, hi, lo, unit, Num, overflow-pos}
 use Rattle.floatlaws.specs.Near.{near, near-zero, round-num, lo_round, Rounds}
 use Rattle.floatlaws.specs.Finite.{Fin, num, add-num, div-num}
-use Rattle.floatlaws.specs.Ops.{add_rounds, div-rounds}
+use Rattle.floatlaws.proofs.Ops.{add_rounds, div-rounds}
 use Rattle.float.specs.Root.{sqrt_of}
 use Rattle.float.proofs.Roots.{sqrt-num}
 use Rattle.stats.specs.Arithmetic.{◌⊕◌, ◌⊘◌, squared}

@@ -12,7 +12,8 @@ use Rattle.floatlaws.specs.Value.{hi, Num}
 use Rattle.floatlaws.specs.Order.{Le, of_le, of_not_lt}
 use Rattle.floatlaws.specs.Finite.{Fin, num, neg-fin, mul-num, div-num}
 use Rattle.floatlaws.specs.Const.{Const, const, is_const}
-use Rattle.floatlaws.specs.Interval.{In, within, point, in_pos, add_in, sub_in, mul_in, mul_in_signed}
+use Rattle.floatlaws.specs.Interval.{In, within, point, in_pos}
+use Rattle.floatlaws.proofs.Interval.{add_in, sub_in, mul_in, mul_in_signed}
 use Rattle.float.specs.Select.{clamp}
 use Rattle.float.proofs.Select.{clamp-num, clamp_range}
 use Rattle.color.specs.Color.{whole, fraction}

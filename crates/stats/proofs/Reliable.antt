@@ -13,9 +13,9 @@ use lib.Ieee.Fits.{add-fits, div-fits}
 use Rattle.loops.proofs.Laws.{for_up_to}
 use Rattle.floatlaws.specs.Value.{unit, unit-pos, hi, lo, Num}
 use Rattle.floatlaws.specs.Order.{Le, sides}
-use Rattle.floatlaws.specs.Near.{above, under}
+use Rattle.floatlaws.proofs.Near.{above, under}
 use Rattle.floatlaws.specs.Finite.{add-num, div_num'}
-use Rattle.floatlaws.specs.Ops.{add_rounds, div-rounds}
+use Rattle.floatlaws.proofs.Ops.{add_rounds, div-rounds}
 use Rattle.floatlaws.specs.Const.{Const, const, is_const}
 use Rattle.floatlaws.specs.Interval.{In, within}
 use Rattle.float.proofs.Select.{Least, least_start, least_step}

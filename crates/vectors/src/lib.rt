@@ -730,7 +730,7 @@ pub fn glyph(word: u64) -> u8
 // The sixteen digits of a word.
 pub fn hex(word: u64) -> [u8; 16]
     ensures value { result ≡ comparing.hex_of word }
-    ensures value_2 { 16 ≡ length result }
+    ensures len { 16 ≡ length result }
 {
     let mut out = [0u8; 16];
     for k in 0..16usize {

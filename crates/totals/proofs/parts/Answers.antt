@@ -29,7 +29,7 @@ pub overflow_sub-field : goal.overflow_sub-field
 overflow_sub-field c = let h = fields c.args.v c.well_formed.0.1 c.requires c.if-field-lt110.false in omega arith
 
 pub round_shift-requires : goal.round_shift-requires
-round_shift-requires c = let h = fields c.args.v c.well_formed.0.1 c.requires c.if-field-lt110.false in record { fact_1 = omega arith; fact_2 = omega arith; fact_3 = omega arith }
+round_shift-requires c = let h = fields c.args.v c.well_formed.0.1 c.requires c.if-field-lt110.false in record { in_range = omega arith; some = omega arith; in_width = omega arith }
 
 pub returns : goal.returns
 returns c =
