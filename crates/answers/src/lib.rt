@@ -1,30 +1,20 @@
-// What public calls answer that give a number, or that write what they are lent; and, in specs/, document 01's number and
-// the values of each case.
+// What public calls answer: a value, or the refusal by which a call is turned away; and, in specs/, document 01's number and
+// the value of each answer.
 #![tactic(auto)]
 
 ghost use Rattle.std.specs.Prelude.{◌≡◌};
 ghost use Rattle.answers.specs.Answers.{outcome_number};
 
-// The answer of a call that gives a number.
-#[derive(Clone, Copy)]
-pub enum Number {
-    Refused(u32),
-    Is(usize),
-}
+pub mod refusal;
 
-// The answer of a call that writes what it is lent.
-#[derive(Clone, Copy)]
-pub enum Outcome {
-    Refused(u32),
-    Done,
-}
+pub use refusal::Refusal;
 
-// Document 01's number of an answer: 0 where the call is accepted.
-pub fn outcome_number(o: Outcome) -> u32
-    ensures { result ≡ outcome_number o }
+// Document 01's number of what a call answers that gives nothing back: 0 where it is accepted.
+pub fn outcome_number(outcome: Result<(), Refusal>) -> u32
+    ensures { result ≡ outcome_number outcome }
 {
-    match o {
-        Outcome::Refused(n) => n,
-        Outcome::Done => 0,
+    match outcome {
+        Ok(()) => 0,
+        Err(refusal) => u32::from(refusal),
     }
 }
