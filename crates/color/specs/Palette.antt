@@ -3,12 +3,10 @@ use Rattle.std.specs.Prelude.{ℕ, ◌+◌, ◌*◌, ◌%◌, Bool, false, not, 
 use Rattle.std.specs.Float.{nan}
 use Rattle.std.specs.Float.Ieee.{neg, le}
 use Rattle.loops.specs.Loops.{any_up}
-use Rattle.answers.specs.Answers.{Said, refused_by, gives, answered, hues_only}
+use Rattle.answers.specs.Answers.{Said, answered, hues_only}
 use Rattle.color.specs.declared.Linear.{Linear}
 use Rattle.color.specs.declared.Lab.{Lab}
 use Rattle.color.specs.declared.palette.Ab.{Ab}
-use Rattle.color.specs.declared.palette.Flag.{Flag}
-use Rattle.color.specs.declared.palette.Flag.TheVariants as flag
 use Rattle.color.specs.Color.{linear, lab, whole}
 
 -- ---- where the numbers stand
@@ -36,11 +34,6 @@ unfoldable pub linear_at : List Float → ℕ → Linear
 linear_at colours i = linear (get_or colours (3 * i) nan) (get_or colours (3 * i + 1) nan) (get_or colours (3 * i + 2) nan)
 
 -- ---- answers
-
--- what each case of `Flag` says: document 01's number, or 0 and yes or no
-abbrev pub flag_said : Flag → Said Bool
-flag_said (flag.Refused n) = refused_by n
-flag_said (flag.Is b) = gives b
 
 -- dark by hue, then light by hue: level l * k + h mod k
 unfoldable pub index_of : Bool → ℕ → ℕ → ℕ

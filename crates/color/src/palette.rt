@@ -6,7 +6,7 @@ ghost use Rattle.answers.specs.Answers.{said};
 ghost use Rattle.color.specs.Palette as spec;
 
 use super::{Lab, Linear};
-use answers::Number;
+use answers::Refusal;
 
 // A hue's point in the plane of a and b.
 #[repr(C)]
@@ -16,41 +16,34 @@ pub struct Ab {
     pub b: f32,
 }
 
-// What a call that answers yes or no gives.
-#[derive(Clone, Copy)]
-pub enum Flag {
-    Refused(u32),
-    Is(bool),
-}
-
 // How many colours a palette has: two levels of each hue. Refused: 3.
-pub fn len(hues: usize) -> Number
+pub fn len(hues: usize) -> Result<usize, Refusal>
     ensures { said result ≡ spec.len hues }
 {
     if limits::bad_hues(hues) {
-        return Number::Refused(3);
+        return Err(Refusal::Hues);
     }
-    Number::Is(2 * hues)
+    Ok(2 * hues)
 }
 
 // Whether a palette has no colour, which it never is. Refused: 3.
-pub fn is_empty(hues: usize) -> Flag
-    ensures { spec.flag_said result ≡ spec.is_empty hues }
+pub fn is_empty(hues: usize) -> Result<bool, Refusal>
+    ensures { said result ≡ spec.is_empty hues }
 {
     if limits::bad_hues(hues) {
-        return Flag::Refused(3);
+        return Err(Refusal::Hues);
     }
-    Flag::Is(false)
+    Ok(false)
 }
 
 // The place of a colour by its level and its hue, any hue being taken by its remainder. Refused: 3.
-pub fn index(l: bool, h: usize, hues: usize) -> Number
+pub fn index(l: bool, h: usize, hues: usize) -> Result<usize, Refusal>
     ensures { said result ≡ spec.index l h hues }
 {
     if limits::bad_hues(hues) {
-        return Number::Refused(3);
+        return Err(Refusal::Hues);
     }
-    Number::Is(index_of(l, h, hues))
+    Ok(index_of(l, h, hues))
 }
 
 // Core: the same, of a hue count that sentence 3 lets pass.
