@@ -1,19 +1,17 @@
 -- Sentence 10, and what the calls `identity` and `correct` answer. Definitions only.
-use Rattle.std.specs.Prelude.{ℕ, Bool, not, ◌&&◌, ◌||◌, List, [], ◌∷◌, pos, ◌==◌, slice_index_or, Float}
+use Rattle.std.specs.Prelude.{ℕ, Bool, not, ◌&&◌, ◌||◌, List, [], ◌∷◌, pos, ◌==◌, slice_index_or, Float, Result, Ok, Err}
 use Rattle.std.specs.Float.{nan, binary32}
 use Rattle.std.specs.Float.Ieee.{le, eq, of_int, to_unsigned}
 use Rattle.std.specs.Float.Ieee.Scale.{finite}
 use Rattle.loops.specs.Loops.{any_up}
 use Rattle.sentences.specs.Sentences.{Sentence, ◌when◌, refusal, decided}
 use Rattle.limits.specs.Limits.{bad_side}
-use Rattle.answers.specs.Answers.{Said, refused_by, gives, answered}
+use Rattle.answers.specs.declared.refusal.Refusal.{Refusal}
+use Rattle.answers.specs.Answers.{number_of, Said, answered}
 use Rattle.color.specs.declared.Linear.{Linear}
 use Rattle.color.specs.Palette.{wild_linear}
 use Rattle.illum.specs.declared.IlluminationModel.{IlluminationModel}
 use Rattle.illum.specs.declared.Marked.{Marked}
-use Rattle.illum.specs.declared.Modelled.{Modelled}
-use Rattle.illum.specs.declared.Correction.{Correction}
-use Rattle.illum.specs.declared.Correction.TheVariants.{Refused, Corrected}
 use Rattle.illum.specs.Surface.{terms_used}
 use Rattle.illum.specs.Correct.{corrected, unit_model, no_model}
 
@@ -71,15 +69,26 @@ bad_shape m = bad_terms m.terms || bad_model_side m.side
 unfoldable pub bad_model : IlluminationModel → Bool
 bad_model m = bad_shape m || not_finite_model m
 
--- ---- identity: 2
+-- ---- calls that answer a model
 
--- a model beside document 01's number
+-- what such a call says: document 01's number, 0 where it is accepted, and the model, all zeros where it is refused
+pub record Modelled : Type 0 where
+  pub number : ℕ
+  pub model : IlluminationModel
+
 abbrev pub modelled : ℕ → IlluminationModel → Modelled
 modelled n m = record { number = n; model = m }
 
 -- refused by sentence n: no model
 abbrev pub refused_model : ℕ → Modelled
 refused_model n = modelled n no_model
+
+-- what its result says
+abbrev pub model_said : Result IlluminationModel Refusal → Modelled
+model_said (Ok m) = modelled 0 m
+model_said (Err r) = refused_model (number_of r)
+
+-- ---- identity: 2
 
 unfoldable pub identity_of : ℕ → Modelled
 identity_of side = decided (refusal ((2 when bad_side side) ∷ [])) refused_model (modelled 0 (unit_model side 4))
@@ -89,11 +98,6 @@ identity_of side = decided (refusal ((2 when bad_side side) ∷ [])) refused_mod
 -- in checking order; 8 is of the colour's components
 unfoldable pub sentences_of : IlluminationModel → Linear → List Sentence
 sentences_of m c = (8 when wild_linear c) ∷ (10 when bad_model m) ∷ []
-
--- what each case of the answer says
-abbrev pub correction_said : Correction → Said Marked
-correction_said (Refused n) = refused_by n
-correction_said (Corrected c) = gives c
 
 unfoldable pub correct_of : IlluminationModel → Float → Float → Linear → Said Marked
 correct_of m x y c = answered (sentences_of m c) (corrected m x y c)

@@ -8,13 +8,15 @@
 ghost use Rattle.std.specs.Prelude.{◌≡◌, ◌+◌, ◌<◌, ◌≤◌, not, ◌||◌, length};
 ghost use Rattle.std.specs.Float.Ieee.Scale.{finite};
 ghost use Rattle.float.specs.Single.{to_single};
+ghost use Rattle.answers.specs.Answers.{said};
 ghost use Rattle.color.specs.Palette.{wild, wild_linear};
 ghost use Rattle.illum.specs.Surface.{terms_used, basis_at, summed, is_held, hold_gain, inverted, deshade, normalised};
 ghost use Rattle.illum.specs.Correct as spec;
 ghost use Rattle.illum.specs.Reach.{Typed, Placed, large_up_to, large_affine, large_gains, large_flares, in_scale, reach_of, is_within};
-ghost use Rattle.illum.specs.Refusals.{bad_terms, bad_model_side, not_finite, not_finite4, not_finite_up_to, not_finite_rows, not_finite_surfaces, not_finite_model, bad_model, identity_of, correction_said, correct_of};
+ghost use Rattle.illum.specs.Refusals.{bad_terms, bad_model_side, not_finite, not_finite4, not_finite_up_to, not_finite_rows, not_finite_surfaces, not_finite_model, bad_model, model_said, identity_of, correct_of};
 ghost use Rattle.illum.specs.Shown.{leaves_open};
 
+use answers::Refusal;
 use color::Linear;
 
 // A fitted correction from observed to nominal linear light. The affine part is three rows of four; a gain and a flare surface
@@ -41,15 +43,6 @@ pub struct IlluminationModel {
     // references that the fit discarded, and that it kept
     pub rejected: u32,
     pub kept: u32,
-}
-
-// A model beside document 01's number: 0 where the call was accepted. Where it was refused the model is all zeros, which
-// sentence 10 refuses in turn.
-#[repr(C)]
-#[derive(Clone, Copy)]
-pub struct Modelled {
-    pub number: u32,
-    pub model: IlluminationModel,
 }
 
 // One channel's inverse, and whether the gain was held at 0.05.
@@ -91,13 +84,6 @@ pub struct Marked {
 pub struct Span {
     pub lo: f32,
     pub hi: f32,
-}
-
-// What `correct` answers: a refusal by its number, or the corrected colour with its marks.
-#[derive(Clone, Copy)]
-pub enum Correction {
-    Refused(u32),
-    Corrected(Marked),
 }
 
 // ---- the surfaces
@@ -721,7 +707,7 @@ pub fn unit_model(side: usize, terms: usize) -> IlluminationModel
     }
 }
 
-// Core: what stands beside the number of a refusal: all zeros, a model that sentence 10 refuses.
+// Core: what stands beside the number of a refusal where a caller is handed both: all zeros, a model that sentence 10 refuses.
 pub fn no_model() -> IlluminationModel
     ensures { result ≡ spec.no_model }
 {
@@ -746,19 +732,13 @@ pub fn no_model() -> IlluminationModel
 }
 
 // The model that corrects nothing, with 4 terms, for a card of this side. Refused by 2.
-pub fn identity(side: usize) -> Modelled
-    ensures { result ≡ identity_of side }
+pub fn identity(side: usize) -> Result<IlluminationModel, Refusal>
+    ensures { model_said result ≡ identity_of side }
 {
     if limits::bad_side(side) {
-        return Modelled {
-            number: 2,
-            model: no_model(),
-        };
+        return Err(Refusal::Side);
     }
-    Modelled {
-        number: 0,
-        model: unit_model(side, 4),
-    }
+    Ok(unit_model(side, 4))
 }
 
 // Whether a corrected colour leaves it open that a number of its model is not finite. Such a number makes a component wild or an
@@ -795,21 +775,21 @@ pub fn correct_lent<'a>(
     x: f32,
     y: f32,
     colour: Linear,
-) -> Correction
-    ensures { correction_said result ≡ correct_of (spec.lent_model terms side residual_rms affine_r.now affine_g.now affine_b.now gain_r.now gain_g.now gain_b.now flare_r.now flare_g.now flare_b.now) x y colour }
+) -> Result<Marked, Refusal>
+    ensures { said result ≡ correct_of (spec.lent_model terms side residual_rms affine_r.now affine_g.now affine_b.now gain_r.now gain_g.now gain_b.now flare_r.now flare_g.now flare_b.now) x y colour }
 {
     if color::palette::wild_linear(colour) {
-        return Correction::Refused(8);
+        return Err(Refusal::Number);
     }
     if bad_shape(terms, side) {
-        return Correction::Refused(10);
+        return Err(Refusal::Model);
     }
     let d = unshade_lent(
         terms, side, gain_r, gain_g, gain_b, flare_r, flare_g, flare_b, x, y, colour,
     );
     let out = mix_lent(affine_r, affine_g, affine_b, d);
     if !leaves_open(residual_rms, d, out.colour) {
-        return Correction::Corrected(out);
+        return Ok(out);
     }
     if not_finite_lent(
         terms,
@@ -824,15 +804,15 @@ pub fn correct_lent<'a>(
         flare_g,
         flare_b,
     ) {
-        return Correction::Refused(10);
+        return Err(Refusal::Model);
     }
-    Correction::Corrected(out)
+    Ok(out)
 }
 
 // An observed colour at a position, corrected by the model, with the marks of the channels whose gain was held. The position is any
 // float, and so is the colour that comes out; the marks depend on the model and the position alone. Refused by 8 and 10.
-pub fn correct(model: IlluminationModel, x: f32, y: f32, colour: Linear) -> Correction
-    ensures { correction_said result ≡ correct_of model x y colour }
+pub fn correct(model: IlluminationModel, x: f32, y: f32, colour: Linear) -> Result<Marked, Refusal>
+    ensures { said result ≡ correct_of model x y colour }
 {
     correct_lent(
         model.terms,

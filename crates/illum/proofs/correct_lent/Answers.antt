@@ -39,8 +39,8 @@ module _ (m : IlluminationModel) (x y : Float) (c : Linear) where
   by_0 : wild_linear c ≡ false → bad_model m ≡ false → (out : Marked) → out ≡ corrected m x y c → gives out ≡ correct_of m x y c
   unfolding correct_of sentences_of
   by_0 w b out h =
-      says-given (sentences_of m c) (corrected m x y c) 0
-      (passed 8 false (wild_linear c) ((10 when bad_model m) ∷ []) 0 (sym w) refl (passed 10 false (bad_model m) [] 0 (sym b) refl none)) out refl h
+      says-given (sentences_of m c) (corrected m x y c) out
+      (passed 8 false (wild_linear c) ((10 when bad_model m) ∷ []) 0 (sym w) refl (passed 10 false (bad_model m) [] 0 (sym b) refl none)) h
 
   -- the tests of the code, in their order: the colour, the shape, then either what the corrected colour shows or the numbers
   module _ (w s : Bool) (ew : w ≡ wild_linear c) (es : s ≡ bad_shape m) where
