@@ -1,5 +1,5 @@
 -- What an accepted call of the noise record knows: each sentence, where it does not hold. Assumes nothing.
-use mathlib.Core.Path.{◌≡◌, refl, sym, ◌∙◌}
+use mathlib.Core.Path.{◌≡◌, refl}
 use mathlib.Core.Bool.{false}
 use mathlib.Core.List.{List}
 use Prim.Native.Nat.{ℕ, ◌+◌, ◌*◌, ◌≤◌}
@@ -26,23 +26,23 @@ likelihoods-long palette hues out h =
     (palette-long palette hues p.0, ltb-false (length out) hues p.1)
 
 -- past its sentences a call's palette, and the room that it is lent, are long enough
-module _ (palette : List Float) (hues n : ℕ) (z : n ≡ 0) where
-  pub past-palette : n ≡ refusal (palette_sentences palette hues) → palette_len hues ≤ length palette
+module _ (palette : List Float) (hues : ℕ) where
+  pub past-palette : 0 ≡ refusal (palette_sentences palette hues) → palette_len hues ≤ length palette
   unfolding palette_sentences at sound fresh
-  past-palette e = palette-long palette hues (none-holds (palette_sentences palette hues) refl 5 (sym z ∙ e))
+  past-palette e = palette-long palette hues (none-holds (palette_sentences palette hues) refl 5 e)
 
-  pub past-levels : n ≡ refusal (palette_sentences palette hues) → 2 ≤ length palette
+  pub past-levels : 0 ≡ refusal (palette_sentences palette hues) → 2 ≤ length palette
   past-levels e = omega (arith, past-palette e)
 
   module _ (s : ChannelStats) where
-    pub past : n ≡ refusal (sentences_of s palette hues) → palette_len hues ≤ length palette
+    pub past : 0 ≡ refusal (sentences_of s palette hues) → palette_len hues ≤ length palette
     unfolding sentences_of at sound fresh
-    past e = palette-long palette hues (none-holds (sentences_of s palette hues) refl 5 (sym z ∙ e))
+    past e = palette-long palette hues (none-holds (sentences_of s palette hues) refl 5 e)
 
-    module _ (out : List Float) (e : n ≡ refusal (likelihood_sentences s palette hues out)) where
+    module _ (out : List Float) (e : 0 ≡ refusal (likelihood_sentences s palette hues out)) where
       lengths : (palette_len hues ≤ length palette) × (hues ≤ length out)
       unfolding likelihood_sentences at sound fresh
-      lengths = likelihoods-long palette hues out (none-holds (likelihood_sentences s palette hues out) refl 5 (sym z ∙ e))
+      lengths = likelihoods-long palette hues out (none-holds (likelihood_sentences s palette hues out) refl 5 e)
 
       pub past-likelihoods : palette_len hues ≤ length palette
       past-likelihoods = lengths.0

@@ -1,18 +1,13 @@
--- The public calls of the noise record: which sentences of document 01 each can meet, in checking order, what the cases of its answer say, and what
--- it answers. Definitions only.
+-- The public calls of the noise record: which sentences of document 01 each can meet, in checking order, and what it answers. Definitions only.
 use Rattle.std.specs.Prelude.{Bool, not, ◌||◌, ◌&&◌, List, [], ◌∷◌, ℕ, ◌^◌, ltb, length, Float}
 use Rattle.std.specs.Float.Ieee.{neg, lt, le, eq}
 use Rattle.sentences.specs.Sentences.{Sentence, ◌when◌}
 use Rattle.limits.specs.Limits.{bad_hues}
-use Rattle.answers.specs.Answers.{Said, refused_by, gives, answered, Ended, written_or}
+use Rattle.answers.specs.Answers.{Said, answered, Ended, written_or}
 use Rattle.color.specs.declared.Lab.{Lab}
 use Rattle.color.specs.Color.{whole, fraction}
 use Rattle.color.specs.Palette.{palette_len, wild_palette}
 use Rattle.stats.specs.declared.ChannelStats.{ChannelStats}
-use Rattle.stats.specs.declared.Figure.{Figure}
-use Rattle.stats.specs.declared.Figure.TheVariants as figure
-use Rattle.stats.specs.declared.Noise.{Noise}
-use Rattle.stats.specs.declared.Noise.TheVariants as noise
 use Rattle.stats.specs.Noise.{sigma_ab_at, luma_llr, reliability, hue_log_likelihoods, nominal}
 
 -- ---- the sentences
@@ -81,16 +76,6 @@ likelihood_sentences n palette hues out =
     (8 when bad_numbers n palette hues) ∷
     (9 when bad_sigmas n) ∷
     []
-
--- ---- what each case of an answer says
-
-abbrev pub figure_said : Figure → Said Float
-figure_said (figure.Refused n) = refused_by n
-figure_said (figure.Value v) = gives v
-
-abbrev pub noise_said : Noise → Said ChannelStats
-noise_said (noise.Refused n) = refused_by n
-noise_said (noise.Record v) = gives v
 
 -- ---- what each call answers
 

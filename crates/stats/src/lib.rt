@@ -6,13 +6,13 @@
 
 ghost use Rattle.std.specs.Prelude.{◌≡◌, ◌*◌, ◌<◌, ◌≤◌, length};
 ghost use Rattle.sentences.specs.Sentences.{refusal};
-ghost use Rattle.answers.specs.Answers.{ended};
+ghost use Rattle.answers.specs.Answers.{said, outcome_number, ended};
 ghost use Rattle.color.specs.Palette.{palette_len};
 ghost use Rattle.stats.specs.Noise as spec;
 ghost use Rattle.stats.specs.Calls as call;
 ghost use Rattle.stats.specs.Ready.{ColourAt, HueAt};
 
-use answers::Outcome;
+use answers::Refusal;
 use color::Lab;
 use color::palette::{hue_ab, level_l, palette_lab, wild_palette};
 
@@ -29,20 +29,6 @@ pub struct ChannelStats {
     pub sigma_ab_dark: f32,
     pub sigma_ab_light: f32,
     pub samples: u32,
-}
-
-// What a method that answers a number gives: the refusal, or the number.
-#[derive(Clone, Copy)]
-pub enum Figure {
-    Refused(u32),
-    Value(f32),
-}
-
-// What a call that answers a noise record gives.
-#[derive(Clone, Copy)]
-pub enum Noise {
-    Refused(u32),
-    Record(ChannelStats),
 }
 
 // ---- the cores, for every float
@@ -319,50 +305,52 @@ pub fn bad_numbers(noise: ChannelStats, palette: &[f32], hues: usize) -> bool
     bad_noise_numbers(noise)
 }
 
-fn refused_record(noise: ChannelStats) -> u32
-    ensures { result ≡ refusal (call.record_sentences noise) }
+// Whether a noise record passes. Refused: 8, 9.
+fn check_record(noise: ChannelStats) -> Result<(), Refusal>
+    ensures { outcome_number result ≡ refusal (call.record_sentences noise) }
 {
     if bad_noise_numbers(noise) {
-        return 8;
+        return Err(Refusal::Number);
     }
     if bad_sigmas(noise) {
-        return 9;
+        return Err(Refusal::Sigma);
     }
-    0
+    Ok(())
 }
 
-fn refused_palette(palette: &[f32], hues: usize) -> u32
-    ensures { result ≡ refusal (call.palette_sentences palette.now hues) }
+// Whether a palette passes. Refused: 3, 5, 8.
+fn check_palette(palette: &[f32], hues: usize) -> Result<(), Refusal>
+    ensures { outcome_number result ≡ refusal (call.palette_sentences palette.now hues) }
 {
     if limits::bad_hues(hues) {
-        return 3;
+        return Err(Refusal::Hues);
     }
     if short_palette(palette, hues) {
-        return 5;
+        return Err(Refusal::Length);
     }
     if wild_palette(palette, hues) {
-        return 8;
+        return Err(Refusal::Number);
     }
-    0
+    Ok(())
 }
 
-// Core: the number of the first sentence on a noise record and a palette that holds, or 0.
-pub fn refused(noise: ChannelStats, palette: &[f32], hues: usize) -> u32
-    ensures { result ≡ refusal (call.sentences_of noise palette.now hues) }
+// Core: whether a noise record and a palette pass. Refused: 3, 5, 8, 9.
+pub fn check(noise: ChannelStats, palette: &[f32], hues: usize) -> Result<(), Refusal>
+    ensures { outcome_number result ≡ refusal (call.sentences_of noise palette.now hues) }
 {
     if limits::bad_hues(hues) {
-        return 3;
+        return Err(Refusal::Hues);
     }
     if short_palette(palette, hues) {
-        return 5;
+        return Err(Refusal::Length);
     }
     if bad_numbers(noise, palette, hues) {
-        return 8;
+        return Err(Refusal::Number);
     }
     if bad_sigmas(noise) {
-        return 9;
+        return Err(Refusal::Sigma);
     }
-    0
+    Ok(())
 }
 
 // Sentence 5, of the likelihoods: the palette or the room for one a hue is too short.
@@ -375,22 +363,28 @@ fn short_likelihoods(palette: &[f32], hues: usize, out: &[f32]) -> bool
     out.len() < hues
 }
 
-fn refused_likelihoods(noise: ChannelStats, palette: &[f32], hues: usize, out: &[f32]) -> u32
-    ensures { result ≡ refusal (call.likelihood_sentences noise palette.now hues out.now) }
+// Whether a noise record, a palette and the room for a likelihood a hue pass. Refused: 3, 5, 8, 9.
+fn check_likelihoods(
+    noise: ChannelStats,
+    palette: &[f32],
+    hues: usize,
+    out: &[f32],
+) -> Result<(), Refusal>
+    ensures { outcome_number result ≡ refusal (call.likelihood_sentences noise palette.now hues out.now) }
 {
     if limits::bad_hues(hues) {
-        return 3;
+        return Err(Refusal::Hues);
     }
     if short_likelihoods(palette, hues, out) {
-        return 5;
+        return Err(Refusal::Length);
     }
     if bad_numbers(noise, palette, hues) {
-        return 8;
+        return Err(Refusal::Number);
     }
     if bad_sigmas(noise) {
-        return 9;
+        return Err(Refusal::Sigma);
     }
-    0
+    Ok(())
 }
 
 // ---- the public calls
@@ -398,38 +392,29 @@ fn refused_likelihoods(noise: ChannelStats, palette: &[f32], hues: usize, out: &
 impl ChannelStats {
     // The chroma noise at lightness l, between those of the two levels by where l stands between them;
     // the pooled noise where a level has none. Refused: 8, 9.
-    pub fn sigma_ab_at(self, l: f32) -> Figure
-        ensures { call.figure_said result ≡ call.sigma_ab_answer self l }
+    pub fn sigma_ab_at(self, l: f32) -> Result<f32, Refusal>
+        ensures { said result ≡ call.sigma_ab_answer self l }
     {
-        let n = refused_record(self);
-        if n != 0 {
-            return Figure::Refused(n);
-        }
-        Figure::Value(self.sigma_ab_of(l))
+        check_record(self)?;
+        Ok(self.sigma_ab_of(l))
     }
 
     // The log-likelihood ratio of a luma sample, (l1 - l0)(l0 + l1 - 2l) / 2σ², within ±20. Positive
     // means dark. Refused: 8, 9.
-    pub fn luma_llr(self, l: f32) -> Figure
-        ensures { call.figure_said result ≡ call.luma_llr_answer self l }
+    pub fn luma_llr(self, l: f32) -> Result<f32, Refusal>
+        ensures { said result ≡ call.luma_llr_answer self l }
     {
-        let n = refused_record(self);
-        if n != 0 {
-            return Figure::Refused(n);
-        }
-        Figure::Value(self.luma_llr_of(l))
+        check_record(self)?;
+        Ok(self.luma_llr_of(l))
     }
 
     // How much to believe a sample, from 0 to 1, by its distance from the nearest palette colour in
     // units of that colour's noise. Refused: 3, 5, 8, 9.
-    pub fn reliability(self, sample: Lab, palette: &[f32], hues: usize) -> Figure
-        ensures { call.figure_said result ≡ call.reliability_answer self sample palette.now hues }
+    pub fn reliability(self, sample: Lab, palette: &[f32], hues: usize) -> Result<f32, Refusal>
+        ensures { said result ≡ call.reliability_answer self sample palette.now hues }
     {
-        let n = refused(self, palette, hues);
-        if n != 0 {
-            return Figure::Refused(n);
-        }
-        Figure::Value(self.reliability_of(sample, palette, hues))
+        check(self, palette, hues)?;
+        Ok(self.reliability_of(sample, palette, hues))
     }
 
     // Writes the log-likelihood of each hue, up to a constant that all share, to the front of `out`.
@@ -440,26 +425,20 @@ impl ChannelStats {
         palette: &[f32],
         hues: usize,
         out: &mut [f32],
-    ) -> Outcome
+    ) -> Result<(), Refusal>
         ensures { ended result out.new ≡ call.likelihoods_answer self sample palette.now hues out.old }
     {
-        let n = refused_likelihoods(self, palette, hues, out);
-        if n != 0 {
-            return Outcome::Refused(n);
-        }
+        check_likelihoods(self, palette, hues, out)?;
         self.hue_log_likelihoods_of(sample, palette, hues, out);
-        Outcome::Done
+        Ok(())
     }
 
     // The record to fall back on where too little can be measured: the palette's own levels, sigmas 6,
     // samples 0. Refused: 3, 5, 8.
-    pub fn nominal(palette: &[f32], hues: usize) -> Noise
-        ensures { call.noise_said result ≡ call.nominal_answer palette.now hues }
+    pub fn nominal(palette: &[f32], hues: usize) -> Result<ChannelStats, Refusal>
+        ensures { said result ≡ call.nominal_answer palette.now hues }
     {
-        let n = refused_palette(palette, hues);
-        if n != 0 {
-            return Noise::Refused(n);
-        }
-        Noise::Record(ChannelStats::nominal_of(palette))
+        check_palette(palette, hues)?;
+        Ok(ChannelStats::nominal_of(palette))
     }
 }

@@ -1,9 +1,9 @@
 -- `ChannelStats::luma_llr` meets its contract: the number, or the core's value. Assumes nothing.
-use Rattle.answers.proofs.Answers.{says-refused, says-given}
+use Rattle.answers.proofs.Answers.{turned_away, says-given}
 use Rattle.stats.proofs.ChannelStats.luma_llr.Goals as goal
 
-pub returns-then-n-ne0 : goal.returns-then-n-ne0
-returns-then-n-ne0 c = search (says-refused)
+pub returns-in_err-check_record : goal.returns-in_err-check_record
+returns-in_err-check_record c = search (turned_away, c.in_err-check_record.ensures)
 
 pub returns : goal.returns
-returns c = search (says-given)
+returns c = search (says-given, c.in_ok-check_record.ensures)

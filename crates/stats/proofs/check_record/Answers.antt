@@ -1,8 +1,8 @@
--- `refused_record` meets its contract: the sentences in their order, one return for each. Assumes nothing.
+-- `check_record` meets its contract: the sentences in their order, one return for each. Assumes nothing.
 use borrow.Author.Rules.{rules}
 use Rattle.sentences.proofs.Laws.{sentences}
 use Rattle.stats.specs.Calls.{record_sentences}
-use Rattle.stats.proofs.refused_record.Goals as goal
+use Rattle.stats.proofs.check_record.Goals as goal
 
 pub bad_noise_numbers-requires : goal.bad_noise_numbers-requires
 unfolding record_sentences

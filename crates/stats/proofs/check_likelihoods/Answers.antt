@@ -1,4 +1,4 @@
--- `refused_likelihoods` meets its contract: the sentences in their order, one return for each. Assumes nothing.
+-- `check_likelihoods` meets its contract: the sentences in their order, one return for each. Assumes nothing.
 use mathlib.Core.Path.{◌≡◌, sym, ◌∙◌}
 use mathlib.Core.Bool.{Bool, false}
 use borrow.Author.Rules.{rules}
@@ -10,7 +10,7 @@ use lib.Ieee.{Float}
 use Rattle.color.specs.Palette.{palette_len}
 use Rattle.stats.specs.Calls.{short_likelihoods, likelihood_sentences}
 use Rattle.stats.proofs.Passed.{likelihoods-long}
-use Rattle.stats.proofs.refused_likelihoods.Goals as goal
+use Rattle.stats.proofs.check_likelihoods.Goals as goal
 
 long-enough : (palette : List Float) (hues : ℕ) (out : List Float) (r : Bool) → r ≡ short_likelihoods palette hues out → r ≡ false → palette_len hues ≤ length palette
 long-enough palette hues out r e f = (likelihoods-long palette hues out (sym e ∙ f)).0
