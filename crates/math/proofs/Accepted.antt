@@ -10,7 +10,9 @@ use lib.Dec.{ltb}
 use lib.Ieee.{Float}
 use Rattle.sentences.specs.Sentences.{refusal, decided}
 use Rattle.sentences.proofs.Laws.{neither, refuses, accepts}
-use Rattle.answers.specs.Answers.{Said, gives}
+use Rattle.answers.specs.declared.refusal.Refusal.{Refusal}
+use Rattle.answers.specs.Answers.{number_of, gives}
+use Rattle.answers.proofs.Answers as answers
 use Rattle.math.specs.Gauss.{numbered, short_system, bad_size, Settled, settled, final, final_of}
 use Rattle.math.specs.Normal.{short_pair, short_rows}
 
@@ -24,34 +26,28 @@ neither-holds true t e = absurd (omega arith)
 neither-holds false true e = absurd (omega arith)
 neither-holds false false e = (refl, refl)
 
--- what a call gives by the number that the code found, where s and t are what its two tests said, and s' and t' the sentences
-module _ {A : Type 0} (refused : ℕ → A) (accepted : A) (k : ℕ) (s t s' t' : Bool) (e : k ≡ numbered s t) (hs : s ≡ s') (ht : t ≡ t') where
-  same : k ≡ numbered s' t'
-  same = rw (← hs, ← ht) e
+-- what a call gives, where s and t are what its two tests said, and s' and t' the sentences
+module _ {A : Type 0} (refused : ℕ → A) (accepted : A) (s t s' t' : Bool) (hs : s ≡ s') (ht : t ≡ t') where
+  pub sent-away : (r : Refusal) → number_of r ≡ numbered s t → refused (number_of r) ≡ decided (numbered s' t') refused accepted
+  sent-away r e = refuses refused accepted (number_of r) (numbered s' t') (answers.numbered r) (rw (← hs, ← ht) e)
 
-  pub turned-away : (k ≡ 0 → ⊥) → refused k ≡ decided (numbered s' t') refused accepted
-  turned-away z = refuses refused accepted k (numbered s' t') z same
+  pub taken : 0 ≡ numbered s t → accepted ≡ decided (numbered s' t') refused accepted
+  taken e = accepts refused accepted 0 (numbered s' t') refl (rw (← hs, ← ht) e)
 
-  pub taken : k ≡ 0 → accepted ≡ decided (numbered s' t') refused accepted
-  taken z = accepts refused accepted k (numbered s' t') z same
+-- an accepted answer, which says whether there is a solution
+pub told : (f : Bool) (a b x : List Float) (g : Settled) → settled f a b x ≡ g → final (gives f) a b x ≡ final_of g
+told f a b x g h = ap final_of h
 
--- an answer by whether there is a solution
-pub told : (r : Said Bool) (f : Bool) (a b x : List Float) (g : Settled) → settled f a b x ≡ g → r ≡ gives f → final r a b x ≡ final_of g
-told r f a b x g h hr = ap (λ (s : Said Bool). final s a b x) hr ∙ ap final_of h
-
--- k is the number that the code found, s and t what its two tests said
-module _ (k : ℕ) (s t : Bool) where
-  long : k ≡ numbered s t → k ≡ 0 → s ≡ false
-  long e z = (neither-holds s t (sym z ∙ e)).0
-
-  pub sized : (n : ℕ) → t ≡ bad_size n → k ≡ numbered s t → k ≡ 0 → n ≤ 18
+-- s and t are what the two tests of an accepted call said
+module _ (s t : Bool) (e : 0 ≡ numbered s t) where
+  pub sized : (n : ℕ) → t ≡ bad_size n → n ≤ 18
   unfolding bad_size
-  sized n h e z = ltb-false 18 n (neither (ltb n 1) (ltb 18 n) (sym h ∙ (neither-holds s t (sym z ∙ e)).1)).1
+  sized n h = ltb-false 18 n (neither (ltb n 1) (ltb 18 n) (sym h ∙ (neither-holds s t e).1)).1
 
-  module _ (n a b x : ℕ) (h : s ≡ short_system n a b x) (e : k ≡ numbered s t) (z : k ≡ 0) where
+  module _ (n a b x : ℕ) (h : s ≡ short_system n a b x) where
     tests : (ltb a (n * n) ≡ false) × (ltb b n || ltb x n ≡ false)
     unfolding short_system
-    tests = neither (ltb a (n * n)) (ltb b n || ltb x n) (sym h ∙ long e z)
+    tests = neither (ltb a (n * n)) (ltb b n || ltb x n) (sym h ∙ (neither-holds s t e).0)
 
     pub matrix-fits : n * n ≤ a
     matrix-fits = ltb-false a (n * n) tests.0
@@ -62,20 +58,20 @@ module _ (k : ℕ) (s t : Bool) where
     pub unknowns-fit : n ≤ x
     unknowns-fit = ltb-false x n (neither (ltb b n) (ltb x n) tests.1).1
 
-  module _ (n p q : ℕ) (h : s ≡ short_pair n p q) (e : k ≡ numbered s t) (z : k ≡ 0) where
+  module _ (n p q : ℕ) (h : s ≡ short_pair n p q) where
     pub first_fits : n ≤ p
     unfolding short_pair
-    first_fits = ltb-false p n (neither (ltb p n) (ltb q n) (sym h ∙ long e z)).0
+    first_fits = ltb-false p n (neither (ltb p n) (ltb q n) (sym h ∙ (neither-holds s t e).0)).0
 
     pub second_fits : n ≤ q
     unfolding short_pair
-    second_fits = ltb-false q n (neither (ltb p n) (ltb q n) (sym h ∙ long e z)).1
+    second_fits = ltb-false q n (neither (ltb p n) (ltb q n) (sym h ∙ (neither-holds s t e).0)).1
 
-  module _ (n rows targets x : ℕ) (h : s ≡ short_rows n rows targets x) (e : k ≡ numbered s t) (z : k ≡ 0) where
+  module _ (n rows targets x : ℕ) (h : s ≡ short_rows n rows targets x) where
     pub rows_fit : targets * n ≤ rows
     unfolding short_rows
-    rows_fit = ltb-false rows (targets * n) (neither (ltb rows (targets * n)) (ltb x n) (sym h ∙ long e z)).0
+    rows_fit = ltb-false rows (targets * n) (neither (ltb rows (targets * n)) (ltb x n) (sym h ∙ (neither-holds s t e).0)).0
 
     pub answers-fit : n ≤ x
     unfolding short_rows
-    answers-fit = ltb-false x n (neither (ltb rows (targets * n)) (ltb x n) (sym h ∙ long e z)).1
+    answers-fit = ltb-false x n (neither (ltb rows (targets * n)) (ltb x n) (sym h ∙ (neither-holds s t e).0)).1

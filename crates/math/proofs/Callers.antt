@@ -11,10 +11,9 @@ use lib.Seq.{drop-append_seam}
 use lib.Ieee.{Float}
 use Rattle.loops.specs.Loops.{Turn, go, out}
 use Rattle.sentences.specs.Sentences.{decided}
-use Rattle.answers.specs.declared.Outcome.TheVariants.{Refused, Done}
 use Rattle.answers.specs.Answers.{refused_by, gives}
 use Rattle.math.specs.Gauss.{numbered, short_system, bad_size, System, system, eliminate, unknowns, Settled, concluded, gauss, Final, final, final_of, solve_of}
-use Rattle.math.specs.Normal.{short_pair, short_rows, add_row, finish, Grown, grown, add_row_of, finish_of, equations_of, Fitted, fitted, fitted_of, least_squares, least_squares_of}
+use Rattle.math.specs.Normal.{short_pair, short_rows, add_row, finish, Grown, numbered_grown, add_row_of, finish_of, equations_of, Fitted, fitted, fitted_of, least_squares, least_squares_of}
 use Rattle.math.proofs.Fresh.{unknowns-long}
 
 -- ---- numbers
@@ -34,7 +33,7 @@ pub add-row-number : (terms : ℕ) (row : List Float) (target : Float) (s : Syst
     → (add_row_of terms row target s).number ≡ numbered (short_pair terms (length s.b) (length row)) (bad_size terms)
 unfolding add_row_of
 add-row-number terms row target s =
-    by_number (λ (g : Grown). g.number) (λ k. grown (Refused k) s) (grown Done (add_row terms row target s)) (λ k. refl) refl _
+    by_number (λ (g : Grown). g.number) (λ k. numbered_grown k s) (numbered_grown 0 (add_row terms row target s)) (λ k. refl) refl _
 
 pub finish-number : (terms : ℕ) (s : System) (x : List Float)
     → (finish_of terms s x).said.number ≡ numbered (short_pair terms (length s.b) (length x)) (bad_size terms)

@@ -6,8 +6,6 @@ use Rattle.loops.specs.Loops.{for_up, for_down, Turn, go, out, for_try}
 use Rattle.sentences.specs.Sentences.{◌when◌, refusal, decided}
 use Rattle.float.specs.Select.{abs}
 use Rattle.answers.specs.Answers.{Said, refused_by, gives}
-use Rattle.math.specs.declared.Solving.{Solving}
-use Rattle.math.specs.declared.Solving.TheVariants.{Solved, NoSolution, Refused}
 
 -- 0, and 1e-12, below which a pivot is too small
 abbrev pub zero64 : Float
@@ -128,13 +126,8 @@ gauss n a b x = concluded n x (eliminate n (system a b))
 
 -- ---- the call
 
--- what each case of `Solving` says: document 01's number, or 0 and whether there is a solution. "No solution" is an answer, not a refusal
-abbrev pub solving_said : Solving → Said Bool
-solving_said Solved = gives true
-solving_said NoSolution = gives false
-solving_said (Refused n) = refused_by n
-
--- what `solve` and `finish` give back: what the answer says, the operands and the slice for the unknowns
+-- what `solve` and `finish` give back: what the answer says, the operands and the slice for the unknowns. The answer's value is whether there is a solution:
+-- "no solution" is an answer, not a refusal
 pub record Final : Type 0 where
   pub said : Said Bool
   pub a : List Float

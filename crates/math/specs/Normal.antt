@@ -1,12 +1,11 @@
 -- Least squares by the normal equations, which rows are added to one after the other: `least_squares` of math.rs. Definitions only.
 -- The matrix is row by row, of `terms` squared elements. `System` holds the equations: a is AᵀA, b is Aᵀy.
-use Rattle.std.specs.Prelude.{Bool, false, cond, ◌||◌, List, ℕ, ◌*◌, ◌^◌, length, get_or, set, replicate, take, drop, ltb, Float}
+use Rattle.std.specs.Prelude.{Bool, false, cond, ◌||◌, List, ℕ, ◌*◌, ◌^◌, length, get_or, set, replicate, take, drop, ltb, Float, Result, ⊤}
 use Rattle.std.specs.Float.{nan, binary64}
 use Rattle.std.specs.Float.Ieee.{add, mul, round}
 use Rattle.loops.specs.Loops.{for_up}
 use Rattle.sentences.specs.Sentences.{decided}
-use Rattle.answers.specs.declared.Outcome.{Outcome}
-use Rattle.answers.specs.declared.Outcome.TheVariants.{Refused, Done}
+use Rattle.answers.specs.declared.refusal.Refusal.{Refusal}
 use Rattle.answers.specs.Answers.{Said, refused_by, gives, outcome_number}
 use Rattle.math.specs.Gauss.{zero64, at, put, System, system, Settled, gauss, Final, final, final_of, bad_size, numbered}
 
@@ -41,14 +40,16 @@ finish terms s x = gauss terms (nudged terms s.a) s.b x
 
 -- ---- the two calls
 
--- what `add_row` gives back: its answer, with document 01's number, and the equations
+-- what `add_row` gives back: document 01's number, 0 where it is accepted, and the equations
 pub record Grown : Type 0 where
   pub number : ℕ
-  pub answer : Outcome
   pub equations : System
 
-abbrev pub grown : Outcome → System → Grown
-grown r s = record { number = outcome_number r; answer = r; equations = s }
+abbrev pub numbered_grown : ℕ → System → Grown
+numbered_grown n s = record { number = n; equations = s }
+
+abbrev pub grown : Result ⊤ Refusal → System → Grown
+grown r s = numbered_grown (outcome_number r) s
 
 -- 5: one of two slices, of p and q elements, has fewer than `terms`
 unfoldable pub short_pair : ℕ → ℕ → ℕ → Bool
@@ -56,7 +57,7 @@ short_pair terms p q = ltb p terms || ltb q terms
 
 unfoldable pub add_row_of : ℕ → List Float → Float → System → Grown
 add_row_of terms row target s =
-    decided (numbered (short_pair terms (length s.b) (length row)) (bad_size terms)) (λ k. grown (Refused k) s) (grown Done (add_row terms row target s))
+    decided (numbered (short_pair terms (length s.b) (length row)) (bad_size terms)) (λ k. numbered_grown k s) (numbered_grown 0 (add_row terms row target s))
 
 unfoldable pub finish_of : ℕ → System → List Float → Final
 finish_of terms s x =

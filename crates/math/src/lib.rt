@@ -8,20 +8,14 @@
 ghost use Rattle.std.specs.Prelude.{◌≡◌, ◌*◌, ◌<◌, ◌≤◌, ltb, length};
 ghost use Rattle.loops.specs.Loops.{turn_of};
 ghost use Rattle.float.specs.Select.{abs};
-ghost use Rattle.answers.specs.Answers.{gives};
+ghost use Rattle.answers.specs.Answers.{said, outcome_number};
 ghost use Rattle.math.specs.Gauss as spec;
-ghost use Rattle.math.specs.Gauss.{Alike, system, settled, final, solving_said};
+ghost use Rattle.math.specs.Gauss.{Alike, system, settled, final};
 ghost use Rattle.math.specs.Normal as normal;
 ghost use Rattle.math.specs.Normal.{grown, fitted};
 ghost use Rattle.math.specs.Ready.{Cell, Equations};
 
-// The answer of `solve`, `finish` and `least_squares`. Refused has the number of the sentence that is broken.
-#[derive(Clone, Copy)]
-pub enum Solving {
-    Solved,
-    NoSolution,
-    Refused(u32),
-}
+use answers::Refusal;
 
 // ---- a matrix
 
@@ -282,41 +276,29 @@ fn bad_size(n: usize) -> bool
     18 < n
 }
 
-// The number of the first of the two sentences that holds, or 0.
-fn number(short: bool, bad: bool) -> u32
-    ensures { result ≡ spec.numbered short bad }
+// The first of the two sentences that holds.
+fn check(short: bool, bad: bool) -> Result<(), Refusal>
+    ensures { outcome_number result ≡ spec.numbered short bad }
 {
     if short {
-        return 5;
+        return Err(Refusal::Length);
     }
     if bad {
-        return 6;
+        return Err(Refusal::Count);
     }
-    0
-}
-
-fn answer(found: bool) -> Solving
-    ensures { solving_said result ≡ gives found }
-{
-    if found {
-        return Solving::Solved;
-    }
-    Solving::NoSolution
+    Ok(())
 }
 
 // ---- linear systems
 
-// Solves the n by n system a x = b, and writes the solution to x. No solution: a pivot is below 1e-12 in magnitude,
-// and x is untouched. Either way a and b are left as elimination leaves them, and tails stay. Refused: 5 where a is
-// shorter than n * n, or b or x than n; 6 where n is not 1 to 18; nothing is written then.
-pub fn solve(a: &mut [f64], b: &mut [f64], x: &mut [f64], n: usize) -> Solving
-    ensures { final (solving_said result) a.new b.new x.new ≡ spec.solve_of n a.old b.old x.old }
+// Whether the n by n system a x = b has a solution, which is written to x. It has none where a pivot is below 1e-12 in
+// magnitude, and x is untouched then. Either way a and b are left as elimination leaves them, and tails stay. Refused:
+// 5 where a is shorter than n * n, or b or x than n; 6 where n is not 1 to 18; nothing is written then.
+pub fn solve(a: &mut [f64], b: &mut [f64], x: &mut [f64], n: usize) -> Result<bool, Refusal>
+    ensures { final (said result) a.new b.new x.new ≡ spec.solve_of n a.old b.old x.old }
 {
-    let refused = number(short_system(n, a.len(), b.len(), x.len()), bad_size(n));
-    if refused != 0 {
-        return Solving::Refused(refused);
-    }
-    answer(solve_core(a, b, x, n))
+    check(short_system(n, a.len(), b.len(), x.len()), bad_size(n))?;
+    Ok(solve_core(a, b, x, n))
 }
 
 // ---- the normal equations
@@ -373,15 +355,12 @@ pub fn add_row(
     row: &[f64],
     target: f64,
     terms: usize,
-) -> answers::Outcome
+) -> Result<(), Refusal>
     ensures { grown result (system ata.new atb.new) ≡ normal.add_row_of terms row.now target (system ata.old atb.old) }
 {
-    let refused = number(short_pair(terms, atb.len(), row.len()), bad_size(terms));
-    if refused != 0 {
-        return answers::Outcome::Refused(refused);
-    }
+    check(short_pair(terms, atb.len(), row.len()), bad_size(terms))?;
     add_row_core(ata, atb, row, target, terms);
-    answers::Outcome::Done
+    Ok(())
 }
 
 fn nudge_at(ata: &mut [f64], terms: usize, i: usize)
@@ -413,14 +392,16 @@ pub fn finish_core(ata: &mut [f64; 324], atb: &mut [f64], x: &mut [f64], terms: 
 
 // Finishes the normal equations: 1e-9 on the diagonal, then as `solve`. Refused: 5 where the right-hand side or x is
 // shorter than `terms`; 6 where `terms` is not 1 to 18; nothing is written then.
-pub fn finish(ata: &mut [f64; 324], atb: &mut [f64], x: &mut [f64], terms: usize) -> Solving
-    ensures { final (solving_said result) ata.new atb.new x.new ≡ normal.finish_of terms (system ata.old atb.old) x.old }
+pub fn finish(
+    ata: &mut [f64; 324],
+    atb: &mut [f64],
+    x: &mut [f64],
+    terms: usize,
+) -> Result<bool, Refusal>
+    ensures { final (said result) ata.new atb.new x.new ≡ normal.finish_of terms (system ata.old atb.old) x.old }
 {
-    let refused = number(short_pair(terms, atb.len(), x.len()), bad_size(terms));
-    if refused != 0 {
-        return Solving::Refused(refused);
-    }
-    answer(finish_core(ata, atb, x, terms))
+    check(short_pair(terms, atb.len(), x.len()), bad_size(terms))?;
+    Ok(finish_core(ata, atb, x, terms))
 }
 
 // ---- least squares
@@ -452,23 +433,26 @@ fn add_rows(ata: &mut [f64; 324], atb: &mut [f64], rows: &[f64], targets: &[f64]
 }
 
 // Fits x so that each row of `terms` numbers, times x, comes nearest its target in the sum of squares, by `add_row`
-// and `finish`. Fewer rows than terms have no solution. x is untouched but where there is one, and its tail stays.
-// Refused: 5 where `rows` is shorter than terms * targets.len(), or x than `terms`; 6 where `terms` is not 1 to 18.
-pub fn least_squares(rows: &[f64], targets: &[f64], terms: usize, x: &mut [f64]) -> Solving
-    ensures { fitted (solving_said result) x.new ≡ normal.least_squares_of terms rows.now targets.now x.old }
+// and `finish`, and says whether there is such an x: fewer rows than terms have none. x is untouched but where there is
+// one, and its tail stays. Refused: 5 where `rows` is shorter than terms * targets.len(), or x than `terms`; 6 where
+// `terms` is not 1 to 18.
+pub fn least_squares(
+    rows: &[f64],
+    targets: &[f64],
+    terms: usize,
+    x: &mut [f64],
+) -> Result<bool, Refusal>
+    ensures { fitted (said result) x.new ≡ normal.least_squares_of terms rows.now targets.now x.old }
 {
-    let refused = number(
+    check(
         short_rows(terms, rows.len(), targets.len(), x.len()),
         bad_size(terms),
-    );
-    if refused != 0 {
-        return Solving::Refused(refused);
-    }
+    )?;
     if targets.len() < terms {
-        return Solving::NoSolution;
+        return Ok(false);
     }
     let mut ata = [0.0f64; 324];
     let mut atb = [0.0f64; 18];
     add_rows(&mut ata, &mut atb, rows, targets, terms);
-    answer(finish_core(&mut ata, &mut atb, x, terms))
+    Ok(finish_core(&mut ata, &mut atb, x, terms))
 }

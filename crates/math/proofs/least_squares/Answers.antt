@@ -8,47 +8,51 @@ use borrow.Author.Rules.{rules}
 use borrow.Author.Tests.{lt-ltb, le-ltb}
 use lib.ListN.{length}
 use lib.Ieee.{Float, of_bits}
-use Rattle.answers.specs.Answers.{Said, refused_by, gives}
+use Rattle.std.specs.Prelude.{Result}
+use Rattle.std.specs.Result.{IsErr, IsErrAnd}
+use Rattle.answers.specs.declared.refusal.Refusal.{Refusal}
+use Rattle.answers.specs.Answers.{number_of, refused_by, gives, said}
+use Rattle.answers.proofs.Answers.{passed_on}
 use Rattle.math.specs.Gauss.{numbered, bad_size, System, system, settled}
 use Rattle.math.specs.Normal.{short_rows, finish, equations_of, fitted, fitted_of, least_squares, least_squares_of}
-use Rattle.math.proofs.Accepted.{turned-away, taken, sized, rows_fit, answers-fit}
+use Rattle.math.proofs.Accepted.{sent-away, taken, sized, rows_fit, answers-fit}
 use Rattle.math.proofs.least_squares.Goals as goal
 
-module _ (k n : ℕ) (s t : Bool) (rows targets x : List Float) (e : k ≡ numbered s t) (hs : s ≡ short_rows n (length rows) (length targets) (length x)) (ht : t ≡ bad_size n) where
-  away : (k ≡ 0 → ⊥) → fitted (refused_by k) x ≡ least_squares_of n rows targets x
+module _ (n : ℕ) (s t : Bool) (rows targets x : List Float) (hs : s ≡ short_rows n (length rows) (length targets) (length x)) (ht : t ≡ bad_size n) where
+  away : (y : Result Bool Refusal) (r : Refusal) → IsErr y × IsErrAnd y (λ q. q ≡ r) → number_of r ≡ numbered s t → fitted (said y) x ≡ least_squares_of n rows targets x
   unfolding least_squares_of
-  away z = turned-away (λ j. fitted (refused_by j) x) (least_squares n rows targets x) k s t _ _ e hs ht z
+  away y r p e = rw (passed_on y r p) (sent-away (λ j. fitted (refused_by j) x) (least_squares n rows targets x) s t _ _ hs ht r e)
 
-  accepted : k ≡ 0 → least_squares n rows targets x ≡ least_squares_of n rows targets x
-  unfolding least_squares_of
-  accepted z = taken (λ j. fitted (refused_by j) x) (least_squares n rows targets x) k s t _ _ e hs ht z
+  module _ (e : 0 ≡ numbered s t) where
+    accepted : least_squares n rows targets x ≡ least_squares_of n rows targets x
+    unfolding least_squares_of
+    accepted = taken (λ j. fitted (refused_by j) x) (least_squares n rows targets x) s t _ _ hs ht e
 
-  few : k ≡ 0 → length targets < n → fitted (gives false) x ≡ least_squares_of n rows targets x
-  unfolding least_squares
-  few z h = cc (accepted z, lt-ltb (length targets) n h)
+    few : length targets < n → fitted (gives false) x ≡ least_squares_of n rows targets x
+    unfolding least_squares
+    few h = cc (accepted, lt-ltb (length targets) n h)
 
-  done : (r : Said Bool) (f : Bool) (a b a' b' x' : List Float) → k ≡ 0 → n ≤ length targets → settled f a' b' x' ≡ finish n (system a b) x
-      → system a b ≡ equations_of n rows targets → r ≡ gives f → fitted r x' ≡ least_squares_of n rows targets x
-  unfolding least_squares
-  done r f a b a' b' x' z h hf he hr =
-      ap (λ (o : Said Bool). fitted o x') hr ∙ ap fitted_of (hf ∙ ap (λ (q : System). finish n q x) he) ∙ cc (accepted z, le-ltb (length targets) n h)
+    done : (f : Bool) (a b a' b' x' : List Float) → n ≤ length targets → settled f a' b' x' ≡ finish n (system a b) x
+        → system a b ≡ equations_of n rows targets → fitted (gives f) x' ≡ least_squares_of n rows targets x
+    unfolding least_squares
+    done f a b a' b' x' h hf he = ap fitted_of (hf ∙ ap (λ (q : System). finish n q x) he) ∙ cc (accepted, le-ltb (length targets) n h)
 
 -- the right-hand side still has its 18 elements
-eighteen : (k n l : ℕ) (s t : Bool) → l ≡ 18 → t ≡ bad_size n → k ≡ numbered s t → k ≡ 0 → n ≤ l
-eighteen k n l s t h ht e z = rw h (sized k s t n ht e z)
+eighteen : (n l : ℕ) (s t : Bool) → l ≡ 18 → t ≡ bad_size n → 0 ≡ numbered s t → n ≤ l
+eighteen n l s t h ht e = rw h (sized s t e n ht)
 
-pub returns-then-refused-ne0 : goal.returns-then-refused-ne0
-returns-then-refused-ne0 c = search (away)
+pub returns-in_err-check : goal.returns-in_err-check
+returns-in_err-check c = search (away, c.in_err-check.ensures)
 
 pub returns-then-targets-terms : goal.returns-then-targets-terms
-returns-then-targets-terms c = search (few)
+returns-then-targets-terms c = search (few, c.in_ok-check.ensures)
 
 pub add_rows-requires : goal.add_rows-requires
-add_rows-requires c = (search (sized), search (sized), search (rows_fit))
+add_rows-requires c = let e = c.in_ok-check.ensures in (search (sized, e), search (sized, e), search (rows_fit, e))
 
 pub finish_core-requires : goal.finish_core-requires
-finish_core-requires c = (search (sized), search (eighteen, rules), search (answers-fit))
+finish_core-requires c = let e = c.in_ok-check.ensures in (search (sized, e), search (eighteen, rules, e), search (answers-fit, e))
 
 pub returns : goal.returns
 unfolding of_bits
-returns c = search (done)
+returns c = search (done, c.in_ok-check.ensures)

@@ -5,25 +5,29 @@ use mathlib.Core.List.{List}
 use Prim.Native.Nat.{ℕ}
 use lib.ListN.{length}
 use lib.Ieee.{Float}
-use Rattle.answers.specs.Answers.{Said, refused_by, gives}
+use Rattle.std.specs.Prelude.{Result}
+use Rattle.std.specs.Result.{IsErr, IsErrAnd}
+use Rattle.answers.specs.declared.refusal.Refusal.{Refusal}
+use Rattle.answers.specs.Answers.{number_of, refused_by, gives, said}
+use Rattle.answers.proofs.Answers.{passed_on}
 use Rattle.math.specs.Gauss.{numbered, short_system, bad_size, settled, gauss, final, final_of, solve_of}
-use Rattle.math.proofs.Accepted.{turned-away, taken, told, matrix-fits, right-fits, unknowns-fit}
+use Rattle.math.proofs.Accepted.{sent-away, taken, told, matrix-fits, right-fits, unknowns-fit}
 use Rattle.math.proofs.solve.Goals as goal
 
-module _ (k n : ℕ) (s t : Bool) (a b x : List Float) (e : k ≡ numbered s t) (hs : s ≡ short_system n (length a) (length b) (length x)) (ht : t ≡ bad_size n) where
-  away : (k ≡ 0 → ⊥) → final (refused_by k) a b x ≡ solve_of n a b x
+module _ (n : ℕ) (s t : Bool) (a b x : List Float) (hs : s ≡ short_system n (length a) (length b) (length x)) (ht : t ≡ bad_size n) where
+  away : (y : Result Bool Refusal) (r : Refusal) → IsErr y × IsErrAnd y (λ q. q ≡ r) → number_of r ≡ numbered s t → final (said y) a b x ≡ solve_of n a b x
   unfolding solve_of
-  away z = turned-away (λ j. final (refused_by j) a b x) (final_of (gauss n a b x)) k s t _ _ e hs ht z
+  away y r p e = rw (passed_on y r p) (sent-away (λ j. final (refused_by j) a b x) (final_of (gauss n a b x)) s t _ _ hs ht r e)
 
-  done : (r : Said Bool) (f : Bool) (a' b' x' : List Float) → k ≡ 0 → settled f a' b' x' ≡ gauss n a b x → r ≡ gives f → final r a' b' x' ≡ solve_of n a b x
+  done : (f : Bool) (a' b' x' : List Float) → 0 ≡ numbered s t → settled f a' b' x' ≡ gauss n a b x → final (gives f) a' b' x' ≡ solve_of n a b x
   unfolding solve_of
-  done r f a' b' x' z h hr = told r f a' b' x' (gauss n a b x) h hr ∙ taken (λ j. final (refused_by j) a b x) (final_of (gauss n a b x)) k s t _ _ e hs ht z
+  done f a' b' x' e h = told f a' b' x' (gauss n a b x) h ∙ taken (λ j. final (refused_by j) a b x) (final_of (gauss n a b x)) s t _ _ hs ht e
 
-pub returns-then-refused-ne0 : goal.returns-then-refused-ne0
-returns-then-refused-ne0 c = search (away)
+pub returns-in_err-check : goal.returns-in_err-check
+returns-in_err-check c = search (away, c.in_err-check.ensures)
 
 pub solve_core-requires : goal.solve_core-requires
-solve_core-requires c = (search (matrix-fits), search (right-fits), search (unknowns-fit))
+solve_core-requires c = let e = c.in_ok-check.ensures in (search (matrix-fits, e), search (right-fits, e), search (unknowns-fit, e))
 
 pub returns : goal.returns
-returns c = search (done)
+returns c = search (done, c.in_ok-check.ensures)

@@ -1,6 +1,6 @@
--- `math::number` meets its contract: it tries the two sentences in their order. Assumes nothing.
+-- `math::check` meets its contract: it tries the two sentences in their order. Assumes nothing.
 use Rattle.sentences.proofs.Laws.{sentences}
-use Rattle.math.proofs.number.Goals as goal
+use Rattle.math.proofs.check.Goals as goal
 
 pub returns-then-short : goal.returns-then-short
 returns-then-short c = search (sentences)
