@@ -1,6 +1,6 @@
 -- The margin check says yes at a lower threshold wherever it does at a higher one: a score that is at least the one is at least the other, and nothing else of the sentence has the threshold. So yes at 13
 -- gives yes at 9. Assumes nothing.
-use mathlib.Core.Path.{◌≡◌, refl, sym, ap}
+use mathlib.Core.Path.{◌≡◌, sym, ap}
 use mathlib.Core.Bool.{Bool, true, not, ◌&&◌}
 use mathlib.Core.List.{List}
 use Prim.Native.Nat.{ℕ}
@@ -101,4 +101,4 @@ yes_at_nine n palette hues e =
     let v = in_margin (least_of threshold.Thirteen) n palette hues in
     let w = in_margin (least_of threshold.Nine) n palette hues in
     let yes = wider (least-num threshold.Thirteen) (least-num threshold.Nine) lower n palette hues (sym (given_is ss v true (sym e))) in
-    sym (says-given ss w _ refl true (given-none-holds ss v true (sym e)) (sym yes))
+    sym (says-given ss w true (sym (given-none-holds ss v true (sym e))) (sym yes))

@@ -1,21 +1,12 @@
--- The public calls of the margin check: what the cases of the answer say, the settings, and what each call answers. Their sentences are those of a noise record
--- and a palette. Definitions only.
-use Rattle.std.specs.Prelude.{Bool, true, false, List, ℕ, Float}
-use Rattle.answers.specs.Answers.{Said, refused_by, gives, answered}
+-- The public calls of the margin check: the settings, and what each call answers. Their sentences are those of a noise record and a palette. Definitions only.
+use Rattle.std.specs.Prelude.{Bool, List, ℕ, Float}
+use Rattle.answers.specs.Answers.{Said, answered}
 use Rattle.color.specs.Color.{whole}
 use Rattle.stats.specs.declared.ChannelStats.{ChannelStats}
 use Rattle.stats.specs.Calls.{sentences_of}
 use Rattle.margin.specs.declared.Threshold.{Threshold}
 use Rattle.margin.specs.declared.Threshold.TheVariants as threshold
-use Rattle.margin.specs.declared.Verdict.{Verdict}
-use Rattle.margin.specs.declared.Verdict.TheVariants as verdict
 use Rattle.margin.specs.Margin.{in_margin}
-
--- "The margin check says yes", or it says no
-abbrev pub verdict_said : Verdict → Said Bool
-verdict_said (verdict.Refused n) = refused_by n
-verdict_said verdict.Yes = gives true
-verdict_said verdict.No = gives false
 
 -- document 01's threshold is 13
 abbrev pub margin_answer : ChannelStats → List Float → ℕ → Said Bool

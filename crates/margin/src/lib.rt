@@ -3,11 +3,13 @@
 #![tactic(auto)]
 
 ghost use Rattle.std.specs.Prelude.{◌≡◌, ◌<◌, ◌≤◌, length};
+ghost use Rattle.answers.specs.Answers.{said};
 ghost use Rattle.color.specs.Palette.{palette_len};
 ghost use Rattle.margin.specs.Margin as spec;
 ghost use Rattle.margin.specs.Calls as call;
 ghost use Rattle.stats.specs.Ready.{ColourAt, HueAt};
 
+use answers::Refusal;
 use color::Lab;
 use color::palette::{hue_ab, palette_lab};
 use stats::ChannelStats;
@@ -19,14 +21,6 @@ use stats::ChannelStats;
 pub enum Threshold {
     Thirteen,
     Nine,
-}
-
-// What the margin check answers.
-#[derive(Clone, Copy)]
-pub enum Verdict {
-    Refused(u32),
-    Yes,
-    No,
 }
 
 // Whether v is at most 256 in magnitude.
@@ -260,22 +254,21 @@ fn least_of(least: Threshold) -> f32
 // The margin check at a setting: whether every dark and light colour still scores 13, or 9, half a sigma
 // off, and, with chroma on, every colour stands near its hue's point and far from the others. Refused: 3, 5,
 // 8, 9.
-pub fn margin_at(least: Threshold, noise: ChannelStats, palette: &[f32], hues: usize) -> Verdict
-    ensures { call.verdict_said result ≡ call.margin_at_answer least noise palette.now hues }
+pub fn margin_at(
+    least: Threshold,
+    noise: ChannelStats,
+    palette: &[f32],
+    hues: usize,
+) -> Result<bool, Refusal>
+    ensures { said result ≡ call.margin_at_answer least noise palette.now hues }
 {
-    let n = stats::refused(noise, palette, hues);
-    if n != 0 {
-        return Verdict::Refused(n);
-    }
-    if in_margin(least_of(least), noise, palette, hues) {
-        return Verdict::Yes;
-    }
-    Verdict::No
+    stats::check(noise, palette, hues)?;
+    Ok(in_margin(least_of(least), noise, palette, hues))
 }
 
 // The margin check of document 01, at 13. Refused: 3, 5, 8, 9.
-pub fn margin(noise: ChannelStats, palette: &[f32], hues: usize) -> Verdict
-    ensures { call.verdict_said result ≡ call.margin_answer noise palette.now hues }
+pub fn margin(noise: ChannelStats, palette: &[f32], hues: usize) -> Result<bool, Refusal>
+    ensures { said result ≡ call.margin_answer noise palette.now hues }
 {
     margin_at(Threshold::Thirteen, noise, palette, hues)
 }
