@@ -7,7 +7,8 @@ use borrow.Author.Tests.{ltb-false}
 use lib.ListN.{length}
 use lib.Ieee.{Float}
 use Rattle.sentences.specs.Sentences.{refusal, at, fresh, sound}
-use Rattle.sentences.proofs.Laws.{ahead, behind, none-holds}
+use Rattle.sentences.proofs.Laws.{behind, none-holds}
+use Rattle.answers.proofs.Answers.{ahead_on}
 use Rattle.references.specs.References.{bad_positions, short_scratch, too_many, reference_placement}
 
 pub room_in : (lent n : ℕ) → short_scratch lent n ≡ false → 4 * n ≤ lent
@@ -18,16 +19,16 @@ pub few_in : (n : ℕ) → too_many n ≡ false → n ≤ 16384
 unfolding too_many
 few_in n h = ltb-false 16384 n h
 
--- ---- the group of 6 and 7: r is what the code's tests gave
+-- ---- the group of 6 and 7
 
 module _ (side : ℕ) (flat : List Float) (n : ℕ) where
   pub references-sound : sound (reference_placement side flat n) ≡ true
   unfolding reference_placement sound fresh
   references-sound = refl
 
-  module _ (r : ℕ) (e : r ≡ refusal (reference_placement side flat n)) (z : r ≡ 0) where
+  module _ (e : 0 ≡ refusal (reference_placement side flat n)) where
     none : (m : ℕ) → at m (reference_placement side flat n) ≡ false
-    none m = none-holds (reference_placement side flat n) references-sound m (sym z ∙ e)
+    none m = none-holds (reference_placement side flat n) references-sound m e
 
     pub few-placed : n ≤ 16384
     unfolding reference_placement at
@@ -45,5 +46,5 @@ module _ (side : ℕ) (flat : List Float) (n : ℕ) where
 pub stand-tested : (flat : List Float) (n : ℕ) (r : Bool) → r ≡ too_many n → r ≡ false → (n ≤ 16384 → 8 * n ≤ length flat) → 8 * n ≤ length flat
 stand-tested flat n r e f h = h (few_in n (sym e ∙ f))
 
--- a call's `refused` over this group: it refuses, or it is passed
-pub ruleset placements = (ahead, behind, references-sound)
+-- a call's `check` over this group: what it refuses is passed on, or it is passed
+pub ruleset placements = (ahead_on, behind, references-sound)

@@ -4,10 +4,12 @@
 
 ghost use Rattle.std.specs.Prelude.{◌≡◌, ◌+◌, ◌*◌, ◌≤◌, length};
 ghost use Rattle.sentences.specs.Sentences.{refusal};
+ghost use Rattle.answers.specs.Answers.{outcome_number};
 ghost use Rattle.order.specs.Deviation.{cleared};
 ghost use Rattle.references.specs.References as spec;
 ghost use Rattle.references.specs.Ready.{Component};
 
+use answers::Refusal;
 use color::Linear;
 
 // ---- what stands where
@@ -96,18 +98,18 @@ fn bad_positions(side: usize, flat: &[f32], n: usize) -> bool
     false
 }
 
-// Core: the refusal of n references by their number and their positions: 6, 7, or 0.
-pub fn refused_references(side: usize, flat: &[f32], n: usize) -> u32
+// Core: refuses n references by 6 and 7, their number and their positions.
+pub fn check_references(side: usize, flat: &[f32], n: usize) -> Result<(), Refusal>
     requires { (side ≤ 1024) × (n ≤ 16384 → 8 * n ≤ length flat.now) }
-    ensures { result ≡ refusal (spec.reference_placement side flat.now n) }
+    ensures { outcome_number result ≡ refusal (spec.reference_placement side flat.now n) }
 {
     if too_many(n) {
-        return 6;
+        return Err(Refusal::Count);
     }
     if bad_positions(side, flat, n) {
-        return 7;
+        return Err(Refusal::Place);
     }
-    0
+    Ok(())
 }
 
 // ---- sentence 8

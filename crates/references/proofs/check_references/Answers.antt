@@ -1,9 +1,9 @@
--- `refused_references` meets its contract: its sentences in their order; past 6 the references stand in the slice. Assumes nothing.
+-- `check_references` meets its contract: its sentences in their order; past 6 the references stand in the slice. Assumes nothing.
 use borrow.Author.Rules.{rules}
 use Rattle.sentences.proofs.Laws.{sentences}
 use Rattle.references.specs.References.{reference_placement}
 use Rattle.references.proofs.Laws.{stand-tested}
-use Rattle.references.proofs.refused_references.Goals as goal
+use Rattle.references.proofs.check_references.Goals as goal
 
 pub bad_positions-requires : goal.bad_positions-requires
 bad_positions-requires c = (search rules, search (stand-tested))
