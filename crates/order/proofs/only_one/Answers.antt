@@ -1,14 +1,14 @@
 -- `order::only_one` meets its contract: its three tests. Assumes nothing.
+use mathlib.Core.Path.{sym, ◌∙◌}
 use mathlib.Core.Bool.{false≢true}
 use lib.Ieee.{of_bits, div, neg}
 use Rattle.order.proofs.only_one.Goals as goal
+use Rattle.order.proofs.only_one.Goals.{then-x, else-x}
 
-pub returns-then-not-x : goal.returns-then-not-x
-returns-then-not-x c = λ h. absurd (false≢true h)
-
-pub returns-then-not-x-2 : goal.returns-then-not-x-2
-returns-then-not-x-2 c = λ h. absurd (false≢true h)
-
-pub returns : goal.returns
+pub returns-then-x-2 : goal.returns-then-x-2
 unfolding of_bits div neg
-returns c = λ h. record { under = c.if-not-x.false; over = c.if-not-x-2.false; some = h }
+returns-then-x-2 c =
+    elim c.if-x.branch [
+      | then-x w ↦ λ h. record { under = w.if-x.true; over = sym w.value-is ∙ c.if-x-2.true; some = h }
+      | else-x w ↦ absurd (false≢true (sym w.if-x.false ∙ sym w.value-is ∙ c.if-x-2.true))
+    ]
