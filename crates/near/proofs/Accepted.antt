@@ -1,6 +1,6 @@
 -- The call: what is known where no sentence holds, and what each of its two ways out answers. A number of 32 bits that is given on is read
 -- back from its bits, `to_z w32 (of_z w32 x)`. Assumes nothing.
-use mathlib.Core.Path.{◌≡◌, refl, sym, ap, ap₂, ◌∙◌, subst}
+use mathlib.Core.Path.{◌≡◌, refl, ap, ap₂, ◌∙◌, subst}
 use mathlib.Core.Bool.{Bool, false, not, ◌||◌}
 use mathlib.Core.List.{List}
 use Prim.Native.Nat.{ℕ, ◌*◌, ◌/◌, ◌%◌, ◌≤◌}
@@ -20,7 +20,11 @@ use Rattle.limits.proofs.Laws.{side_in}
 use Rattle.places.specs.Places.{outside}
 use Rattle.references.specs.References.{too_many}
 use Rattle.references.proofs.Laws.{few_in}
-use Rattle.answers.specs.Answers.{refused_by, gives}
+use Rattle.std.specs.Prelude.{Result}
+use Rattle.std.specs.Result.{IsErr, IsErrAnd}
+use Rattle.answers.specs.declared.refusal.Refusal.{Refusal}
+use Rattle.answers.specs.Answers.{number_of, refused_by, gives, said}
+use Rattle.answers.proofs.Answers.{numbered, passed_on}
 use Rattle.near.specs.declared.Query.{Query}
 use Rattle.near.specs.declared.Query.TheVariants as query
 use Rattle.near.specs.Order.{Strict}
@@ -97,20 +101,30 @@ module _ (q : Request) (e : 0 ≡ refusal (sentences_of q)) where
           radius = radius_in wide;
         }
 
+-- a refusal that is passed on is no answer
+pub not_given : (a : Result ℕ Refusal) (r : Refusal) → IsErr a × IsErrAnd a (λ b. b ≡ r) → (said a).number ≡ 0 → ⊥
+not_given a r p = rw (passed_on a r p) (numbered r)
+
 module _ (xy : List Float) (kept : List ℕ) (side : ℕ) (x y : ℤ) (q : Query) (out : List ℕ) (fx : SFits w32 x) (fy : SFits w32 y) where
   -- sentence 7, of a module that is given on
   pub given_on : (n : ℕ) (r : Bool) → r ≡ bad_places side xy n (to_z w32 (of_z w32 x)) (to_z w32 (of_z w32 y)) q → r ≡ bad_places side xy n x y q
   given_on n r e = cc (to_z-of_z fx, to_z-of_z fy)
 
-  module _ (n : ℕ) (e : n ≡ refusal (sentences_of (request xy kept side (to_z w32 (of_z w32 x)) (to_z w32 (of_z w32 y)) q out))) where
-    own : n ≡ refusal (sentences_of (request xy kept side x y q out))
-    own = e ∙ ap₂ (λ (a b : ℤ). refusal (sentences_of (request xy kept side a b q out))) (to_z-of_z fx) (to_z-of_z fy)
+  own : (n : ℕ) → n ≡ refusal (sentences_of (request xy kept side (to_z w32 (of_z w32 x)) (to_z w32 (of_z w32 y)) q out))
+      → n ≡ refusal (sentences_of (request xy kept side x y q out))
+  own n e = e ∙ ap₂ (λ (a b : ℤ). refusal (sentences_of (request xy kept side a b q out))) (to_z-of_z fx) (to_z-of_z fy)
 
-    pub refused-answer : (n ≡ 0 → ⊥) → final (refused_by n) out ≡ near_of (request xy kept side x y q out)
+  -- a refusal that is passed on
+  module _ (a : Result ℕ Refusal) (r : Refusal) (p : IsErr a × IsErrAnd a (λ b. b ≡ r)) where
+    pub refused-answer : number_of r ≡ refusal (sentences_of (request xy kept side (to_z w32 (of_z w32 x)) (to_z w32 (of_z w32 y)) q out))
+        → final (said a) out ≡ near_of (request xy kept side x y q out)
     unfolding near_of
-    refused-answer z = refuses (λ (k : ℕ). final (refused_by k) out) _ n (refusal (sentences_of (request xy kept side x y q out))) z own
+    refused-answer e =
+        rw (passed_on a r p)
+        (refuses (λ (k : ℕ). final (refused_by k) out) _ (number_of r) (refusal (sentences_of (request xy kept side x y q out))) (numbered r) (own (number_of r) e))
 
-    module _ (z : n ≡ 0) (cx cy : Float) (ex : cx ≡ centre (to_z w32 (of_z w32 x))) (ey : cy ≡ centre (to_z w32 (of_z w32 y))) where
+  module _ (e : 0 ≡ refusal (sentences_of (request xy kept side (to_z w32 (of_z w32 x)) (to_z w32 (of_z w32 y)) q out))) where
+    module _ (cx cy : Float) (ex : cx ≡ centre (to_z w32 (of_z w32 x))) (ey : cy ≡ centre (to_z w32 (of_z w32 y))) where
       at_x : cx ≡ centre x
       at_x = ex ∙ ap centre (to_z-of_z fx)
 
@@ -121,7 +135,7 @@ module _ (xy : List Float) (kept : List ℕ) (side : ℕ) (x y : ℤ) (q : Query
           → (2 * (length xy / 2) ≤ length xy) × (length xy / 2 ≤ length kept) × (length xy / 2 ≤ length out) × (length xy / 2 ≤ 16384) × Strict (before xy cx cy) (length xy / 2)
       ready good =
           let q = request xy kept side x y q out in
-          let w = sym z ∙ own in
+          let w = own 0 e in
           (omega arith, (enough q w).0, (enough q w).1, few_in (length xy / 2) (ok_count q w), rw (at_x, at_y) (in_order q w good))
 
       pub found-answer : (m : ℕ) (after : List ℕ) → ((i : ℕ) → T (fits binary32 (get_or xy i nan))) → ((r : Float) → q ≡ query.Within r → T (fits binary32 r))
@@ -130,10 +144,10 @@ module _ (xy : List Float) (kept : List ℕ) (side : ℕ) (x y : ℤ) (q : Query
       unfolding near_of
       found-answer m after good wide h =
           let w = request xy kept side x y q out in
-          let e : 0 ≡ refusal (sentences_of w) = sym z ∙ own in
+          let f : 0 ≡ refusal (sentences_of w) = own 0 e in
           let list : IsPromised q (before_of w) (chosen_of w) (length xy / 2) m after = rw (at_x, at_y) at h.0 in
-          let l : m ≤ length out = omega (arith, h.1.0, (enough w e).1) in (
-            ap₂ (λ (k : ℕ) (o : List ℕ). final (gives k) o) (count_defined w e good m after list h.1.1) (as_defined w e good m after list h.1.1 l)
-                ∙ accepts (λ (k : ℕ). final (refused_by k) out) (final (gives (length (list_of w))) (written (list_of w) out)) n (refusal (sentences_of w)) z own,
-            λ d. as_promised w e good m after list h.1.1 wide,
+          let l : m ≤ length out = omega (arith, h.1.0, (enough w f).1) in (
+            ap₂ (λ (k : ℕ) (o : List ℕ). final (gives k) o) (count_defined w f good m after list h.1.1) (as_defined w f good m after list h.1.1 l)
+                ∙ accepts (λ (k : ℕ). final (refused_by k) out) (final (gives (length (list_of w))) (written (list_of w) out)) 0 (refusal (sentences_of w)) refl f,
+            λ d. as_promised w f good m after list h.1.1 wide,
           )

@@ -10,12 +10,12 @@
 
 ghost use Rattle.std.specs.Prelude.{◌≡◌, ◌+◌, ◌*◌, ◌/◌, ◌<◌, ◌≤◌, length, get_or};
 ghost use Rattle.sentences.specs.Sentences.{refusal};
-ghost use Rattle.answers.specs.Answers.{said};
+ghost use Rattle.answers.specs.Answers.{outcome_number, said};
 ghost use Rattle.near.specs.Order as order;
 ghost use Rattle.near.specs.Near as spec;
 ghost use Rattle.near.specs.declared.Query.TheVariants as query;
 
-use answers::Number;
+use answers::Refusal;
 
 // What is asked of the kept references: the three nearest, all within a radius, or all that a column cuts off.
 #[derive(Clone, Copy)]
@@ -412,26 +412,34 @@ fn bad_radius(query: Query) -> bool
     }
 }
 
-// The number of the first sentence that holds, or 0.
-fn refused(xy: &[f32], kept: &[u8], side: usize, x: i32, y: i32, query: Query, out: &[u32]) -> u32
-    ensures { result ≡ refusal (spec.sentences_of (spec.request xy.now kept.now side x y query out.now)) }
+// Refuses by the first sentence that holds.
+fn check(
+    xy: &[f32],
+    kept: &[u8],
+    side: usize,
+    x: i32,
+    y: i32,
+    query: Query,
+    out: &[u32],
+) -> Result<(), Refusal>
+    ensures { outcome_number result ≡ refusal (spec.sentences_of (spec.request xy.now kept.now side x y query out.now)) }
 {
     if limits::bad_side(side) {
-        return 2;
+        return Err(Refusal::Side);
     }
     if short(xy.len(), kept.len(), out.len()) {
-        return 5;
+        return Err(Refusal::Length);
     }
     if references::too_many(xy.len() / 2) {
-        return 6;
+        return Err(Refusal::Count);
     }
     if bad_places(side, xy, xy.len() / 2, x, y, query) {
-        return 7;
+        return Err(Refusal::Place);
     }
     if bad_radius(query) {
-        return 15;
+        return Err(Refusal::Radius);
     }
-    0
+    Ok(())
 }
 
 // Lists the kept references that the query asks for, seen from the module at (x, y), the nearest first and of equal distances
@@ -446,14 +454,11 @@ pub fn near(
     y: i32,
     query: Query,
     out: &mut [u32],
-) -> Number
+) -> Result<usize, Refusal>
     ensures out_after { spec.final (said result) out.new ≡ spec.near_of (spec.request xy.now kept.now side x y query out.old) }
     ensures found { (said result).number ≡ 0 → spec.Found (spec.request xy.now kept.now side x y query out.old) out.new }
 {
-    let n = refused(xy, kept, side, x, y, query, out);
-    if n != 0 {
-        return Number::Refused(n);
-    }
+    check(xy, kept, side, x, y, query, out)?;
     let count = find(query, xy, kept, centre(x), centre(y), xy.len() / 2, out);
-    Number::Is(count)
+    Ok(count)
 }

@@ -11,7 +11,7 @@ use Rattle.near.specs.declared.Query.{Query}
 use Rattle.near.specs.declared.Query.TheVariants as query
 use Rattle.near.specs.contracts.Query as Q
 use Rattle.near.proofs.Query.TheLaws as Q'
-use Rattle.near.proofs.Accepted.{refused-answer, ready, found-answer}
+use Rattle.near.proofs.Accepted.{refused-answer, not_given, ready, found-answer}
 use Rattle.near.proofs.near.Goals as goal
 
 -- a radius that is handed over is a value of f32
@@ -21,26 +21,20 @@ Good q = Is (row Q.the_type) q (val Q.the_type Q'.the_laws q ∷ [])
 radius-fits : (q : Query) → Good q → (r : Float) → q ≡ query.Within r → T (fits binary32 r)
 radius-fits q g r e = subst T (sym (owed Q.the_type Q'.the_laws (query.Within r) _ (subst Good e g)).0.1) tt
 
-pub returns-then-n-ne0 : goal.returns-then-n-ne0
-returns-then-n-ne0 c =
-    let s = c in record {
-      out_after = refused-answer s.args.xy.now s.args.kept.now s.args.side s.args.x s.args.y s.args.query s.args.out.now s.ranges.x s.ranges.y c.refused-n.result
-          c.refused-n.ensures c.if-n-ne0.true;
-      found = λ e. absurd (c.if-n-ne0.true e);
+pub returns-in_err-check : goal.returns-in_err-check
+returns-in_err-check c =
+    record {
+      out_after = refused-answer _ _ _ _ _ _ _ c.ranges.x c.ranges.y _ _ c.from_residual.ensures c.in_err-check.ensures;
+      found = λ e. absurd (not_given _ _ c.from_residual.ensures e);
     }
 
 pub find-count-requires : goal.find-count-requires
 find-count-requires c =
-    let s = c in
-    ready s.args.xy.now s.args.kept.now s.args.side s.args.x s.args.y s.args.query s.args.out.now s.ranges.x s.ranges.y c.refused-n.result
-    c.refused-n.ensures c.if-n-ne0.false c.centre.result c.centre-2.result c.centre.ensures c.centre-2.ensures
-    (λ i. c.shared_slice_known-1.given i)
+    ready _ _ _ _ _ _ _ c.ranges.x c.ranges.y c.in_ok-check.ensures _ _ c.centre.ensures c.centre-2.ensures (λ i. c.type_inv.xy i)
 
 pub returns : goal.returns
 returns c =
-    let s = c in
-    let r = found-answer s.args.xy.now s.args.kept.now s.args.side s.args.x s.args.y s.args.query s.args.out.now s.ranges.x s.ranges.y c.refused-n.result
-    c.refused-n.ensures c.if-n-ne0.false c.centre.result c.centre-2.result c.centre.ensures c.centre-2.ensures
-    c.find-count.result c.find-count.new.out (λ i. c.shared_slice_known-1.given i) (radius-fits s.args.query s.well_formed.1.1.1.1.1.0)
+    let r = found-answer _ _ _ _ _ _ _ c.ranges.x c.ranges.y c.in_ok-check.ensures _ _ c.centre.ensures c.centre-2.ensures
+    _ _ (λ i. c.type_inv.xy i) (radius-fits c.args.query c.well_formed.1.1.1.1.1.0)
     (c.find-count.ensures.promised, c.find-count.ensures.upper_bound) in
     record { out_after = r.0; found = r.1 }

@@ -1,4 +1,4 @@
--- `near::refused` meets its contract: the sentences, one after the other; past 2 the side is at most 1,024.
+-- `near::check` meets its contract: the sentences, one after the other; past 2 the side is at most 1,024.
 -- Assumes nothing.
 use mathlib.Core.Path.{◌≡◌, sym, ◌∙◌}
 use mathlib.Core.Bool.{Bool, false}
@@ -10,7 +10,7 @@ use Rattle.limits.proofs.Laws.{side_in}
 use Rattle.near.specs.Near.{sentences_of}
 use Rattle.near.proofs.Accepted.{given_on}
 use borrow.Author.Rules.{rules}
-use Rattle.near.proofs.refused.Goals as goal
+use Rattle.near.proofs.check.Goals as goal
 
 most : (side : ℕ) (r : Bool) → r ≡ bad_side side → r ≡ false → side ≤ 1024
 most side r e f = (side_in side (sym e ∙ f)).1
