@@ -3,13 +3,16 @@
 // cells (6, 7).
 //
 // A group is a list of sentences (specs/Groups.antt), which a call's own list is joined from by `++`; a function that
-// answers the number of its first sentence that holds, or 0; and a record of what holds where it is passed. The ruleset
+// answers the refusal of its first sentence that holds; and a record of what holds where it is passed. The ruleset
 // `layouts` (proofs/Laws.antt) proves a call's `refused` over groups and sentences of its own, one test for each.
 #![tactic(auto)]
 
 ghost use Rattle.std.specs.Prelude.{◌≡◌, ◌≤◌, length};
 ghost use Rattle.sentences.specs.Sentences.{refusal};
+ghost use Rattle.answers.specs.Answers.{outcome_number};
 ghost use Rattle.layout.specs.Groups.{Shaped, Paired, shape, placement, module_placement, bad_positions};
+
+use answers::Refusal;
 
 // A card's side in modules, its hue count, the size of its chroma cells in modules, and how many of its listed modules
 // are grid modules. Any numbers: the calls that take a layout refuse those that are none.
@@ -22,57 +25,58 @@ pub struct Layout {
     pub grid: usize,
 }
 
-// Core: the refusal of a layout by itself: 2, 3, 4, or 0.
-pub fn refused_shape(layout: Layout) -> u32
-    ensures { result ≡ refusal (shape layout) }
+// Core: whether a layout by itself passes. Refused: 2, 3, 4.
+#[tactic(auto, unfolding(sentences::specs::Sentences::refusal, crate::specs::Groups::shape))]
+pub fn check_shape(layout: Layout) -> Result<(), Refusal>
+    ensures { outcome_number result ≡ refusal (shape layout) }
 {
     if limits::bad_side(layout.side) {
-        return 2;
+        return Err(Refusal::Side);
     }
     if limits::bad_hues(layout.hues) {
-        return 3;
+        return Err(Refusal::Hues);
     }
     if limits::bad_cell_size(layout.size) {
-        return 4;
+        return Err(Refusal::CellSize);
     }
-    0
+    Ok(())
 }
 
 // Sentence 7, of modules and cells.
+#[tactic(auto, unfolding(crate::specs::Groups::bad_positions))]
 fn bad_positions(layout: Layout, xs: &[i32], ys: &[i32], cxs: &[u16], cys: &[u16]) -> bool
     requires { Shaped layout × Paired xs.now ys.now cxs.now cys.now }
     ensures { result ≡ bad_positions layout xs.now ys.now cxs.now cys.now }
 {
-    if places::bad_places(layout.side, layout.grid, xs, ys) {
-        return true;
-    }
-    limits::bad_cells(cxs, cys)
+    places::bad_places(layout.side, layout.grid, xs, ys) || limits::bad_cells(cxs, cys)
 }
 
-// Core: the refusal of the modules and cells that are placed on a layout: 6, 7, or 0.
-pub fn refused_placement(layout: Layout, xs: &[i32], ys: &[i32], cxs: &[u16], cys: &[u16]) -> u32
+// Core: whether the modules and cells that are placed on a layout pass. Refused: 6, 7.
+#[tactic(auto, unfolding(sentences::specs::Sentences::refusal, crate::specs::Groups::placement))]
+pub fn check_placement(layout: Layout, xs: &[i32], ys: &[i32], cxs: &[u16], cys: &[u16]) -> Result<(), Refusal>
     requires { Shaped layout × Paired xs.now ys.now cxs.now cys.now }
-    ensures { result ≡ refusal (placement layout xs.now ys.now cxs.now cys.now) }
+    ensures { outcome_number result ≡ refusal (placement layout xs.now ys.now cxs.now cys.now) }
 {
     if limits::bad_counts(xs.len(), layout.grid, cxs.len()) {
-        return 6;
+        return Err(Refusal::Count);
     }
     if bad_positions(layout, xs, ys, cxs, cys) {
-        return 7;
+        return Err(Refusal::Place);
     }
-    0
+    Ok(())
 }
 
-// Core: the refusal of modules alone, of which the first `grid` are grid modules: 6, 7, or 0.
-pub fn refused_modules(side: usize, grid: usize, xs: &[i32], ys: &[i32]) -> u32
+// Core: whether modules alone pass, of which the first `grid` are grid modules. Refused: 6, 7.
+#[tactic(auto, unfolding(sentences::specs::Sentences::refusal, crate::specs::Groups::module_placement))]
+pub fn check_modules(side: usize, grid: usize, xs: &[i32], ys: &[i32]) -> Result<(), Refusal>
     requires { (side ≤ 1024) × (length xs.now ≡ length ys.now) }
-    ensures { result ≡ refusal (module_placement side grid xs.now ys.now) }
+    ensures { outcome_number result ≡ refusal (module_placement side grid xs.now ys.now) }
 {
     if limits::bad_modules(xs.len(), grid) {
-        return 6;
+        return Err(Refusal::Count);
     }
     if places::bad_places(side, grid, xs, ys) {
-        return 7;
+        return Err(Refusal::Place);
     }
-    0
+    Ok(())
 }

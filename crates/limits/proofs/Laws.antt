@@ -3,7 +3,7 @@ use mathlib.Core.Path.{◌≡◌, refl, sym, ap, ◌∙◌}
 use mathlib.Core.Logic.{◌⊎◌, inl, inr, ⊎_elim}
 use mathlib.Core.Bool.{Bool, true, false, cond, ◌||◌}
 use mathlib.Core.List.{List}
-use Prim.Native.Nat.{ℕ, zero, suc, ◌/◌, ◌^◌, ◌≤◌, ◌<◌}
+use Prim.Native.Nat.{ℕ, zero, suc, ◌*◌, ◌/◌, ◌^◌, ◌≤◌, ◌<◌}
 use native.Mathlib.Nat.{pow-suc, mul-div_cancel}
 use native.Mathlib.Omega.{arith}
 use lib.Pow.{pow_pos}
@@ -75,6 +75,14 @@ log2_pow zero = log2-small 1 (omega arith)
 log2_pow (suc q) =
     let e : 2 ^ suc q / 2 ≡ 2 ^ q = ap (λ (x : ℕ). x / 2) (pow-suc 2 q) ∙ mul-div_cancel (2 ^ q) (omega arith) in
     log2_step (2 ^ suc q) (omega (arith, pow-suc 2 q, pow_pos q)) ∙ ap suc (ap log2 e ∙ log2_pow q)
+
+-- it is the only k for which n is at least 2 ^ k and below twice that
+pub log2_between : (k n : ℕ) → 2 ^ k ≤ n → n < 2 * 2 ^ k → log2 n ≡ k
+log2_between zero n h g = log2-small n (omega arith)
+log2_between (suc k) n h g =
+    let e : 2 ^ suc k ≡ 2 ^ k * 2 = pow-suc 2 k in
+    let p : 1 ≤ 2 ^ k = pow_pos k in
+    log2_step n (omega arith) ∙ ap suc (log2_between k (n / 2) (omega arith) (omega arith))
 
 -- ---- hue counts
 

@@ -1,12 +1,13 @@
 -- A list whose first n entries are replaced one after the other has each of them replaced, its tail and its length as they were, since no turn comes back to an entry;
 -- so replacing twice by what undoes itself restores the list. Assumes nothing.
-use mathlib.Core.Path.{◌≡◌, refl, ap, ◌∙◌}
+use mathlib.Core.Path.{◌≡◌, refl, sym, ap, ◌∙◌}
 use mathlib.Core.Logic.{⊎_elim}
 use mathlib.Core.Bool.{Bool, true, false}
 use mathlib.Core.List.{List}
 use Prim.Native.Nat.{ℕ, suc, ◌≤◌, ◌<◌}
 use native.Mathlib.Omega.{arith}
 use native.Mathlib.Nat.{eq-or-lt_of_le}
+use Rattle.std.proofs.lemmas.Bool.{cases_lt}
 use borrow.Author.Tests.{ltb-true, ltb-false}
 use lib.Dec.{ltb}
 use lib.ListN.{length, get_or, length-set}
@@ -34,6 +35,14 @@ module _ {A : Type 0} (d : A) (f : ℕ → A → A) (l : List A) where
 
   pub reached : (n : ℕ) → n ≤ length l → Reached n (replaced d n f l)
   reached n h = for_up_to Reached (replace_at d f) n 0 l (omega arith) start (λ i q r s p. next i s (omega arith) p)
+
+-- a list that is as long, has the replaced entries first and the others as they were, however it was written
+pub is_replaced : {A : Type 0} (d : A) (n : ℕ) (f : ℕ → A → A) (l s : List A) → n ≤ length l → length s ≡ length l →
+    ((j : ℕ) → j < n → get_or s j d ≡ f j (get_or l j d)) → ((j : ℕ) → n ≤ j → get_or s j d ≡ get_or l j d) → s ≡ replaced d n f l
+is_replaced d n f l s h e done kept =
+    let r = reached d f l n h in
+    ext_get_or d s (replaced d n f l) (e ∙ sym r.long)
+    (λ j q. ⊎_elim (λ (u : j < n). done j u ∙ sym (r.done j u)) (λ (u : n ≤ j). kept j u ∙ sym (r.kept j u)) (cases_lt j n))
 
 module _ {A : Type 0} (d : A) (f : ℕ → A → A) (n : ℕ) (l : List A) (h : n ≤ length l) where
   long-again : n ≤ length (replaced d n f l)

@@ -5,38 +5,39 @@ ghost use Rattle.std.specs.Prelude.{◌≡◌, ◌≤◌, length};
 ghost use Rattle.answers.specs.Answers.{ended};
 ghost use Rattle.reading.specs.Read as spec;
 
-use answers::Outcome;
+use answers::Refusal;
 
 // The bit that a score stands for: 1 below zero, 0 above it, and 2, an erasure, for either zero and for NaN. Refuses
 // nothing.
+#[tactic(auto, unfolding(crate::specs::Read::reads))]
 pub fn read(score: f32) -> u8
     ensures { result ≡ spec.reads score }
 {
     if score < 0.0 {
-        return 1;
+        1
+    } else if 0.0 < score {
+        0
+    } else {
+        2
     }
-    if 0.0 < score {
-        return 0;
-    }
-    2
 }
 
 fn read_all(scores: &[f32], bits: &mut [u8])
     requires { length scores.now ≤ length bits.old }
     ensures { bits.new ≡ spec.read_list scores.now bits.old }
 {
-    for i in 0..scores.len() {
-        bits[i] = read(scores[i]);
+    for (bit, &score) in bits.iter_mut().zip(scores) {
+        *bit = read(score);
     }
 }
 
 // The bits of a list of scores, one a score, 2 where a score is an erasure. Refused: 5; nothing is written then.
-pub fn read_list(scores: &[f32], bits: &mut [u8]) -> Outcome
+pub fn read_list(scores: &[f32], bits: &mut [u8]) -> Result<(), Refusal>
     ensures { ended result bits.new ≡ spec.read_list_of scores.now bits.old }
 {
     if bits.len() < scores.len() {
-        return Outcome::Refused(5);
+        return Err(Refusal::Length);
     }
     read_all(scores, bits);
-    Outcome::Done
+    Ok(())
 }

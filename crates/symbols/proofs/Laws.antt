@@ -56,7 +56,7 @@ module _ (k : ℕ) (p : 0 < k) where
   -- a call at the same cell meets the same sentences, and none of them held
   again : (cx cy v x y : ℕ) → gives v ≡ answered (hues_and_cell k cx cy) x → (h : ℕ) → (v ≡ x → y ≡ h) → gives h ≡ answered (hues_and_cell k cx cy) y
   again cx cy v x y e h f =
-      says-given (hues_and_cell k cx cy) y 0 (sym (given-none-holds (hues_and_cell k cx cy) x v e)) h refl (sym (f (given_is (hues_and_cell k cx cy) x v e)))
+      says-given (hues_and_cell k cx cy) y h (sym (given-none-holds (hues_and_cell k cx cy) x v e)) (sym (f (given_is (hues_and_cell k cx cy) x v e)))
 
   pub calls_undo : CallsUndo k
   calls_undo =

@@ -4,12 +4,12 @@
 
 ghost use Rattle.std.specs.Prelude.{◌≡◌, ◌/◌, ◌%◌, ◌<◌};
 ghost use Rattle.sentences.specs.Sentences.{refusal};
-ghost use Rattle.answers.specs.Answers.{said, answered, hues_only, hues_and_cell};
+ghost use Rattle.answers.specs.Answers.{said, outcome_number, answered, hues_only, hues_and_cell};
 ghost use Rattle.symbols.specs.Ready.{HueCount};
 ghost use Rattle.symbols.specs.Gray as gray_code;
 ghost use Rattle.symbols.specs.Mask as masks;
 
-use answers::Number;
+use answers::Refusal;
 
 // ---- Gray code
 
@@ -38,22 +38,17 @@ fn remainder(n: usize, hues: usize) -> usize
     requires { 0 < hues }
     ensures { result ≡ n % hues }
 {
-    if hues == 2 {
-        return n % 2;
+    match hues {
+        2 => n % 2,
+        4 => n % 4,
+        8 => n % 8,
+        16 => n % 16,
+        _ => n % hues,
     }
-    if hues == 4 {
-        return n % 4;
-    }
-    if hues == 8 {
-        return n % 8;
-    }
-    if hues == 16 {
-        return n % 16;
-    }
-    n % hues
 }
 
 // Core: the hue state of a chroma symbol, of a hue count that sentence 3 lets pass.
+#[tactic(auto, unfolding(crate::specs::Gray::chroma_symbol_to_hue))]
 pub fn symbol_hue(symbol: usize, hues: usize) -> usize
     requires { 0 < hues }
     ensures { result ≡ gray_code.chroma_symbol_to_hue symbol hues }
@@ -62,6 +57,7 @@ pub fn symbol_hue(symbol: usize, hues: usize) -> usize
 }
 
 // Core: the chroma symbol of a hue state, of a hue count that sentence 3 lets pass.
+#[tactic(auto, unfolding(crate::specs::Gray::hue_to_chroma_symbol))]
 pub fn hue_symbol(hue: usize, hues: usize) -> usize
     requires { 0 < hues }
     ensures { result ≡ gray_code.hue_to_chroma_symbol hue hues }
@@ -70,23 +66,23 @@ pub fn hue_symbol(hue: usize, hues: usize) -> usize
 }
 
 // The hue state of a chroma symbol: neighbours on the colour wheel differ in one bit of the symbol. Refused: 3.
-pub fn chroma_symbol_to_hue(symbol: usize, hues: usize) -> Number
+pub fn chroma_symbol_to_hue(symbol: usize, hues: usize) -> Result<usize, Refusal>
     ensures { said result ≡ answered (hues_only hues) (gray_code.chroma_symbol_to_hue symbol hues) }
 {
     if limits::bad_hues(hues) {
-        return Number::Refused(3);
+        return Err(Refusal::Hues);
     }
-    Number::Is(symbol_hue(symbol, hues))
+    Ok(symbol_hue(symbol, hues))
 }
 
 // The chroma symbol of a hue state. Refused: 3.
-pub fn hue_to_chroma_symbol(hue: usize, hues: usize) -> Number
+pub fn hue_to_chroma_symbol(hue: usize, hues: usize) -> Result<usize, Refusal>
     ensures { said result ≡ answered (hues_only hues) (gray_code.hue_to_chroma_symbol hue hues) }
 {
     if limits::bad_hues(hues) {
-        return Number::Refused(3);
+        return Err(Refusal::Hues);
     }
-    Number::Is(hue_symbol(hue, hues))
+    Ok(hue_symbol(hue, hues))
 }
 
 // ---- masks
@@ -95,45 +91,34 @@ pub fn hue_to_chroma_symbol(hue: usize, hues: usize) -> Number
 fn third(x: u16) -> u32
     ensures { result ≡ x / 3 }
 {
-    (x as u32 * 43691) >> 17
+    (u32::from(x) * 43691) >> 17
 }
 
 // Whether mask `id`, of which the low three bits count, turns the luma bit of the module at (x, y). Refuses nothing.
+#[tactic(auto, unfolding(crate::specs::Mask::luma_mask, crate::specs::Mask::mask_rules))]
 pub fn luma_mask(id: u8, x: u16, y: u16) -> bool
     ensures { result ≡ masks.luma_mask id x y }
 {
-    let rule = id % 8;
-    let c = x as u32;
-    let r = y as u32;
-    if rule == 0 {
-        return (r + c) % 2 == 0;
+    let c = u32::from(x);
+    let r = u32::from(y);
+    match id % 8 {
+        0 => (r + c) % 2 == 0,
+        1 => r % 2 == 0,
+        2 => c % 3 == 0,
+        3 => (r + c) % 3 == 0,
+        4 => (r / 2 + third(x)) % 2 == 0,
+        5 => r * c % 2 + r * c % 3 == 0,
+        6 => (r * c % 2 + r * c % 3) % 2 == 0,
+        _ => ((r + c) % 2 + r * c % 3) % 2 == 0,
     }
-    if rule == 1 {
-        return r % 2 == 0;
-    }
-    if rule == 2 {
-        return c % 3 == 0;
-    }
-    if rule == 3 {
-        return (r + c) % 3 == 0;
-    }
-    if rule == 4 {
-        return (r / 2 + third(x)) % 2 == 0;
-    }
-    if rule == 5 {
-        return r * c % 2 + r * c % 3 == 0;
-    }
-    if rule == 6 {
-        return (r * c % 2 + r * c % 3) % 2 == 0;
-    }
-    ((r + c) % 2 + r * c % 3) % 2 == 0
 }
 
+#[tactic(auto, unfolding(crate::specs::Mask::chroma_rotation))]
 fn rotation(cx: u16, cy: u16, hues: usize) -> usize
     requires { 0 < hues }
     ensures { (result ≡ masks.chroma_rotation cx cy hues) × (result < hues) }
 {
-    remainder(cx as usize + cy as usize, hues)
+    remainder(usize::from(cx) + usize::from(cy), hues)
 }
 
 // Core: `chroma_mask_apply` without its refusals.
@@ -152,48 +137,40 @@ pub fn remove(hue: usize, cx: u16, cy: u16, hues: usize) -> usize
     remainder(remainder(hue, hues) + hues - rotation(cx, cy, hues), hues)
 }
 
-// Core: the number of the first sentence on a hue count and a cell that holds, or 0.
-pub fn refused_cell(hues: usize, cx: u16, cy: u16) -> u32
-    ensures { result ≡ refusal (hues_and_cell hues cx cy) }
+// Core: whether a hue count and a cell pass. Refused: 3, 7.
+#[tactic(auto, unfolding(sentences::specs::Sentences::refusal))]
+pub fn check_cell(hues: usize, cx: u16, cy: u16) -> Result<(), Refusal>
+    ensures { outcome_number result ≡ refusal (hues_and_cell hues cx cy) }
 {
     if limits::bad_hues(hues) {
-        return 3;
+        return Err(Refusal::Hues);
     }
     if limits::bad_cell(cx, cy) {
-        return 7;
+        return Err(Refusal::Place);
     }
-    0
+    Ok(())
 }
 
 // By how many hues the cell (cx, cy) is rotated. Refused: 3, 7.
-pub fn chroma_rotation(cx: u16, cy: u16, hues: usize) -> Number
+pub fn chroma_rotation(cx: u16, cy: u16, hues: usize) -> Result<usize, Refusal>
     ensures { said result ≡ answered (hues_and_cell hues cx cy) (masks.chroma_rotation cx cy hues) }
 {
-    let n = refused_cell(hues, cx, cy);
-    if n != 0 {
-        return Number::Refused(n);
-    }
-    Number::Is(rotation(cx, cy, hues))
+    check_cell(hues, cx, cy)?;
+    Ok(rotation(cx, cy, hues))
 }
 
 // The hue that the cell (cx, cy) draws for `hue`, of which the remainder by `hues` counts. Refused: 3, 7.
-pub fn chroma_mask_apply(hue: usize, cx: u16, cy: u16, hues: usize) -> Number
+pub fn chroma_mask_apply(hue: usize, cx: u16, cy: u16, hues: usize) -> Result<usize, Refusal>
     ensures { said result ≡ answered (hues_and_cell hues cx cy) (masks.chroma_mask_apply hue cx cy hues) }
 {
-    let n = refused_cell(hues, cx, cy);
-    if n != 0 {
-        return Number::Refused(n);
-    }
-    Number::Is(apply(hue, cx, cy, hues))
+    check_cell(hues, cx, cy)?;
+    Ok(apply(hue, cx, cy, hues))
 }
 
 // The hue that the cell (cx, cy) drew as `hue`, of which the remainder by `hues` counts. Refused: 3, 7.
-pub fn chroma_mask_remove(hue: usize, cx: u16, cy: u16, hues: usize) -> Number
+pub fn chroma_mask_remove(hue: usize, cx: u16, cy: u16, hues: usize) -> Result<usize, Refusal>
     ensures { said result ≡ answered (hues_and_cell hues cx cy) (masks.chroma_mask_remove hue cx cy hues) }
 {
-    let n = refused_cell(hues, cx, cy);
-    if n != 0 {
-        return Number::Refused(n);
-    }
-    Number::Is(remove(hue, cx, cy, hues))
+    check_cell(hues, cx, cy)?;
+    Ok(remove(hue, cx, cy, hues))
 }

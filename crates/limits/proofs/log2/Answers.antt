@@ -1,19 +1,14 @@
--- `limits::log2` meets its contract: what was counted and the logarithm of what is left make the whole. Assumes nothing.
-use mathlib.Core.Path.{◌≡◌}
-use Prim.Native.Nat.{ℕ, ◌+◌, ◌/◌, ◌≤◌, ◌<◌}
-use native.Mathlib.Omega.{arith}
+-- `limits::log2` meets its contract: the library's logarithm of n is the only k for which n is at least 2 ^ k and below twice that, and there is none of 0. Assumes nothing.
+use Rattle.std.specs.Prelude.{◌≡◌, ℕ, ◌*◌, ◌^◌, ◌≤◌, ◌<◌, Option, None, Some, IfNone, IfSome}
+use Rattle.std.specs.Option.{unwrap_or}
+use Rattle.std.proofs.Common.{sym, ap, ◌∙◌, arith}
 use Rattle.limits.specs.Chroma.{log2}
-use Rattle.limits.proofs.Laws.{log2-small, log2_step}
+use Rattle.limits.proofs.Laws.{log2-small, log2_between}
 use Rattle.limits.proofs.log2.Goals as goal
 
-next : (n left count : ℕ) → 1 < left → count + log2 left ≡ log2 n → count + 1 + log2 (left / 2) ≡ log2 n
-next n left count h e = omega (arith, log2_step left h)
-
-last : (n left count : ℕ) → left ≤ 1 → count + log2 left ≡ log2 n → count ≡ log2 n
-last n left count h e = omega (arith, log2-small left h)
-
-pub loop-left-preserved : goal.loop-left-preserved
-loop-left-preserved c = (omega arith, search (next))
+unwrapped : (n : ℕ) (o : Option ℕ) → IfNone o (n ≡ 0) → IfSome o (λ k. 2 ^ k ≤ n) → IfSome o (λ k. n < 2 * 2 ^ k) → unwrap_or o 0 ≡ log2 n
+unwrapped n None z h g = sym (log2-small n (omega arith))
+unwrapped n (Some k) z h g = sym (log2_between k n h g)
 
 pub returns : goal.returns
-returns c = search (last)
+returns c = c.unwrap_or.ensures ∙ unwrapped _ _ c.checked_ilog2.ensures.none c.checked_ilog2.ensures.power_le c.checked_ilog2.ensures.next_power_gt

@@ -1,12 +1,12 @@
 -- `symbols::chroma_mask_remove` meets its contract: refused by the first sentence that holds, or the hue. Assumes nothing.
-use Rattle.answers.proofs.Answers.{says-refused, says-given, cell-hues-some, cell-hues-few}
+use Rattle.answers.proofs.Answers.{turned_away, says-given, cell-hues-some, cell-hues-few}
 use Rattle.symbols.proofs.chroma_mask_remove.Goals as goal
 
-pub returns-then-n-ne0 : goal.returns-then-n-ne0
-returns-then-n-ne0 c = search (says-refused)
+pub returns-in_err-check_cell : goal.returns-in_err-check_cell
+returns-in_err-check_cell c = search (turned_away, c.in_err-check_cell.ensures)
 
 pub remove-requires : goal.remove-requires
-remove-requires c = search (cell-hues-some, cell-hues-few)
+remove-requires c = search (cell-hues-some, cell-hues-few, c.in_ok-check_cell.ensures)
 
 pub returns : goal.returns
-returns c = search (says-given)
+returns c = search (says-given, c.in_ok-check_cell.ensures)
