@@ -26,8 +26,8 @@ fn read_all(scores: &[f32], bits: &mut [u8])
     requires { length scores.now ≤ length bits.old }
     ensures { bits.new ≡ spec.read_list scores.now bits.old }
 {
-    for (bit, &score) in bits.iter_mut().zip(scores) {
-        *bit = read(score);
+    for (i, &score) in scores.iter().enumerate() {
+        bits[i] = read(score);
     }
 }
 
