@@ -1,9 +1,10 @@
 -- One pass's equations: the Rust's `fit_once`, channel by channel and row by row, in its order of operations. Definitions only.
 -- The Rust collects the rows and hands them to `least_squares`; here each live reference's row is added to the normal equations as it comes.
-use Rattle.std.specs.Prelude.{Bool, true, false, cond, List, [], ◌∷◌, ℕ, ◌+◌, ◌*◌, ltb, leb, get_or, set, replicate, Float}
+use Rattle.std.specs.Prelude.{cond, List, [], ◌∷◌, ℕ, ◌+◌, ◌*◌, ltb, leb, get_or, set, replicate, Float, Option, None, Some}
+use Rattle.std.specs.Option.{option_map}
 use Rattle.std.specs.Float.{nan, binary64}
 use Rattle.std.specs.Float.Ieee.{mul}
-use Rattle.loops.specs.Loops.{for_up, Turn, go, out, for_try}
+use Rattle.loops.specs.Loops.{for_up}
 use Rattle.math.specs.Gauss.{System, system, Settled}
 use Rattle.math.specs.Normal.{add_row, finish}
 use Rattle.illum.specs.declared.IlluminationModel.{IlluminationModel}
@@ -12,9 +13,7 @@ use Rattle.illum.specs.Surface.{zero64, one64, terms_used, basis_at}
 use Rattle.illum.specs.Correct.{unshaded, unit_gain, no_flare}
 use Rattle.equations.specs.declared.Plan.{Plan}
 use Rattle.equations.specs.declared.Surface.{Surface}
-use Rattle.equations.specs.declared.Row.{Row}
 use Rattle.equations.specs.declared.Affine.{Affine}
-use Rattle.equations.specs.declared.Once.{Once}
 use Rattle.references.specs.References.{x_at, y_at, observed_of, nominal_of, observed_at}
 use Rattle.equations.specs.Live.{is_live, live_count}
 
@@ -129,31 +128,20 @@ affine_rows m flat live c n s = for_up 0 n (affine_row_at m flat live c) s
 abbrev pub four_of : List Float → List Float
 four_of x = get_or x 0 nan ∷ get_or x 1 nan ∷ get_or x 2 nan ∷ get_or x 3 nan ∷ []
 
-abbrev pub row_of : Settled → Row
-row_of s = record { solved = s.found; row = four_of s.x }
+abbrev pub row_of : Settled → Option (List Float)
+row_of s = cond s.found (Some (four_of s.x)) None
 
--- channel c's row of the affine part
-unfoldable pub fit_row : IlluminationModel → List Float → List Float → ℕ → ℕ → Row
+-- channel c's row of the affine part, where it has a solution
+unfoldable pub fit_row : IlluminationModel → List Float → List Float → ℕ → ℕ → Option (List Float)
 fit_row m flat live c n = row_of (finish 4 (affine_rows m flat live c n no_equations) (replicate 18 zero64))
 
--- left where a channel has no solution
-unfoldable pub fit_row_at : IlluminationModel → List Float → List Float → ℕ → ℕ → List (List Float) → Turn (List (List Float)) (List (List Float))
-fit_row_at m flat live n c rows =
-    let f = fit_row m flat live c n in
-    cond f.solved (go (set rows c f.row)) (out rows)
+-- none where a channel has none
+abbrev pub rows_of : Option (List Float) → Option (List Float) → Option (List Float) → Option Affine
+rows_of (Some r) (Some g) (Some b) = Some (record { r = r; g = g; b = b })
+rows_of _ _ _ = None
 
-abbrev pub no_row : List Float
-no_row = zero64 ∷ zero64 ∷ zero64 ∷ zero64 ∷ []
-
-abbrev pub no_rows : List (List Float)
-no_rows = replicate 3 no_row
-
-abbrev pub rows_of : Turn (List (List Float)) (List (List Float)) → Affine
-rows_of (go rows) = record { solved = true; r = get_or rows 0 []; g = get_or rows 1 []; b = get_or rows 2 [] }
-rows_of (out rows) = record { solved = false; r = no_row; g = no_row; b = no_row }
-
-unfoldable pub affine_of : IlluminationModel → List Float → List Float → ℕ → Affine
-affine_of m flat live n = rows_of (for_try 0 3 (fit_row_at m flat live n) no_rows)
+unfoldable pub affine_of : IlluminationModel → List Float → List Float → ℕ → Option Affine
+affine_of m flat live n = rows_of (fit_row m flat live 0 n) (fit_row m flat live 1 n) (fit_row m flat live 2 n)
 
 -- the model with another affine part
 abbrev pub with_affine : IlluminationModel → Affine → IlluminationModel
@@ -175,19 +163,12 @@ with_affine m a =
       kept = m.kept;
     }
 
--- ---- the pass: no solution where fewer than 8 references are live, or the affine part has none; the model then stays
+-- ---- the pass: no solution where fewer than 8 references are live, or the affine part has none
 
-abbrev pub once : Bool → IlluminationModel → Once
-once solved m = record { solved = solved; model = m }
-
-abbrev pub or_stays : IlluminationModel → IlluminationModel → Affine → Once
-or_stays m s a = cond a.solved (once true (with_affine s a)) (once false m)
-
-abbrev pub solved_once : IlluminationModel → List Float → List Float → ℕ → ℕ → Once
+abbrev pub solved_once : IlluminationModel → List Float → List Float → ℕ → ℕ → Option IlluminationModel
 solved_once m flat live n count =
     let s = surfaces_of m flat live n count in
-    or_stays m s (affine_of s flat live n)
+    option_map (with_affine s) (affine_of s flat live n)
 
-unfoldable pub fit_once : IlluminationModel → List Float → List Float → ℕ → Once
-fit_once m flat live n =
-    cond (ltb (live_count live n) 8) (once false m) (solved_once m flat live n (live_count live n))
+unfoldable pub fit_once : IlluminationModel → List Float → List Float → ℕ → Option IlluminationModel
+fit_once m flat live n = cond (ltb (live_count live n) 8) None (solved_once m flat live n (live_count live n))

@@ -28,27 +28,12 @@ pub struct Surface {
     pub flare: [f64; 9],
 }
 
-// A channel's row of the affine part, where it has a solution.
-#[derive(Clone, Copy)]
-pub struct Row {
-    pub solved: bool,
-    pub row: [f64; 4],
-}
-
-// The affine part, where every channel has a solution; else zeros.
+// The affine part, a row a channel.
 #[derive(Clone, Copy)]
 pub struct Affine {
-    pub solved: bool,
     pub r: [f64; 4],
     pub g: [f64; 4],
     pub b: [f64; 4],
-}
-
-// What one pass's equations give: the fitted model, or the one that it began with.
-#[derive(Clone, Copy)]
-pub struct Once {
-    pub solved: bool,
-    pub model: IlluminationModel,
 }
 
 // ---- stage 1: forward gain and flare surfaces, per channel
@@ -305,8 +290,8 @@ fn affine_rows(
     }
 }
 
-// Channel c's row of the affine part.
-fn fit_row(m: IlluminationModel, flat: &[f32], live: &[f32], c: usize, n: usize) -> Row
+// Channel c's row of the affine part, where its equations have a solution.
+fn fit_row(m: IlluminationModel, flat: &[f32], live: &[f32], c: usize, n: usize) -> Option<[f64; 4]>
     requires { (c < 3) × Marked n flat.now live.now }
     ensures { result ≡ spec.fit_row m flat.now live.now c n }
 {
@@ -314,42 +299,22 @@ fn fit_row(m: IlluminationModel, flat: &[f32], live: &[f32], c: usize, n: usize)
     let mut atb = [0.0f64; 18];
     let mut x = [0.0f64; 18];
     affine_rows(&mut ata, &mut atb, m, flat, live, c, n);
-    let solved = finish(&mut ata, &mut atb, &mut x, 4);
-    Row {
-        solved,
-        row: [x[0], x[1], x[2], x[3]],
+    if finish(&mut ata, &mut atb, &mut x, 4) {
+        return Some([x[0], x[1], x[2], x[3]]);
     }
+    None
 }
 
-// The affine part: three rows, or no solution as soon as a channel has none.
-fn fit_affine(m: IlluminationModel, flat: &[f32], live: &[f32], n: usize) -> Affine
+// The affine part, where every channel has a solution.
+#[tactic(auto, unfolding(crate::specs::Once::affine_of))]
+fn fit_affine(m: IlluminationModel, flat: &[f32], live: &[f32], n: usize) -> Option<Affine>
     requires { Marked n flat.now live.now }
     ensures { result ≡ spec.affine_of m flat.now live.now n }
 {
-    let none = [0.0, 0.0, 0.0, 0.0];
-    let mut rows = [none; 3];
-    for c in 0..3 {
-        let f = fit_row(m, flat, live, c, n);
-        if !f.solved {
-            return Affine {
-                solved: false,
-                r: none,
-                g: none,
-                b: none,
-            };
-        }
-        let row = f.row;
-        rows[c] = row;
-    }
-    let r = rows[0];
-    let g = rows[1];
-    let b = rows[2];
-    Affine {
-        solved: true,
-        r,
-        g,
-        b,
-    }
+    let r = fit_row(m, flat, live, 0, n)?;
+    let g = fit_row(m, flat, live, 1, n)?;
+    let b = fit_row(m, flat, live, 2, n)?;
+    Some(Affine { r, g, b })
 }
 
 // The model with another affine part.
@@ -366,29 +331,23 @@ fn with_affine(m: IlluminationModel, a: Affine) -> IlluminationModel
     out
 }
 
-// Core: one pass's equations over the live ones of n references, from model m: no solution, and m as it was, where fewer than 8
-// are live or a row of the affine part has none.
-pub fn fit_once(m: IlluminationModel, flat: &[f32], live: &[f32], n: usize) -> Once
+// Core: the model that one pass's equations over the live ones of n references give, from model m: none where fewer than 8 are live
+// or a row of the affine part has no solution.
+#[tactic(auto, unfolding(crate::specs::Once::fit_once))]
+pub fn fit_once(
+    m: IlluminationModel,
+    flat: &[f32],
+    live: &[f32],
+    n: usize,
+) -> Option<IlluminationModel>
     requires { Marked n flat.now live.now }
     ensures { result ≡ spec.fit_once m flat.now live.now n }
 {
     let count = live::live_count(live, n);
     if count < 8 {
-        return Once {
-            solved: false,
-            model: m,
-        };
+        return None;
     }
     let s = fit_surfaces(m, flat, live, n, count);
-    let a = fit_affine(s, flat, live, n);
-    if a.solved {
-        return Once {
-            solved: true,
-            model: with_affine(s, a),
-        };
-    }
-    Once {
-        solved: false,
-        model: m,
-    }
+    let a = fit_affine(s, flat, live, n)?;
+    Some(with_affine(s, a))
 }
