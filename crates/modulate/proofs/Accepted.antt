@@ -1,5 +1,5 @@
 -- What drawing answers by the number that its sentences give, and what holds of a card that is drawn, and of scores that are unmasked: each sentence's opposite. Assumes nothing.
-use mathlib.Core.Path.{◌≡◌, refl, sym, ap, ◌∙◌}
+use mathlib.Core.Path.{◌≡◌, refl, sym, ◌∙◌}
 use mathlib.Core.Bool.{true, false}
 use mathlib.Core.List.{List, [], ◌∷◌}
 use Prim.Native.Nat.{ℕ, zero, suc, ◌≤◌, ◌<◌}
@@ -13,11 +13,13 @@ use Rattle.limits.specs.Chroma.{chroma_on}
 use Rattle.limits.proofs.Laws.{side_in}
 use Rattle.layout.specs.Groups.{shape, placement, module_placement, Shaped, Placed, ModulesPlaced, Positions}
 use Rattle.layout.proofs.Laws.{shape-sound, shaped, placed, modules-placed}
-use Rattle.answers.specs.declared.Outcome.TheVariants.{Refused, Done}
-use Rattle.answers.specs.Answers.{outcome_number}
-use Rattle.modulate.specs.Draw.{Card, not_drawn, drawn, level_at, level_at_of, hue_at, hue_at_of, entries_of, drawn_hues, levels_of, hues_of, draw_sentences, draw_of}
+use Rattle.std.specs.Prelude.{Result, ⊤}
+use Rattle.std.specs.Result.{IsErr, IsErrAnd}
+use Rattle.answers.specs.declared.refusal.Refusal.{Refusal}
+use Rattle.answers.specs.Answers.{number_of}
+use Rattle.modulate.specs.Draw.{Card, not_drawn, all_drawn, drawn, level_at, level_at_of, hue_at, hue_at_of, entries_of, drawn_hues, levels_of, hues_of, draw_sentences, draw_of}
 use Rattle.modulate.specs.Score.{unmask_sentences}
-use Rattle.answers.proofs.Answers.{none_of}
+use Rattle.answers.proofs.Answers.{none_of, numbered, passed_on}
 use Rattle.lists.proofs.Laws.{reached}
 use Rattle.modulate.proofs.Lengths.{DrawLengths, draw_lengths, bits_long, hues-long, luma-lengths}
 
@@ -28,30 +30,33 @@ pub record Accepted (q : Card) : Type 0 where
   pub modules_bits : length q.xs ≤ length q.bits
   pub placed : Placed q.layout q.xs q.ys q.cxs q.cys
 
-module _ (q : Card) (n : ℕ) (e : n ≡ refusal (draw_sentences q)) where
-  pub not-drawn : (n ≡ 0 → ⊥) → not_drawn q n ≡ draw_of q
+module _ (q : Card) where
+  -- a test whose `?` passes the refusal on
+  pub not-drawn : (x : Result ⊤ Refusal) (r : Refusal) (levels hues : List ℕ) → IsErr x × IsErrAnd x (λ y. y ≡ r) → number_of r ≡ refusal (draw_sentences q) → levels ≡ q.levels → hues ≡ q.drawn →
+      drawn x levels hues ≡ draw_of q
   unfolding draw_of
-  not-drawn z = refuses (not_drawn q) (drawn Done (levels_of q) (hues_of q)) n (refusal (draw_sentences q)) z e
+  not-drawn x r levels hues p e el eh =
+      rw (passed_on x r p, el, eh) (refuses (not_drawn q) (all_drawn q) (number_of r) (refusal (draw_sentences q)) (numbered r) e)
 
-  module _ (z : n ≡ 0) where
-    pub all_drawn : drawn Done (levels_of q) (hues_of q) ≡ draw_of q
+  module _ (e : 0 ≡ refusal (draw_sentences q)) where
+    pub is-drawn : all_drawn q ≡ draw_of q
     unfolding draw_of
-    all_drawn = accepts (not_drawn q) (drawn Done (levels_of q) (hues_of q)) n (refusal (draw_sentences q)) z e
+    is-drawn = accepts (not_drawn q) (all_drawn q) 0 (refusal (draw_sentences q)) refl e
 
     -- the two groups are passed
     is_shaped : Shaped q.layout
     unfolding draw_sentences
-    is_shaped = shaped q.layout 0 (split (shape q.layout) _ (shape-sound q.layout) (sym z ∙ e)).0 refl
+    is_shaped = shaped q.layout 0 (split (shape q.layout) _ (shape-sound q.layout) e).0 refl
 
     is_placed : Placed q.layout q.xs q.ys q.cxs q.cys
     unfolding draw_sentences sound fresh
     is_placed =
-        let past-shape = (split (shape q.layout) _ (shape-sound q.layout) (sym z ∙ e)).1 in
+        let past-shape = (split (shape q.layout) _ (shape-sound q.layout) e).1 in
         placed q.layout q.xs q.ys q.cxs q.cys 0 (split (_ ∷ []) _ refl past-shape).1 refl
 
     long : DrawLengths q.bits q.layout q.xs q.ys q.cxs q.cys q.levels q.drawn
     unfolding draw_sentences shape placement sound fresh at
-    long = draw_lengths q.bits q.layout q.xs q.ys q.cxs q.cys q.levels q.drawn (none_of (draw_sentences q) refl n e z 5)
+    long = draw_lengths q.bits q.layout q.xs q.ys q.cxs q.cys q.levels q.drawn (none_of (draw_sentences q) refl 0 e refl 5)
 
     pub accepted : Accepted q
     accepted =
@@ -66,20 +71,21 @@ module _ (q : Card) (n : ℕ) (e : n ≡ refusal (draw_sentences q)) where
 
 pub record IsDrawn (q : Card) : Type 0 where
   pub fit : Accepted q
-  pub left : draw_of q ≡ drawn Done (levels_of q) (hues_of q)
+  pub left : draw_of q ≡ all_drawn q
   pub level : (i : ℕ) → i < length q.xs → get_or (levels_of q) i 0 ≡ level_at q.bits q.xs q.ys q.layout.grid q.mask i
   pub hue : chroma_on q.layout.hues ≡ true → (j : ℕ) → j < entries_of q.layout (length q.xs) (length q.cxs) →
       get_or (hues_of q) j 0 ≡ hue_at q.bits q.layout.hues (length q.xs) q.cxs q.cys j
 
-matches : (q : Card) (n : ℕ) → outcome_number (decided n (not_drawn q) (drawn Done (levels_of q) (hues_of q))).answer ≡ n
+by_number : (q : Card) (n : ℕ) → (decided n (not_drawn q) (all_drawn q)).number ≡ n
 unfolding decided
-matches q zero = refl
-matches q (suc n) = refl
+by_number q zero = refl
+by_number q (suc n) = refl
 
 module _ (q : Card) where
-  number_is : outcome_number (draw_of q).answer ≡ refusal (draw_sentences q)
+  -- the number is that of the first sentence that holds
+  pub draw-number : (draw_of q).number ≡ refusal (draw_sentences q)
   unfolding draw_of
-  number_is = matches q (refusal (draw_sentences q))
+  draw-number = by_number q (refusal (draw_sentences q))
 
   level_is : Accepted q → (i : ℕ) → i < length q.xs → get_or (levels_of q) i 0 ≡ level_at q.bits q.xs q.ys q.layout.grid q.mask i
   level_is a i h = (reached 0 (level_at_of q.bits q.xs q.ys q.layout.grid q.mask) q.levels (length q.xs) a.lengths.levels_in).done i h
@@ -93,27 +99,26 @@ module _ (q : Card) where
       ((reached 0 (hue_at_of q.bits q.layout.hues (length q.xs) q.cxs q.cys) q.drawn e
       (hues-long (length q.drawn) q.layout (length q.xs) (length q.cxs) a.lengths.hues_in on)).done j h)
 
-  pub drawn-done : (draw_of q).answer ≡ Done → IsDrawn q
-  drawn-done h =
-      let e : 0 ≡ refusal (draw_sentences q) = sym (ap outcome_number h) ∙ number_is in
-      let a = accepted q 0 e refl in
-      record { fit = a; left = sym (all_drawn q 0 e refl); level = level_is a; hue = hue_is a }
+  pub drawn-done : (draw_of q).number ≡ 0 → IsDrawn q
+  drawn-done z =
+      let e : 0 ≡ refusal (draw_sentences q) = sym z ∙ draw-number in
+      let a = accepted q e in
+      record { fit = a; left = sym (is-drawn q e); level = level_is a; hue = hue_is a }
 
-  pub drawn-refused : (n : ℕ) → (n ≡ 0 → ⊥) → (draw_of q).answer ≡ Refused n → (n ≡ refusal (draw_sentences q)) × (draw_of q ≡ not_drawn q n)
-  drawn-refused n z h =
-      let e : n ≡ refusal (draw_sentences q) = sym (ap outcome_number h) ∙ number_is in
-      (e, sym (not-drawn q n e z))
+  pub drawn-refused : ((draw_of q).number ≡ 0 → ⊥) → draw_of q ≡ not_drawn q (draw_of q).number
+  unfolding draw_of
+  drawn-refused z = sym (refuses (not_drawn q) (all_drawn q) (draw_of q).number (refusal (draw_sentences q)) z draw-number)
 
 -- ---- unmasking
 
-module _ (luma : List Float) (side : ℕ) (xs ys : List ℤ) (g n : ℕ) (e : n ≡ refusal (unmask_sentences luma side xs ys g)) (z : n ≡ 0) where
+module _ (luma : List Float) (side : ℕ) (xs ys : List ℤ) (g : ℕ) (e : 0 ≡ refusal (unmask_sentences luma side xs ys g)) where
   none : (m : ℕ) → at m (unmask_sentences luma side xs ys g) ≡ false
   unfolding unmask_sentences module_placement sound fresh
-  none = none_of (unmask_sentences luma side xs ys g) refl n e z
+  none = none_of (unmask_sentences luma side xs ys g) refl 0 e refl
 
   on_card : ModulesPlaced side g xs ys
   unfolding unmask_sentences sound fresh
-  on_card = modules-placed side g xs ys 0 (split (_ ∷ _ ∷ []) _ refl (sym z ∙ e)).1 refl
+  on_card = modules-placed side g xs ys 0 (split (_ ∷ _ ∷ []) _ refl e).1 refl
 
   one_each : (length xs ≡ length ys) × (length xs ≤ length luma)
   unfolding unmask_sentences at

@@ -2,16 +2,14 @@
 use mathlib.Core.Path.{◌≡◌, refl, sym, ap, ◌∙◌}
 use mathlib.Core.Bool.{Bool, true, false, cond}
 use mathlib.Core.List.{List}
-use Prim.Native.Nat.{ℕ, ◌≤◌}
+use Prim.Native.Nat.{ℕ, zero, suc, ◌≤◌}
 use native.Mathlib.Nat.{le_trans}
 use lib.IntN.{ℤ}
 use lib.ListN.{length}
 use lib.Ieee.{Float, nan, inf, fin, neg}
-use Rattle.sentences.specs.Sentences.{refusal}
+use Rattle.sentences.specs.Sentences.{Sentence, refusal, decided}
 use Rattle.sentences.proofs.Laws.{accepts}
-use Rattle.answers.specs.declared.Outcome.TheVariants.{Refused, Done}
-use Rattle.answers.specs.Answers.{Ended, ended}
-use Rattle.answers.proofs.Answers.{list-number}
+use Rattle.answers.specs.Answers.{Ended, written_or}
 use Rattle.lists.proofs.Laws.{reached, twice}
 use Rattle.modulate.specs.Score.{masked_at, unmask_at, unmasked, unmask_sentences, unmask_luma_of}
 use Rattle.modulate.proofs.Accepted.{unmask-grid, unmask-scores}
@@ -32,12 +30,30 @@ pub unmask-twice : (id : ℕ) (xs ys : List ℤ) (g : ℕ) (luma : List Float) �
 unfolding unmask_at
 unmask-twice id xs ys g luma h = twice nan (unmask_at id xs ys) g luma h (λ i v. turn_twice (masked_at id xs ys i) v)
 
+-- ---- the number of a call that writes one list is that of the first sentence that holds
+
+module _ {A : Type 0} (before after : List A) where
+  kept : ℕ → Ended A
+  kept n = record { number = n; list = before }
+
+  wrote : Ended A
+  wrote = record { number = 0; list = after }
+
+  by_number : (n : ℕ) → (decided n kept wrote).number ≡ n
+  unfolding decided kept wrote
+  by_number zero = refl
+  by_number (suc n) = refl
+
+  pub list-number : (ss : List Sentence) → (written_or ss before after).number ≡ refusal ss
+  unfolding kept wrote
+  list-number ss = by_number (refusal ss)
+
 -- ---- the call: where it is accepted, a second one by the same mask restores the scores, since its sentences look at their number alone
 
 module _ (luma : List Float) (side : ℕ) (xs ys : List ℤ) (g mask : ℕ) where
   written : refusal (unmask_sentences luma side xs ys g) ≡ 0 → (unmask_luma_of luma side xs ys g mask).list ≡ unmasked mask xs ys g luma
   unfolding unmask_luma_of
-  written z = ap (λ (f : Ended Float). f.list) (sym (accepts (λ n. ended (Refused n) luma) (ended Done (unmasked mask xs ys g luma)) 0 (refusal (unmask_sentences luma side xs ys g)) refl (sym z)))
+  written z = ap (λ (f : Ended Float). f.list) (sym (accepts (λ n. record { number = n; list = luma }) (record { number = 0; list = unmasked mask xs ys g luma }) 0 (refusal (unmask_sentences luma side xs ys g)) refl (sym z)))
 
   same_sentences : (l : List Float) → length l ≡ length luma → unmask_sentences l side xs ys g ≡ unmask_sentences luma side xs ys g
   unfolding unmask_sentences
@@ -46,14 +62,14 @@ module _ (luma : List Float) (side : ℕ) (xs ys : List ℤ) (g mask : ℕ) wher
 module _ (luma : List Float) (side : ℕ) (xs ys : List ℤ) (g mask : ℕ) (z : (unmask_luma_of luma side xs ys g mask).number ≡ 0) where
   none : refusal (unmask_sentences luma side xs ys g) ≡ 0
   unfolding unmask_luma_of
-  none = sym (list-number (unmask_sentences luma side xs ys g) luma (unmasked mask xs ys g luma)) ∙ z
+  none = sym (list-number luma (unmasked mask xs ys g luma) (unmask_sentences luma side xs ys g)) ∙ z
 
   all : g ≤ length luma
-  all = le_trans (unmask-grid luma side xs ys g 0 (sym none) refl) (unmask-scores luma side xs ys g 0 (sym none) refl)
+  all = le_trans (unmask-grid luma side xs ys g (sym none)) (unmask-scores luma side xs ys g (sym none))
 
   -- it leaves a score a module
   pub unmask-luma-long : length xs ≤ length (unmask_luma_of luma side xs ys g mask).list
-  unmask-luma-long = rw (written luma side xs ys g mask none, (reached nan (unmask_at mask xs ys) luma g all).long) (unmask-scores luma side xs ys g 0 (sym none) refl)
+  unmask-luma-long = rw (written luma side xs ys g mask none, (reached nan (unmask_at mask xs ys) luma g all).long) (unmask-scores luma side xs ys g (sym none))
 
   pub unmask-luma-twice : (unmask_luma_of (unmask_luma_of luma side xs ys g mask).list side xs ys g mask).list ≡ luma
   unmask-luma-twice =

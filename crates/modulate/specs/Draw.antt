@@ -1,5 +1,5 @@
 -- Drawing (document 01, "Drawing, reading, margin"): the level of each module and the hue of each cell, from a card's bits. Definitions only.
-use Rattle.std.specs.Prelude.{Bool, false, not, cond, ◌||◌, List, [], ◌∷◌, ◌++◌, ℕ, ◌+◌, ◌*◌, ltb, eqb, ℤ, length, get_or}
+use Rattle.std.specs.Prelude.{Bool, false, not, cond, ◌||◌, List, [], ◌∷◌, ◌++◌, ℕ, ◌+◌, ◌*◌, ltb, eqb, ℤ, length, get_or, Result, ⊤}
 use Rattle.std.specs.Bool.{xor}
 use Rattle.loops.specs.Loops.{for_up}
 use Rattle.sentences.specs.Sentences.{Sentence, ◌when◌, refusal, decided}
@@ -7,8 +7,7 @@ use Rattle.limits.specs.Limits.{bad_hues}
 use Rattle.limits.specs.Chroma.{log2, chroma_on, symbol_bits, ring_modules, chroma_entries, chroma_length}
 use Rattle.layout.specs.declared.Layout.{Layout}
 use Rattle.layout.specs.Groups.{shape, placement}
-use Rattle.answers.specs.declared.Outcome.{Outcome}
-use Rattle.answers.specs.declared.Outcome.TheVariants.{Refused, Done}
+use Rattle.answers.specs.declared.refusal.Refusal.{Refusal}
 use Rattle.answers.specs.Answers.{outcome_number}
 use Rattle.symbols.specs.Gray.{chroma_symbol_to_hue}
 use Rattle.symbols.specs.Mask.{luma_mask, chroma_mask_apply}
@@ -123,19 +122,18 @@ draw_sentences q =
     ((5 when bad_draw_lengths q.bits q.layout q.xs q.ys q.cxs q.cys q.levels q.drawn) ∷
     placement q.layout q.xs q.ys q.cxs q.cys)
 
--- what it gives back: document 01's number, its answer, the levels and the hues
+-- what it gives back: document 01's number, the levels and the hues
 pub record Drawn : Type 0 where
   pub number : ℕ
-  pub answer : Outcome
   pub levels : List ℕ
   pub hues : List ℕ
 
-abbrev pub drawn : Outcome → List ℕ → List ℕ → Drawn
-drawn r levels hues = record { number = outcome_number r; answer = r; levels = levels; hues = hues }
+abbrev pub drawn : Result ⊤ Refusal → List ℕ → List ℕ → Drawn
+drawn r levels hues = record { number = outcome_number r; levels = levels; hues = hues }
 
 -- refused by sentence n: nothing changes
 abbrev pub not_drawn : Card → ℕ → Drawn
-not_drawn q n = drawn (Refused n) q.levels q.drawn
+not_drawn q n = record { number = n; levels = q.levels; hues = q.drawn }
 
 abbrev pub levels_of : Card → List ℕ
 levels_of q = drawn_levels q.bits q.xs q.ys q.layout.grid q.mask q.levels
@@ -143,5 +141,9 @@ levels_of q = drawn_levels q.bits q.xs q.ys q.layout.grid q.mask q.levels
 abbrev pub hues_of : Card → List ℕ
 hues_of q = drawn_hues q.bits q.layout (length q.xs) q.cxs q.cys q.drawn
 
+-- accepted: both lists are written
+abbrev pub all_drawn : Card → Drawn
+all_drawn q = record { number = 0; levels = levels_of q; hues = hues_of q }
+
 unfoldable pub draw_of : Card → Drawn
-draw_of q = decided (refusal (draw_sentences q)) (not_drawn q) (drawn Done (levels_of q) (hues_of q))
+draw_of q = decided (refusal (draw_sentences q)) (not_drawn q) (all_drawn q)

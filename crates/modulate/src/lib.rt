@@ -12,12 +12,12 @@ ghost use Rattle.lists.specs.Lists.{replace_at, replaced};
 ghost use Rattle.limits.specs.Limits.{bad_hues};
 ghost use Rattle.limits.specs.Chroma.{log2, symbol_bits};
 ghost use Rattle.layout.specs.Groups.{Shaped, Positions, PositionAt};
-ghost use Rattle.answers.specs.Answers.{said, answered, hues_only, hues_and_cell, ended};
+ghost use Rattle.answers.specs.Answers.{said, outcome_number, answered, hues_only, hues_and_cell, ended};
 ghost use Rattle.symbols.specs.Ready.{HueCount};
 ghost use Rattle.modulate.specs.Score as scores;
 ghost use Rattle.modulate.specs.Draw as drawing;
 
-use answers::{Number, Outcome};
+use answers::Refusal;
 use layout::Layout;
 
 // Where a chroma entry is drawn: a ring module, on which no mask lies, or a cell of the grid, by its coordinates.
@@ -117,33 +117,32 @@ fn bad_score_lengths(hues: usize, ll: &[f32], out: &[f32]) -> bool
     out.len() < limits::log2(hues)
 }
 
-fn refused_llrs(ll: &[f32], cell: Cell, hues: usize, out: &[f32]) -> u32
-    ensures { result ≡ refusal (scores.llr_sentences ll.now cell hues out.now) }
+// Whether likelihoods, their cell and the room for their scores pass. Refused: 3, 5, 7.
+#[tactic(auto, unfolding(sentences::specs::Sentences::refusal, crate::specs::Score::llr_sentences))]
+fn check_llrs(ll: &[f32], cell: Cell, hues: usize, out: &[f32]) -> Result<(), Refusal>
+    ensures { outcome_number result ≡ refusal (scores.llr_sentences ll.now cell hues out.now) }
 {
     if limits::bad_hues(hues) {
-        return 3;
+        return Err(Refusal::Hues);
     }
     if bad_score_lengths(hues, ll, out) {
-        return 5;
+        return Err(Refusal::Length);
     }
     if bad_cell_of(cell) {
-        return 7;
+        return Err(Refusal::Place);
     }
-    0
+    Ok(())
 }
 
 // The log2(hues) bit scores of a chroma entry from its hue likelihoods `ll`, as drawn, high bit first and positive for a
 // 0: for each bit, the best likelihood of the hues whose symbol has a 0 there less the best of those that have a 1.
 // Refused: 3, 5, 7; nothing is written then.
-pub fn chroma_bit_llrs(ll: &[f32], cell: Cell, hues: usize, out: &mut [f32]) -> Outcome
+pub fn chroma_bit_llrs(ll: &[f32], cell: Cell, hues: usize, out: &mut [f32]) -> Result<(), Refusal>
     ensures { ended result out.new ≡ scores.chroma_bit_llrs_of ll.now cell hues out.old }
 {
-    let n = refused_llrs(ll, cell, hues, out);
-    if n != 0 {
-        return Outcome::Refused(n);
-    }
+    check_llrs(ll, cell, hues, out)?;
     bit_llrs(ll, cell, hues, out);
-    Outcome::Done
+    Ok(())
 }
 
 // ---- unmasking
@@ -186,17 +185,24 @@ fn bad_luma_lengths(xs: &[i32], ys: &[i32], luma: &[f32]) -> bool
     luma.len() < xs.len()
 }
 
-// The number of the first sentence that holds, or 0: 6, 7 by the modules' group.
-fn refused_unmask(luma: &[f32], side: usize, xs: &[i32], ys: &[i32], grid: usize) -> u32
-    ensures { result ≡ refusal (scores.unmask_sentences luma.now side xs.now ys.now grid) }
+// Whether luma scores and their modules pass. Refused: 2, 5, and 6, 7 by the modules' group.
+#[tactic(auto, unfolding(sentences::specs::Sentences::refusal, crate::specs::Score::unmask_sentences))]
+fn check_unmask(
+    luma: &[f32],
+    side: usize,
+    xs: &[i32],
+    ys: &[i32],
+    grid: usize,
+) -> Result<(), Refusal>
+    ensures { outcome_number result ≡ refusal (scores.unmask_sentences luma.now side xs.now ys.now grid) }
 {
     if limits::bad_side(side) {
-        return 2;
+        return Err(Refusal::Side);
     }
     if bad_luma_lengths(xs, ys, luma) {
-        return 5;
+        return Err(Refusal::Length);
     }
-    layout::refused_modules(side, grid, xs, ys)
+    layout::check_modules(side, grid, xs, ys)
 }
 
 // Turns the sign of the luma score of every grid module, the first `grid` of those listed, whose bit the mask turned.
@@ -208,15 +214,12 @@ pub fn unmask_luma(
     ys: &[i32],
     grid: usize,
     mask: u8,
-) -> Outcome
+) -> Result<(), Refusal>
     ensures { ended result luma.new ≡ scores.unmask_luma_of luma.old side xs.now ys.now grid mask }
 {
-    let n = refused_unmask(luma, side, xs, ys, grid);
-    if n != 0 {
-        return Outcome::Refused(n);
-    }
+    check_unmask(luma, side, xs, ys, grid)?;
     unmask_grid(mask, side, xs, ys, grid, luma);
-    Outcome::Done
+    Ok(())
 }
 
 // ---- drawing: one element
@@ -277,42 +280,38 @@ fn symbol_at(bits: &[u8], from: usize, count: usize) -> usize
     s
 }
 
-fn refused_symbol(bits: &[u8], hues: usize) -> u32
-    ensures { result ≡ refusal (drawing.symbol_sentences bits.now hues) }
+// Whether a hue count and the bits of one symbol pass. Refused: 3, 5.
+#[tactic(auto, unfolding(sentences::specs::Sentences::refusal))]
+fn check_symbol(bits: &[u8], hues: usize) -> Result<(), Refusal>
+    ensures { outcome_number result ≡ refusal (drawing.symbol_sentences bits.now hues) }
 {
     if limits::bad_hues(hues) {
-        return 3;
+        return Err(Refusal::Hues);
     }
     if bits.len() < limits::log2(hues) {
-        return 5;
+        return Err(Refusal::Length);
     }
-    0
+    Ok(())
 }
 
 // The symbol of the first log2(hues) bits, high bit first. Refused: 3, 5.
-pub fn symbol_of_bits(bits: &[u8], hues: usize) -> Number
+pub fn symbol_of_bits(bits: &[u8], hues: usize) -> Result<usize, Refusal>
     ensures { said result ≡ answered (drawing.symbol_sentences bits.now hues) (drawing.symbol_at bits.now 0 (log2 hues)) }
 {
-    let n = refused_symbol(bits, hues);
-    if n != 0 {
-        return Number::Refused(n);
-    }
-    Number::Is(symbol_at(bits, 0, limits::log2(hues)))
+    check_symbol(bits, hues)?;
+    Ok(symbol_at(bits, 0, limits::log2(hues)))
 }
 
 // The hue that the cell (cx, cy) is drawn in for its symbol. Refused: 3, 7.
-pub fn cell_hue(symbol: usize, cx: u16, cy: u16, hues: usize) -> Number
+pub fn cell_hue(symbol: usize, cx: u16, cy: u16, hues: usize) -> Result<usize, Refusal>
     ensures { said result ≡ answered (hues_and_cell hues cx cy) (drawing.cell_hue symbol cx cy hues) }
 {
-    let n = symbols::refused_cell(hues, cx, cy);
-    if n != 0 {
-        return Number::Refused(n);
-    }
-    Number::Is(symbols::apply(symbols::symbol_hue(symbol, hues), cx, cy, hues))
+    symbols::check_cell(hues, cx, cy)?;
+    Ok(symbols::apply(symbols::symbol_hue(symbol, hues), cx, cy, hues))
 }
 
 // The hue that a ring module is drawn in for its symbol: no mask lies on it. Refused: 3.
-pub fn ring_hue(symbol: usize, hues: usize) -> Number
+pub fn ring_hue(symbol: usize, hues: usize) -> Result<usize, Refusal>
     ensures { said result ≡ answered (hues_only hues) (drawing.ring_hue symbol hues) }
 {
     symbols::chroma_symbol_to_hue(symbol, hues)
@@ -447,8 +446,8 @@ fn bad_draw_lengths(
     short_hues(drawn.len(), layout, xs.len(), cxs.len())
 }
 
-// The number of the first sentence that holds, or 0: 2, 3, 4 by the layout's group, 6, 7 by that of what is placed on it.
-fn refused_draw(
+// Whether a card passes that is drawn. Refused: 2, 3, 4 by the layout's group, 5, and 6, 7 by that of what is placed on it.
+fn check_draw(
     bits: &[u8],
     layout: Layout,
     xs: &[i32],
@@ -458,17 +457,14 @@ fn refused_draw(
     mask: u8,
     levels: &[u8],
     drawn: &[usize],
-) -> u32
-    ensures { result ≡ refusal (drawing.draw_sentences (drawing.card bits.now layout xs.now ys.now cxs.now cys.now mask levels.now drawn.now)) }
+) -> Result<(), Refusal>
+    ensures { outcome_number result ≡ refusal (drawing.draw_sentences (drawing.card bits.now layout xs.now ys.now cxs.now cys.now mask levels.now drawn.now)) }
 {
-    let shape = layout::refused_shape(layout);
-    if shape != 0 {
-        return shape;
-    }
+    layout::check_shape(layout)?;
     if bad_draw_lengths(bits, layout, xs, ys, cxs, cys, levels, drawn) {
-        return 5;
+        return Err(Refusal::Length);
     }
-    layout::refused_placement(layout, xs, ys, cxs, cys)
+    layout::check_placement(layout, xs, ys, cxs, cys)
 }
 
 // Draws a card: the level of each listed module, 1 for light, and, with chroma on, the hue of each cell and, at cell size
@@ -484,14 +480,11 @@ pub fn draw(
     mask: u8,
     levels: &mut [u8],
     drawn: &mut [usize],
-) -> Outcome
+) -> Result<(), Refusal>
     ensures { drawing.drawn result levels.new drawn.new ≡ drawing.draw_of (drawing.card bits.now layout xs.now ys.now cxs.now cys.now mask levels.old drawn.old) }
 {
-    let n = refused_draw(bits, layout, xs, ys, cxs, cys, mask, levels, drawn);
-    if n != 0 {
-        return Outcome::Refused(n);
-    }
+    check_draw(bits, layout, xs, ys, cxs, cys, mask, levels, drawn)?;
     draw_levels(bits, layout.side, xs, ys, layout.grid, mask, levels);
     draw_hues(bits, layout, xs.len(), cxs, cys, drawn);
-    Outcome::Done
+    Ok(())
 }

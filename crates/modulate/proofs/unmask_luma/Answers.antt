@@ -1,32 +1,34 @@
 -- `modulate::unmask_luma` meets its contract: refused by the first sentence that holds, or written. Assumes nothing.
 use mathlib.Core.Path.{◌≡◌}
-use borrow.Author.Rules.{rules}
 use mathlib.Core.List.{List}
 use Prim.Native.Nat.{ℕ}
 use lib.IntN.{ℤ}
 use lib.Ieee.{Float}
 use Rattle.sentences.specs.Sentences.{refusal}
-use Rattle.answers.specs.declared.Outcome.TheVariants.{Refused, Done}
-use Rattle.answers.specs.Answers.{ended}
+use Rattle.std.specs.Prelude.{Result, Ok, ⊤}
+use Rattle.std.specs.Result.{IsErr, IsErrAnd}
+use Rattle.answers.specs.declared.refusal.Refusal.{Refusal}
+use Rattle.answers.specs.Answers.{number_of, ended}
 use Rattle.modulate.specs.Score.{unmasked, unmask_sentences, unmask_luma_of}
-use Rattle.answers.proofs.Answers.{list-kept, list_written}
+use Rattle.answers.proofs.Answers.{list_on, list_written}
 use Rattle.modulate.proofs.Accepted.{unmask-positions, unmask-grid, unmask-scores}
 use Rattle.modulate.proofs.unmask_luma.Goals as goal
 
-module _ (luma : List Float) (side : ℕ) (xs ys : List ℤ) (g mask n : ℕ) (e : n ≡ refusal (unmask_sentences luma side xs ys g)) where
-  away : (l : List Float) → (n ≡ 0 → ⊥) → l ≡ luma → ended (Refused n) l ≡ unmask_luma_of luma side xs ys g mask
+module _ (luma : List Float) (side : ℕ) (xs ys : List ℤ) (g mask : ℕ) (l : List Float) where
+  away : (x : Result ⊤ Refusal) (r : Refusal) → IsErr x × IsErrAnd x (λ y. y ≡ r) → number_of r ≡ refusal (unmask_sentences luma side xs ys g) → l ≡ luma → ended x l ≡ unmask_luma_of luma side xs ys g mask
   unfolding unmask_luma_of
-  away l z h = list-kept (unmask_sentences luma side xs ys g) luma (unmasked mask xs ys g luma) n e l z h
+  away x r p e h = list_on (unmask_sentences luma side xs ys g) luma (unmasked mask xs ys g luma) x r l p e h
 
-  wrote : (l : List Float) → n ≡ 0 → l ≡ unmasked mask xs ys g luma → ended Done l ≡ unmask_luma_of luma side xs ys g mask
+  wrote : 0 ≡ refusal (unmask_sentences luma side xs ys g) → l ≡ unmasked mask xs ys g luma → ended (Ok tt) l ≡ unmask_luma_of luma side xs ys g mask
   unfolding unmask_luma_of
-  wrote l z h = list_written (unmask_sentences luma side xs ys g) luma (unmasked mask xs ys g luma) n e l z h
+  wrote e h = list_written (unmask_sentences luma side xs ys g) luma (unmasked mask xs ys g luma) l e h
 
-pub returns-then-n-ne0 : goal.returns-then-n-ne0
-returns-then-n-ne0 c = search (away)
+pub returns-in_err-check_unmask : goal.returns-in_err-check_unmask
+returns-in_err-check_unmask c = search (away, c.in_err-check_unmask.ensures)
 
 pub unmask_grid-requires : goal.unmask_grid-requires
-unmask_grid-requires c = (search (unmask-positions), search (unmask-grid, rules), search (unmask-scores))
+unmask_grid-requires c =
+    let e = c.in_ok-check_unmask.ensures in (unmask-positions _ _ _ _ _ e, unmask-grid _ _ _ _ _ e, unmask-scores _ _ _ _ _ e)
 
 pub returns : goal.returns
-returns c = search (wrote)
+returns c = search (wrote, c.in_ok-check_unmask.ensures)
