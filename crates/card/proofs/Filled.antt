@@ -1,19 +1,15 @@
 -- A loop that writes f(i) at every i below a count gives f(i) there and keeps the length and the tail: each turn writes one place, and no other turn comes to it. Assumes nothing.
-use mathlib.Core.Path.{◌≡◌, refl, ap, ◌∙◌}
+use mathlib.Core.Path.{◌≡◌, refl, sym, ◌∙◌}
 use mathlib.Core.Logic.{⊎_elim}
 use mathlib.Core.List.{List}
 use Prim.Native.Nat.{ℕ, suc, ◌≤◌, ◌<◌}
 use native.Mathlib.Omega.{arith}
 use native.Mathlib.Nat.{eq-or-lt_of_le}
 use lib.ListN.{length, get_or, set, length-set}
-use lib.Seq.{get_or-set_same, get_or-set_other}
+use lib.Seq.{get_or-set_same, get_or-set_other, ext_get_or}
+use Rattle.std.proofs.lemmas.Bool.{cases_lt}
 use Rattle.loops.proofs.Laws.{for_up_to}
 use Rattle.card.specs.Sections.{put_at, filled}
-
--- what one store does
-pub stored : {A : Type 0} (f : ℕ → A) (i : ℕ) (out : List A) (x : A) → x ≡ f i → set out i x ≡ put_at f i out
-unfolding put_at
-stored f i out x e = ap (set out i) e
 
 module _ {A : Type 0} (d : A) (f : ℕ → A) (out : List A) where
   pub record Reached (n : ℕ) (l : List A) : Type 0 where
@@ -42,3 +38,11 @@ module _ {A : Type 0} (d : A) (f : ℕ → A) (out : List A) where
       for_up_to Reached (put_at f) n 0 out (omega arith)
       (record { same_length = refl; written = λ i h q. absurd (omega arith); kept = λ i h. refl })
       (λ j p q l r. next j l r)
+
+-- a list that is as long, has f(i) at every i below the count and is as it was behind, however it was written
+pub is_filled : {A : Type 0} (d : A) (f : ℕ → A) (n : ℕ) (out l : List A) → n ≤ length out → length l ≡ length out →
+    ((i : ℕ) → i < n → get_or l i d ≡ f i) → ((i : ℕ) → n ≤ i → get_or l i d ≡ get_or out i d) → l ≡ filled f n out
+is_filled d f n out l h e written kept =
+    let r = filled_is d f out n in
+    ext_get_or d l (filled f n out) (e ∙ sym r.same_length)
+    (λ i q. ⊎_elim (λ (u : i < n). written i u ∙ sym (r.written i u (omega arith))) (λ (u : n ≤ i). kept i u ∙ sym (r.kept i u)) (cases_lt i n))

@@ -2,13 +2,11 @@
 use Rattle.std.specs.Prelude.{Bool, not, ◌||◌, List, [], ◌∷◌, ℕ, zero, suc, ◌+◌, ◌*◌, ◌/◌, ◌%◌, ltb, eqb, length, get_or}
 use Rattle.loops.specs.Loops.{any_up}
 use Rattle.sentences.specs.Sentences.{Sentence, ◌when◌}
-use Rattle.answers.specs.Answers.{Said, refused_by, gives, answered}
+use Rattle.answers.specs.Answers.{Said, answered}
 use Rattle.card.specs.Number.{u16_at, u32_at}
 use Rattle.card.specs.declared.Settings.{Settings}
 use Rattle.card.specs.declared.Section.{Section}
 use Rattle.card.specs.declared.Card.{Card}
-use Rattle.card.specs.declared.Opened.{Opened}
-use Rattle.card.specs.declared.Opened.TheVariants.{Refused, Accepted}
 
 -- pair k of the directory: a section's offset, and its length
 unfoldable pub offset_of : List ℕ → ℕ → ℕ
@@ -86,11 +84,6 @@ card_of pairs s =
     }
 
 -- ---- the answer
-
--- what an answer says: document 01's number, 0 where the file is accepted, and then the card
-abbrev pub opened_said : Opened → Said Card
-opened_said (Refused n) = refused_by n
-opened_said (Accepted c) = gives c
 
 -- the one sentence that a file meets before any call
 abbrev pub file_sentences : ℕ → List ℕ → List Sentence

@@ -1,14 +1,8 @@
--- `card::floats` meets its contract: each turn writes one number, the rest is left for the next ones. Assumes nothing.
-use Rattle.loops.proofs.Laws.{loops}
-use Rattle.card.proofs.Filled.{stored}
-use borrow.Author.Rules.{rules}
+-- `card::floats` meets its contract: each place below the count has its number, the others are as they were. Assumes nothing.
+use Rattle.std.proofs.Common.{rules}
+use lib.Ieee.{nan}
+use Rattle.card.proofs.Filled.{is_filled}
 use Rattle.card.proofs.floats.Goals as goal
 
-pub loop-i-init : goal.loop-i-init
-loop-i-init c = search (loops, rules)
-
-pub loop-i-preserved : goal.loop-i-preserved
-loop-i-preserved c = search (loops, stored, rules)
-
 pub returns : goal.returns
-returns c = search (loops, rules)
+returns c = is_filled nan _ _ _ _ (search rules) (search rules) (λ i h. let w = c.put_each.ensures.written i nan h in search rules) (λ i h. c.put_each.ensures.kept i nan h)

@@ -1,14 +1,7 @@
--- `card::positions` meets its contract: each turn writes one number, the rest is left for the next ones. Assumes nothing.
-use Rattle.loops.proofs.Laws.{loops}
-use Rattle.card.proofs.Filled.{stored}
-use borrow.Author.Rules.{rules}
+-- `card::positions` meets its contract: each place below the count has its number, the others are as they were. Assumes nothing.
+use Rattle.std.proofs.Common.{rules, pos}
+use Rattle.card.proofs.Filled.{is_filled}
 use Rattle.card.proofs.positions.Goals as goal
 
-pub loop-i-init : goal.loop-i-init
-loop-i-init c = search (loops, rules)
-
-pub loop-i-preserved : goal.loop-i-preserved
-loop-i-preserved c = search (loops, stored, rules)
-
 pub returns : goal.returns
-returns c = search (loops, rules)
+returns c = is_filled (pos 0) _ _ _ _ (search rules) (search rules) (λ i h. let w = c.put_each.ensures.written i (pos 0) h in search rules) (λ i h. c.put_each.ensures.kept i (pos 0) h)
