@@ -15,7 +15,7 @@ pub use srgb::srgb_to_linear;
 
 // Non-linear sRGB, a byte for each channel.
 #[repr(C)]
-#[derive(Clone, Copy)]
+#[derive(Clone, Copy, Debug, PartialEq, Eq, Hash)]
 pub struct Srgb8 {
     pub r: u8,
     pub g: u8,
@@ -24,7 +24,7 @@ pub struct Srgb8 {
 
 // Linear-light RGB, from 0 to 1 within the sRGB gamut, and not held to it.
 #[repr(C)]
-#[derive(Clone, Copy)]
+#[derive(Clone, Copy, Debug, PartialEq)]
 pub struct Linear {
     pub r: f32,
     pub g: f32,
@@ -33,7 +33,7 @@ pub struct Linear {
 
 // CIE XYZ, with Y 1 at white.
 #[repr(C)]
-#[derive(Clone, Copy)]
+#[derive(Clone, Copy, Debug, PartialEq)]
 pub struct Xyz {
     pub x: f32,
     pub y: f32,
@@ -42,7 +42,7 @@ pub struct Xyz {
 
 // CIELAB under D65: lightness, the green to red axis, the blue to yellow axis.
 #[repr(C)]
-#[derive(Clone, Copy)]
+#[derive(Clone, Copy, Debug, PartialEq)]
 pub struct Lab {
     pub l: f32,
     pub a: f32,
@@ -51,33 +51,34 @@ pub struct Lab {
 
 impl Srgb8 {
     // The colour 0xRRGGBB; what stands above these 24 bits is left out.
+    #[tactic(auto, unfolding(crate::specs::Color::from_hex))]
     pub fn from_hex(hex: u32) -> Srgb8
         ensures { result ≡ spec.from_hex hex }
     {
-        Srgb8 {
-            r: (hex / 65536 % 256) as u8,
-            g: (hex / 256 % 256) as u8,
-            b: (hex % 256) as u8,
-        }
+        let [_, r, g, b] = hex.to_be_bytes();
+        Srgb8 { r, g, b }
     }
 
     // 0xRRGGBB.
+    #[tactic(auto, unfolding(crate::specs::Color::to_hex))]
     pub fn to_hex(self) -> u32
         ensures { result ≡ spec.to_hex self }
     {
-        self.r as u32 * 65536 + self.g as u32 * 256 + self.b as u32
+        u32::from_be_bytes([0, self.r, self.g, self.b])
     }
 
     // Rec. 709 luma of the encoded values, from 0 to 255.
+    #[tactic(auto, unfolding(crate::specs::Color::rec709_luma))]
     pub fn rec709_luma(self) -> f32
         ensures { result ≡ spec.rec709_luma self }
     {
-        0.2126 * self.r as f32 + 0.7152 * self.g as f32 + 0.0722 * self.b as f32
+        rec709(f32::from(self.r), f32::from(self.g), f32::from(self.b))
     }
 }
 
 impl Linear {
     // Each component held to the range from 0 to 1; a NaN is left.
+    #[tactic(auto, using(crate::proofs::Literals::literals), unfolding(crate::specs::Color::clamped))]
     pub fn clamped(self) -> Linear
         ensures { result ≡ spec.clamped self }
     {
@@ -89,54 +90,66 @@ impl Linear {
     }
 
     // Whether each component is from 0 to 1, give or take 1e-4.
+    #[tactic(auto, unfolding(crate::specs::Color::in_gamut))]
     pub fn in_gamut(self) -> bool
         ensures { result ≡ spec.in_gamut self }
     {
-        if in_range(self.r) {
-            if in_range(self.g) {
-                return in_range(self.b);
-            }
-        }
-        false
+        in_range(self.r) && in_range(self.g) && in_range(self.b)
     }
 
     // Relative luminance, Y.
+    #[tactic(auto, unfolding(crate::specs::Color::luminance))]
     pub fn luminance(self) -> f32
         ensures { result ≡ spec.luminance self }
     {
-        0.2126 * self.r + 0.7152 * self.g + 0.0722 * self.b
+        rec709(self.r, self.g, self.b)
     }
 }
 
 impl Lab {
     // Chroma, √(a² + b²).
+    #[tactic(auto, unfolding(crate::specs::Color::chroma))]
     pub fn chroma(self) -> f32
         ensures { result ≡ spec.chroma self }
     {
-        float::sqrt(self.a * self.a + self.b * self.b)
+        length2(self.a, self.b)
     }
 
     // The distance in the plane of a and b.
+    #[tactic(auto, unfolding(crate::specs::Color::ab_distance))]
     pub fn ab_distance(self, other: Lab) -> f32
         ensures { result ≡ spec.ab_distance self other }
     {
-        let da = self.a - other.a;
-        let db = self.b - other.b;
-        float::sqrt(da * da + db * db)
+        length2(self.a - other.a, self.b - other.b)
     }
+}
+
+// The luma of three components, by the weights of Rec. 709.
+#[tactic(auto, using(crate::proofs::Literals::literals), unfolding(crate::specs::Color::fraction))]
+fn rec709(r: f32, g: f32, b: f32) -> f32
+    ensures { result ≡ spec.rec709 r g b }
+{
+    0.2126 * r + 0.7152 * g + 0.0722 * b
+}
+
+// √(a² + b²).
+#[tactic(auto, unfolding(crate::specs::Color::length2))]
+fn length2(a: f32, b: f32) -> f32
+    ensures { result ≡ spec.length2 a b }
+{
+    float::sqrt(a * a + b * b)
 }
 
 // Whether v is from 0 to 1, give or take 1e-4.
+#[tactic(auto, using(crate::proofs::Literals::literals), unfolding(crate::specs::Color::in_range))]
 fn in_range(v: f32) -> bool
     ensures { result ≡ spec.in_range v }
 {
-    if -1e-4 <= v {
-        return v <= 1.0 + 1e-4;
-    }
-    false
+    -1e-4 <= v && v <= 1.0 + 1e-4
 }
 
 // The linear light of an sRGB colour, from the table of the 256 bytes.
+#[tactic(auto, unfolding(crate::specs::Color::srgb8_to_linear))]
 pub fn srgb8_to_linear(c: Srgb8) -> Linear
     ensures { result ≡ spec.srgb8_to_linear c }
 {
@@ -148,6 +161,7 @@ pub fn srgb8_to_linear(c: Srgb8) -> Linear
 }
 
 // Linear sRGB to XYZ, by the sRGB primaries.
+#[tactic(auto, using(crate::proofs::Literals::literals), unfolding(crate::specs::Color::linear_to_xyz))]
 pub fn linear_to_xyz(c: Linear) -> Xyz
     ensures { result ≡ spec.linear_to_xyz c }
 {
@@ -159,6 +173,7 @@ pub fn linear_to_xyz(c: Linear) -> Xyz
 }
 
 // XYZ to linear sRGB, which may lie outside the gamut.
+#[tactic(auto, using(crate::proofs::Literals::literals), unfolding(crate::specs::Color::xyz_to_linear))]
 pub fn xyz_to_linear(c: Xyz) -> Linear
     ensures { result ≡ spec.xyz_to_linear c }
 {
@@ -170,27 +185,32 @@ pub fn xyz_to_linear(c: Xyz) -> Linear
 }
 
 // CIE's f: the cube root above 216/24389, a straight line up to it.
+#[tactic(auto, using(crate::proofs::Literals::literals), unfolding(crate::specs::Color::lab_f, crate::specs::Color::line))]
 fn lab_f(t: f32) -> f32
     ensures { result ≡ spec.lab_f t }
 {
     if t > 216.0 / 24389.0 {
-        return float::cbrt(t);
+        float::cbrt(t)
+    } else {
+        t * (841.0 / 108.0) + 4.0 / 29.0
     }
-    t * (841.0 / 108.0) + 4.0 / 29.0
 }
 
 // Its inverse: the cube above 6/29, a straight line up to it.
+#[tactic(auto, using(crate::proofs::Literals::literals), unfolding(crate::specs::Color::lab_finv, crate::specs::Color::line_inv, crate::specs::Color::cube))]
 fn lab_f_inv(t: f32) -> f32
     ensures { result ≡ spec.lab_finv t }
 {
     let delta: f32 = 6.0 / 29.0;
     if t > delta {
-        return t * t * t;
+        t * t * t
+    } else {
+        3.0 * delta * delta * (t - 4.0 / 29.0)
     }
-    3.0 * delta * delta * (t - 4.0 / 29.0)
 }
 
 // XYZ to CIELAB.
+#[tactic(auto, using(crate::proofs::Literals::literals), unfolding(crate::specs::Color::xyz_to_lab, crate::specs::Color::lightness))]
 pub fn xyz_to_lab(c: Xyz) -> Lab
     ensures { result ≡ spec.xyz_to_lab c }
 {
@@ -205,6 +225,7 @@ pub fn xyz_to_lab(c: Xyz) -> Lab
 }
 
 // CIELAB to XYZ.
+#[tactic(auto, using(crate::proofs::Literals::literals), unfolding(crate::specs::Color::lab_to_xyz))]
 pub fn lab_to_xyz(c: Lab) -> Xyz
     ensures { result ≡ spec.lab_to_xyz c }
 {

@@ -10,7 +10,7 @@ use answers::Refusal;
 
 // A hue's point in the plane of a and b.
 #[repr(C)]
-#[derive(Clone, Copy)]
+#[derive(Clone, Copy, Debug, PartialEq)]
 pub struct Ab {
     pub a: f32,
     pub b: f32,
@@ -47,17 +47,16 @@ pub fn index(l: bool, h: usize, hues: usize) -> Result<usize, Refusal>
 }
 
 // Core: the same, of a hue count that sentence 3 lets pass.
+#[tactic(auto, unfolding(crate::specs::Palette::index_of))]
 pub fn index_of(l: bool, h: usize, hues: usize) -> usize
     requires { (0 < hues) × (hues ≤ 16) }
     ensures { result ≡ spec.index_of l h hues }
 {
-    if l {
-        return hues + h % hues;
-    }
-    h % hues
+    if l { hues + h % hues } else { h % hues }
 }
 
 // Core: the mean lightness of the dark level, 0, or of the light one, 1.
+#[tactic(auto, unfolding(crate::specs::Palette::level_l))]
 pub fn level_l(palette: &[f32], level: usize) -> f32
     requires { (level < 2) × (2 ≤ length palette.now) }
     ensures { result ≡ spec.level_l palette.now level }
@@ -66,6 +65,7 @@ pub fn level_l(palette: &[f32], level: usize) -> f32
 }
 
 // Core: the point of hue h.
+#[tactic(auto, unfolding(crate::specs::Palette::hue_ab))]
 pub fn hue_ab(palette: &[f32], hues: usize, h: usize) -> Ab
     requires { (h < hues) × (spec.palette_len hues ≤ length palette.now) }
     ensures { result ≡ spec.hue_ab palette.now h }
@@ -77,6 +77,7 @@ pub fn hue_ab(palette: &[f32], hues: usize, h: usize) -> Ab
 }
 
 // Core: the Lab of a colour by its place, below 2 × hues.
+#[tactic(auto, unfolding(crate::specs::Palette::palette_lab))]
 pub fn palette_lab(palette: &[f32], hues: usize, index: usize) -> Lab
     requires { (index < 2 * hues) × (spec.palette_len hues ≤ length palette.now) }
     ensures { result ≡ spec.palette_lab palette.now hues index }
@@ -90,6 +91,7 @@ pub fn palette_lab(palette: &[f32], hues: usize, index: usize) -> Lab
 }
 
 // Core: colour i of a list that has three numbers for each.
+#[tactic(auto, unfolding(crate::specs::Palette::linear_at))]
 pub fn linear_at(colours: &[f32], i: usize) -> Linear
     requires { 3 * i + 2 < length colours.now }
     ensures { result ≡ spec.linear_at colours.now i }
@@ -102,26 +104,19 @@ pub fn linear_at(colours: &[f32], i: usize) -> Linear
 }
 
 // Core: whether v is not finite or has a magnitude above 1,048,576, as sentence 8 has it.
+#[tactic(auto, using(crate::proofs::Literals::literals), unfolding(crate::specs::Palette::wild))]
 pub fn wild(v: f32) -> bool
     ensures { result ≡ spec.wild v }
 {
-    if v <= 1048576.0 {
-        return !(-1048576.0 <= v);
-    }
-    true
+    !(v <= 1048576.0 && -1048576.0 <= v)
 }
 
 // Core: the same of a component of a colour, as sentences 8 and 12 have it.
+#[tactic(auto, unfolding(crate::specs::Palette::wild_linear))]
 pub fn wild_linear(c: Linear) -> bool
     ensures { result ≡ spec.wild_linear c }
 {
-    if wild(c.r) {
-        return true;
-    }
-    if wild(c.g) {
-        return true;
-    }
-    wild(c.b)
+    wild(c.r) || wild(c.g) || wild(c.b)
 }
 
 // Core: the same of one of the first n numbers.
@@ -129,12 +124,7 @@ pub fn wild_in(values: &[f32], n: usize) -> bool
     requires { n ≤ length values.now }
     ensures { result ≡ spec.wild_in values.now n }
 {
-    for i in 0..n {
-        if wild(values[i]) {
-            return true;
-        }
-    }
-    false
+    values[..n].iter().any(|&v| wild(v))
 }
 
 // Core: sentence 8 of a palette: one of its 2 + 8 × hues numbers is wild.
