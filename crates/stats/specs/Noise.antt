@@ -27,6 +27,10 @@ luma_llr n l =
     clamp (neg (whole 20)) (whole 20)
     ((n.l1 ⊖ n.l0) ⊗ (n.l0 ⊕ n.l1 ⊖ whole 2 ⊗ l) ⊘ (whole 2 ⊗ n.sigma_l ⊗ n.sigma_l))
 
+-- the lightness of palette colour i
+abbrev pub lightness_at : List Float → ℕ → ℕ → Float
+lightness_at palette hues i = (palette_lab palette hues i).l
+
 -- ---- `reliability`
 
 -- the squared distance of a sample from a palette colour c, in units of the noise at c's own lightness

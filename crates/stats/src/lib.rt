@@ -4,7 +4,7 @@
 // `noise.luma_llr(l)` the score of a sample's L, positive for dark.
 #![tactic(auto)]
 
-ghost use Rattle.std.specs.Prelude.{◌≡◌, ◌*◌, ◌<◌, ◌≤◌, length};
+ghost use Rattle.std.specs.Prelude.{◌≡◌, ℕ, ◌*◌, ◌<◌, ◌≤◌, length, Float};
 ghost use Rattle.sentences.specs.Sentences.{refusal};
 ghost use Rattle.answers.specs.Answers.{said, outcome_number, ended};
 ghost use Rattle.color.specs.Palette.{palette_len};
@@ -20,7 +20,7 @@ use color::palette::{hue_ab, level_l, palette_lab, wild_palette};
 // chroma noise pooled over both levels and that of each level (0 where it was not measured), and the
 // number of known colours that the figures come from.
 #[repr(C)]
-#[derive(Clone, Copy)]
+#[derive(Clone, Copy, Debug, PartialEq)]
 pub struct ChannelStats {
     pub l0: f32,
     pub l1: f32,
@@ -35,6 +35,7 @@ pub struct ChannelStats {
 
 impl ChannelStats {
     // Where l stands from the dark level, 0, to the light one, 1.
+    #[tactic(auto, using(crate::proofs::Literals::literals), unfolding(crate::specs::Noise::between))]
     fn between(self, l: f32) -> f32
         ensures { result ≡ spec.between self l }
     {
@@ -43,19 +44,19 @@ impl ChannelStats {
     }
 
     // Core: `sigma_ab_at`.
+    #[tactic(auto, using(crate::proofs::Literals::literals), unfolding(crate::specs::Noise::sigma_ab_at))]
     pub fn sigma_ab_of(self, l: f32) -> f32
         ensures { result ≡ spec.sigma_ab_at self l }
     {
-        if self.sigma_ab_dark <= 0.0 {
-            return self.sigma_ab;
+        if self.sigma_ab_dark <= 0.0 || self.sigma_ab_light <= 0.0 {
+            self.sigma_ab
+        } else {
+            self.sigma_ab_dark + (self.sigma_ab_light - self.sigma_ab_dark) * self.between(l)
         }
-        if self.sigma_ab_light <= 0.0 {
-            return self.sigma_ab;
-        }
-        self.sigma_ab_dark + (self.sigma_ab_light - self.sigma_ab_dark) * self.between(l)
     }
 
     // Core: `luma_llr`.
+    #[tactic(auto, using(crate::proofs::Literals::literals), unfolding(crate::specs::Noise::luma_llr))]
     pub fn luma_llr_of(self, l: f32) -> f32
         ensures { result ≡ spec.luma_llr self l }
     {
@@ -66,6 +67,7 @@ impl ChannelStats {
 
     // The squared distance of a sample from a palette colour c, in units of the noise at c's lightness;
     // s_ab is the chroma noise there.
+    #[tactic(auto, unfolding(crate::specs::Noise::distance))]
     fn distance(self, sample: Lab, c: Lab, s_ab: f32) -> f32
         requires { s_ab ≡ spec.sigma_ab_at self c.l }
         ensures { result ≡ spec.distance self sample c }
@@ -76,43 +78,34 @@ impl ChannelStats {
         dl * dl + da * da + db * db
     }
 
-    // The smaller of `best` and the distance from palette colour i.
-    fn closer(self, sample: Lab, palette: &[f32], hues: usize, i: usize, best: f32) -> f32
-        requires { ColourAt palette.now hues i }
-        ensures { result ≡ spec.closer self sample palette.now hues i best }
-    {
-        let c = palette_lab(palette, hues, i);
-        let s_ab = self.sigma_ab_of(c.l);
-        float::min(best, self.distance(sample, c, s_ab))
-    }
-
-    // The distance from the nearest palette colour.
-    fn nearest(self, sample: Lab, palette: &[f32], hues: usize) -> f32
-        requires { palette_len hues ≤ length palette.now }
+    // The distance from the nearest palette colour; `sigma` gives the chroma noise at colour i, whose lightness is l.
+    fn nearest_with<F: Fn(usize, f32) -> f32>(
+        self,
+        sample: Lab,
+        palette: &[f32],
+        hues: usize,
+        sigma: F,
+    ) -> f32
+        requires long { palette_len hues ≤ length palette.now }
+        requires callable { (i : ℕ) → i < 2 * hues → F.pre sigma i (spec.lightness_at palette.now hues i) }
+        requires sigmas { (i : ℕ) (s : Float) → i < 2 * hues → F.post sigma i (spec.lightness_at palette.now hues i) s → s ≡ spec.sigma_ab_at self (spec.lightness_at palette.now hues i) }
         ensures { result ≡ spec.nearest self sample palette.now hues }
     {
-        let mut best = 1.0f32 / 0.0f32;
+        let mut best = f32::INFINITY;
         for i in 0..2 * hues {
-            best = self.closer(sample, palette, hues, i, best);
+            let c = palette_lab(palette, hues, i);
+            best = float::min(best, self.distance(sample, c, sigma(i, c.l)));
         }
         best
     }
 
     // Core: `reliability`, of a palette that is long enough.
+    #[tactic(auto, unfolding(crate::specs::Noise::reliability))]
     pub fn reliability_of(self, sample: Lab, palette: &[f32], hues: usize) -> f32
         requires { palette_len hues ≤ length palette.now }
         ensures { result ≡ spec.reliability self sample palette.now hues }
     {
-        weight(self.nearest(sample, palette, hues))
-    }
-
-    // Writes the chroma noise at the lightness of palette colour i to its place.
-    fn put_sigma(self, palette: &[f32], hues: usize, i: usize, sigmas: &mut [f32])
-        requires { ColourAt palette.now hues i × (i < length sigmas.old) }
-        ensures { sigmas.new ≡ spec.put_sigma self palette.now hues i sigmas.old }
-    {
-        let c = palette_lab(palette, hues, i);
-        sigmas[i] = self.sigma_ab_of(c.l);
+        weight(self.nearest_with(sample, palette, hues, |_, l| self.sigma_ab_of(l)))
     }
 
     // Core: writes the chroma noise at the lightness of each palette colour to the front of `sigmas`.
@@ -120,26 +113,9 @@ impl ChannelStats {
         requires { (palette_len hues ≤ length palette.now) × (2 * hues ≤ length sigmas.old) }
         ensures { sigmas.new ≡ spec.palette_sigmas self palette.now hues sigmas.old }
     {
-        for i in 0..2 * hues {
-            self.put_sigma(palette, hues, i, sigmas);
+        for (i, sigma) in sigmas[..2 * hues].iter_mut().enumerate() {
+            *sigma = self.sigma_ab_of(palette_lab(palette, hues, i).l);
         }
-    }
-
-    // `closer`, the palette's chroma noises being given.
-    fn closer_by(
-        self,
-        sample: Lab,
-        palette: &[f32],
-        hues: usize,
-        sigmas: &[f32],
-        i: usize,
-        best: f32,
-    ) -> f32
-        requires { ColourAt palette.now hues i × spec.Sigmas self palette.now hues sigmas.now }
-        ensures { result ≡ spec.closer self sample palette.now hues i best }
-    {
-        let c = palette_lab(palette, hues, i);
-        float::min(best, self.distance(sample, c, sigmas[i]))
     }
 
     // Core: the distance from the nearest palette colour, the palette's chroma noises being given.
@@ -147,14 +123,11 @@ impl ChannelStats {
         requires { (palette_len hues ≤ length palette.now) × spec.Sigmas self palette.now hues sigmas.now }
         ensures { result ≡ spec.nearest self sample palette.now hues }
     {
-        let mut best = 1.0f32 / 0.0f32;
-        for i in 0..2 * hues {
-            best = self.closer_by(sample, palette, hues, sigmas, i, best);
-        }
-        best
+        self.nearest_with(sample, palette, hues, |i, _| sigmas[i])
     }
 
     // Twice the squared chroma noise at the sample's lightness.
+    #[tactic(auto, using(crate::proofs::Literals::literals), unfolding(crate::specs::Noise::denominator))]
     fn denominator(self, sample: Lab) -> f32
         ensures { result ≡ spec.denominator self sample }
     {
@@ -168,10 +141,13 @@ impl ChannelStats {
         ensures { out.new ≡ spec.hue_log_likelihoods self sample palette.now hues out.old }
     {
         let denom = self.denominator(sample);
-        put_likelihoods(sample, denom, palette, hues, out);
+        for (h, entry) in out[..hues].iter_mut().enumerate() {
+            *entry = likelihood(sample, denom, palette, hues, h);
+        }
     }
 
     // Core: `nominal`, of a palette that has its levels.
+    #[tactic(auto, using(crate::proofs::Literals::literals))]
     pub fn nominal_of(palette: &[f32]) -> ChannelStats
         requires { 2 ≤ length palette.now }
         ensures { result ≡ spec.nominal palette.now }
@@ -189,6 +165,7 @@ impl ChannelStats {
 }
 
 // Core: how much a squared distance d lets a sample be believed: flat out to about 3 sigmas, then falling.
+#[tactic(auto, using(crate::proofs::Literals::literals), unfolding(crate::specs::Noise::weight))]
 pub fn weight(d: f32) -> f32
     ensures { result ≡ spec.weight d }
 {
@@ -198,6 +175,7 @@ pub fn weight(d: f32) -> f32
 }
 
 // The log-likelihood of hue h, for a sample and twice its squared noise.
+#[tactic(auto, unfolding(crate::specs::Noise::hue_log_likelihood))]
 fn likelihood(sample: Lab, denom: f32, palette: &[f32], hues: usize, h: usize) -> f32
     requires { HueAt palette.now hues h }
     ensures { result ≡ spec.hue_log_likelihood sample denom palette.now h }
@@ -208,101 +186,63 @@ fn likelihood(sample: Lab, denom: f32, palette: &[f32], hues: usize, h: usize) -
     -(da * da + db * db) / denom
 }
 
-fn put_likelihood(sample: Lab, denom: f32, palette: &[f32], hues: usize, h: usize, out: &mut [f32])
-    requires { HueAt palette.now hues h × (h < length out.old) }
-    ensures { out.new ≡ spec.put_likelihood sample denom palette.now h out.old }
-{
-    out[h] = likelihood(sample, denom, palette, hues, h);
-}
-
-fn put_likelihoods(sample: Lab, denom: f32, palette: &[f32], hues: usize, out: &mut [f32])
-    requires { (palette_len hues ≤ length palette.now) × (hues ≤ length out.old) }
-    ensures { out.new ≡ spec.put_likelihoods sample denom palette.now hues out.old }
-{
-    for h in 0..hues {
-        put_likelihood(sample, denom, palette, hues, h, out);
-    }
-}
-
 // ---- the sentences
 
 // Core: sentence 5, of a palette: it is shorter than 2 + 8 × hues.
+#[tactic(auto, unfolding(crate::specs::Calls::short_palette))]
 pub fn short_palette(palette: &[f32], hues: usize) -> bool
     ensures { result ≡ call.short_palette palette.now hues }
 {
-    if palette.len() < 2 {
-        return true;
-    }
-    (palette.len() - 2) / 8 < hues
+    palette.len() < 2 || (palette.len() - 2) / 8 < hues
 }
 
 // Whether a figure of a noise record is not finite or above 2^40 in magnitude.
+#[tactic(auto, using(crate::proofs::Literals::literals), unfolding(crate::specs::Calls::wild_figure))]
 fn wild_figure(v: f32) -> bool
     ensures { result ≡ call.wild_figure v }
 {
-    if v <= 1099511627776.0 {
-        return !(-1099511627776.0 <= v);
-    }
-    true
+    !(v <= 1099511627776.0 && -1099511627776.0 <= v)
 }
 
 // Core: sentence 8, of a noise record.
+#[tactic(auto, unfolding(crate::specs::Calls::bad_noise_numbers))]
 pub fn bad_noise_numbers(noise: ChannelStats) -> bool
     ensures { result ≡ call.bad_noise_numbers noise }
 {
-    if wild_figure(noise.l0) {
-        return true;
-    }
-    if wild_figure(noise.l1) {
-        return true;
-    }
-    if wild_figure(noise.sigma_l) {
-        return true;
-    }
-    if wild_figure(noise.sigma_ab) {
-        return true;
-    }
-    if wild_figure(noise.sigma_ab_dark) {
-        return true;
-    }
-    wild_figure(noise.sigma_ab_light)
+    wild_figure(noise.l0)
+        || wild_figure(noise.l1)
+        || wild_figure(noise.sigma_l)
+        || wild_figure(noise.sigma_ab)
+        || wild_figure(noise.sigma_ab_dark)
+        || wild_figure(noise.sigma_ab_light)
 }
 
 // Whether a level's sigma is neither 0 nor at least 0.75.
+#[tactic(auto, using(crate::proofs::Literals::literals), unfolding(crate::specs::Calls::bad_level_sigma))]
 fn bad_level_sigma(v: f32) -> bool
     ensures { result ≡ call.bad_level_sigma v }
 {
-    if v == 0.0 {
-        return false;
-    }
-    !(0.75 <= v)
+    !(v == 0.0 || 0.75 <= v)
 }
 
 // Core: sentence 9, of a noise record.
+#[tactic(auto, using(crate::proofs::Literals::literals), unfolding(crate::specs::Calls::bad_sigmas))]
 pub fn bad_sigmas(noise: ChannelStats) -> bool
     ensures { result ≡ call.bad_sigmas noise }
 {
-    if noise.sigma_l < 0.75 {
-        return true;
-    }
-    if noise.sigma_ab < 0.75 {
-        return true;
-    }
-    if bad_level_sigma(noise.sigma_ab_dark) {
-        return true;
-    }
-    bad_level_sigma(noise.sigma_ab_light)
+    noise.sigma_l < 0.75
+        || noise.sigma_ab < 0.75
+        || bad_level_sigma(noise.sigma_ab_dark)
+        || bad_level_sigma(noise.sigma_ab_light)
 }
 
 // Core: sentence 8, of a noise record and of a palette that is long enough.
+#[tactic(auto, unfolding(crate::specs::Calls::bad_numbers))]
 pub fn bad_numbers(noise: ChannelStats, palette: &[f32], hues: usize) -> bool
     requires { palette_len hues ≤ length palette.now }
     ensures { result ≡ call.bad_numbers noise palette.now hues }
 {
-    if wild_palette(palette, hues) {
-        return true;
-    }
-    bad_noise_numbers(noise)
+    wild_palette(palette, hues) || bad_noise_numbers(noise)
 }
 
 // Whether a noise record passes. Refused: 8, 9.
@@ -354,13 +294,11 @@ pub fn check(noise: ChannelStats, palette: &[f32], hues: usize) -> Result<(), Re
 }
 
 // Sentence 5, of the likelihoods: the palette or the room for one a hue is too short.
+#[tactic(auto, unfolding(crate::specs::Calls::short_likelihoods))]
 fn short_likelihoods(palette: &[f32], hues: usize, out: &[f32]) -> bool
     ensures { result ≡ call.short_likelihoods palette.now hues out.now }
 {
-    if short_palette(palette, hues) {
-        return true;
-    }
-    out.len() < hues
+    short_palette(palette, hues) || out.len() < hues
 }
 
 // Whether a noise record, a palette and the room for a likelihood a hue pass. Refused: 3, 5, 8, 9.

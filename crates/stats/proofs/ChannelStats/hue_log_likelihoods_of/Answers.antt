@@ -1,16 +1,24 @@
--- `ChannelStats::hue_log_likelihoods_of` meets its contract: the likelihoods over the sample's own denominator. Assumes nothing.
-use mathlib.Core.Path.{◌≡◌}
-use mathlib.Core.List.{List}
-use Prim.Native.Nat.{ℕ}
-use lib.Ieee.{Float}
+-- `ChannelStats::hue_log_likelihoods_of` meets its contract: the likelihood of each hue stands at its place. Assumes nothing.
+use mathlib.Core.Path.{◌≡◌, ap, ◌∙◌}
+use mathlib.Core.List.{List, ◌++◌}
+use Prim.Native.Nat.{ℕ, ◌≤◌, ◌<◌}
+use native.Mathlib.Omega.{arith}
+use lib.ListN.{length, get_or, take, drop}
+use lib.Seq.{length-take-le}
+use lib.Ieee.{Float, nan}
 use Rattle.color.specs.declared.Lab.{Lab}
 use Rattle.stats.specs.declared.ChannelStats.{ChannelStats}
-use Rattle.stats.specs.Noise.{denominator, put_likelihoods, hue_log_likelihoods}
+use Rattle.stats.specs.Noise.{denominator, hue_log_likelihood, put_likelihood, put_likelihoods, hue_log_likelihoods}
+use Rattle.stats.proofs.Front.{front_replaced}
 use Rattle.stats.proofs.ChannelStats.hue_log_likelihoods_of.Goals as goal
 
-same : (n : ChannelStats) (sample : Lab) (palette : List Float) (hues : ℕ) (out after : List Float) (d : Float) →
-    d ≡ denominator n sample → after ≡ put_likelihoods sample d palette hues out → after ≡ hue_log_likelihoods n sample palette hues out
-same n sample palette hues out after d e h = rw e at h
+all_written : (n : ChannelStats) (sample : Lab) (palette : List Float) (hues h : ℕ) (out s : List Float) (d : Float) →
+    d ≡ denominator n sample → hues ≤ length out → length s ≡ length (take hues out) → length (take hues out) ≤ h →
+    ((j : ℕ) → j < h → get_or s j nan ≡ hue_log_likelihood sample d palette j) → s ++ drop hues out ≡ hue_log_likelihoods n sample palette hues out
+unfolding put_likelihood
+all_written n sample palette hues h out s d e l long past done =
+    front_replaced nan hues (λ j v. hue_log_likelihood sample d palette j) out s l long (λ j q. done j (let p = length-take-le hues out l in omega arith))
+    ∙ ap (λ (x : Float). put_likelihoods sample x palette hues out) e
 
 pub returns : goal.returns
-returns c = search (same)
+returns c = all_written _ _ _ _ _ _ _ _ c.denominator-denom.ensures c.requires.1 c.loop-h.auto.entry-items c.loop-h-test.false c.loop-h.invariant

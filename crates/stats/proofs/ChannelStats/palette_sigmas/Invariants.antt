@@ -1,14 +1,11 @@
--- `ChannelStats::palette_sigmas` meets its contract: what is left from i on gives the same. Assumes nothing.
+-- `ChannelStats::palette_sigmas` meets its contract: the noise of each colour stands at its place. Assumes nothing.
 use mathlib.Core.Path.{◌≡◌}
-use Prim.Native.Nat.{◌*◌, ◌-◌}
-use lib.ListN.{length}
-use Rattle.loops.proofs.Laws.{Left}
-use Rattle.stats.specs.Noise.{put_sigma, palette_sigmas}
+use Prim.Native.Nat.{ℕ, ◌<◌}
+use lib.ListN.{get_or}
+use lib.Ieee.{nan}
+use Rattle.color.specs.Palette.{palette_lab}
+use Rattle.stats.specs.Noise.{sigma_ab_at}
 use Rattle.stats.proofs.ChannelStats.palette_sigmas.Given as goal
 
 abbrev pub invariant-loop-i : goal.invariant-loop-i
-invariant-loop-i l =
-    (l.i-end ≡ 2 * l.hues) × (length l.sigmas ≡ length l.initial.sigmas) × Left (put_sigma l.self l.palette l.hues) (2 * l.hues) l.i l.sigmas (palette_sigmas l.self l.palette l.hues l.initial.sigmas)
-
-abbrev pub decreases-loop-i : goal.decreases-loop-i
-decreases-loop-i l = l.i-end - l.i
+invariant-loop-i l = (j : ℕ) → j < l.i → get_or l.sigma-items j nan ≡ sigma_ab_at l.self (palette_lab l.palette l.hues j).l
