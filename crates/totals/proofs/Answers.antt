@@ -12,8 +12,11 @@ use lib.ListN.{length}
 use lib.Ieee.{Float}
 use Rattle.sentences.specs.Sentences.{◌when◌, refusal, at, sound, fresh}
 use Rattle.sentences.proofs.Laws.{neither, holds, passed, none}
-use Rattle.answers.specs.Answers.{gives, refused_by}
-use Rattle.answers.proofs.Answers.{none_of, says-refused, says-given, given-none-holds, given_is}
+use Rattle.std.specs.Prelude.{Result}
+use Rattle.std.specs.Result.{IsErr, IsErrAnd}
+use Rattle.answers.specs.declared.refusal.Refusal.{Refusal}
+use Rattle.answers.specs.Answers.{number_of, said, gives, refused_by}
+use Rattle.answers.proofs.Answers.{none_of, turned_away, says-refused, says-given, given-none-holds, given_is}
 use Rattle.totals.specs.declared.Totals.{Totals}
 use Rattle.totals.specs.declared.Ratio.{Ratio}
 use Rattle.totals.specs.Batch.{plus, of_card, of_cards, bad_totals, Good, FitCard, AllFit, nil, cons}
@@ -42,20 +45,20 @@ cards-good (c ∷ cs) (cons f r) h =
 
 -- ---- a card added
 
--- n is the number that the code's tests gave
-module _ (t : Totals) (luma : List Float) (n : ℕ) (e : n ≡ refusal (card_sentences t luma)) where
-  pub card-away : (n ≡ 0 → ⊥) → refused_by n ≡ add_card_of t luma
+module _ (t : Totals) (luma : List Float) where
+  pub card-away : (x : Result Totals Refusal) (r : Refusal) → IsErr x × IsErrAnd x (λ y. y ≡ r) → number_of r ≡ refusal (card_sentences t luma) → said x ≡ add_card_of t luma
   unfolding add_card_of
-  card-away z = says-refused (card_sentences t luma) (plus t (of_card luma)) n e z
+  card-away x r p e = turned_away (card_sentences t luma) (plus t (of_card luma)) x r p e
 
-  pub card_sum : (s : Totals) → n ≡ 0 → s ≡ plus t (of_card luma) → gives s ≡ add_card_of t luma
-  unfolding add_card_of
-  card_sum s z h = says-given (card_sentences t luma) (plus t (of_card luma)) n e s z h
+  -- no sentence holds
+  module _ (e : 0 ≡ refusal (card_sentences t luma)) where
+    pub card_sum : (s : Totals) → s ≡ plus t (of_card luma) → gives s ≡ add_card_of t luma
+    unfolding add_card_of
+    card_sum s h = says-given (card_sentences t luma) (plus t (of_card luma)) s e h
 
-  module _ (z : n ≡ 0) where
     unheld : (m : ℕ) → at m (card_sentences t luma) ≡ false
     unfolding card_sentences sound fresh
-    unheld m = none_of (card_sentences t luma) refl n e z m
+    unheld m = none_of (card_sentences t luma) refl 0 e refl m
 
     not_full : (bad_totals t ≡ false) × (ltb 65535 (t.cards + 1) ≡ false)
     unfolding card_sentences at full
@@ -78,7 +81,7 @@ none-met t luma g c f = rw (le-ltb 1048576 (length luma) f.short, not-bad t g, l
 
 module _ (t : Totals) (luma : List Float) where
   taken : Good t → t.cards < 65535 → FitCard luma → add_card_of t luma ≡ gives (plus t (of_card luma))
-  taken g c f = sym (card_sum t luma 0 (none-met t luma g c f) (plus t (of_card luma)) refl refl)
+  taken g c f = sym (card_sum t luma (none-met t luma g c f) (plus t (of_card luma)) refl)
 
   -- what is given: no sentence holds, and it is the sum
   module _ (u : Totals) (h : add_card_of t luma ≡ gives u) where
@@ -91,7 +94,7 @@ module _ (t : Totals) (luma : List Float) where
     is_sum = given_is (card_sentences t luma) (plus t (of_card luma)) u (sym h)
 
     only : Good t × (t.cards < 65535) × FitCard luma
-    only = (good-before t luma _ refl unmet, room-before t luma _ refl unmet, fit-before t luma _ refl unmet)
+    only = (good-before t luma (sym unmet), room-before t luma (sym unmet), fit-before t luma (sym unmet))
 
     again : bad_totals u ≡ false
     again =
@@ -130,7 +133,7 @@ module _ (a b : Totals) (r : Bool) (e : r ≡ too_many a b) where
 
   pub totals_sum : (s : Totals) → r ≡ false → s ≡ plus a b → gives s ≡ add_totals_of a b
   unfolding add_totals_of totals_sentences
-  totals_sum s h f = says-given ((18 when too_many a b) ∷ []) (plus a b) 0 (passed 18 r (too_many a b) [] 0 e h none) s refl f
+  totals_sum s h f = says-given ((18 when too_many a b) ∷ []) (plus a b) s (passed 18 r (too_many a b) [] 0 e h none) f
 
   pub both-before : r ≡ false → Good a × Good b × (a.cards + b.cards ≤ 65535)
   both-before h = both-good a b (sym e ∙ h)
@@ -176,7 +179,7 @@ module _ (t : Totals) where
 
   pub mean-given : (r : Bool) (q : Ratio) → r ≡ bad_totals t → r ≡ false → q ≡ ratio_of t → gives q ≡ mean_of t
   unfolding mean_of mean_sentences
-  mean-given r q e h f = says-given ((18 when bad_totals t) ∷ []) (ratio_of t) 0 (passed 18 r (bad_totals t) [] 0 e h none) q refl f
+  mean-given r q e h f = says-given ((18 when bad_totals t) ∷ []) (ratio_of t) q (passed 18 r (bad_totals t) [] 0 e h none) f
 
   module _ (q : Ratio) (h : mean_of t ≡ gives q) where
     good-mean : Good t

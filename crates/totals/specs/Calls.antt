@@ -1,16 +1,9 @@
 -- The calls that add: their sentences in checking order, what they answer, and what holds of it. Definitions only.
 use Rattle.std.specs.Prelude.{◌≡◌, Bool, false, ◌||◌, List, [], ◌∷◌, ◌++◌, ◌+◌, ◌≤◌, ◌<◌, ltb, length, Float}
 use Rattle.sentences.specs.Sentences.{Sentence, ◌when◌}
-use Rattle.answers.specs.Answers.{Said, refused_by, gives, answered}
+use Rattle.answers.specs.Answers.{Said, gives, answered}
 use Rattle.totals.specs.declared.Totals.{Totals}
-use Rattle.totals.specs.declared.Sums.{Sums}
-use Rattle.totals.specs.declared.Sums.TheVariants as sums
 use Rattle.totals.specs.Batch.{plus, of_card, of_cards, bad_totals, Good, unfit_in, FitCard, AllFit}
-
--- the number and the totals of each case
-abbrev pub sums_said : Sums → Said Totals
-sums_said (sums.Refused n) = refused_by n
-sums_said (sums.Are t) = gives t
 
 -- ---- a card added
 

@@ -2,12 +2,10 @@
 use Rattle.std.specs.Prelude.{◌≡◌, Bool, not, cond, List, [], ◌∷◌, ℕ, ◌*◌, ◌/◌, ◌%◌, ◌<◌, eqb}
 use Rattle.std.specs.Int.{◌∣◌}
 use Rattle.sentences.specs.Sentences.{Sentence, ◌when◌}
-use Rattle.answers.specs.Answers.{Said, refused_by, gives, answered}
+use Rattle.answers.specs.Answers.{Said, gives, answered}
 use Rattle.loops.specs.Loops.{while_do}
 use Rattle.totals.specs.declared.Totals.{Totals}
 use Rattle.totals.specs.declared.Ratio.{Ratio}
-use Rattle.totals.specs.declared.Average.{Average}
-use Rattle.totals.specs.declared.Average.TheVariants as average
 use Rattle.totals.specs.Batch.{bad_totals}
 
 -- ---- the greatest common divisor, by Euclid
@@ -43,11 +41,6 @@ over n d = record { numerator = n; denominator = d }
 unfoldable pub ratio_of : Totals → Ratio
 unfolding gcd
 ratio_of t = cond (eqb t.modules 0) (over 0 1) (over (t.sum / gcd t.sum t.modules) (t.modules / gcd t.sum t.modules))
-
--- the number and the fraction of each case
-abbrev pub average_said : Average → Said Ratio
-average_said (average.Refused n) = refused_by n
-average_said (average.Is q) = gives q
 
 unfoldable pub mean_sentences : Totals → List Sentence
 mean_sentences t = (18 when bad_totals t) ∷ []

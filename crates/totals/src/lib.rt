@@ -8,11 +8,14 @@
 
 ghost use Rattle.std.specs.Prelude.{◌≡◌, false, [], ◌+◌, ◌<◌, ◌≤◌};
 ghost use Rattle.sentences.specs.Sentences.{refusal};
+ghost use Rattle.answers.specs.Answers.{said, outcome_number};
 ghost use Rattle.floatlaws.specs.Whole.{NearestWhole};
 ghost use Rattle.totals.specs.Score as score;
 ghost use Rattle.totals.specs.Batch as spec;
 ghost use Rattle.totals.specs.Calls as call;
 ghost use Rattle.totals.specs.LowestTerms as average;
+
+use answers::Refusal;
 
 // What a batch adds up to: its cards, its modules, those of them that are undecided, those whose score's magnitude is
 // under 12, and the sum of the magnitudes in 65,536ths.
@@ -26,26 +29,12 @@ pub struct Totals {
     pub sum: u64,
 }
 
-// What a call that answers totals gives: the refusal, or the totals.
-#[derive(Clone, Copy)]
-pub enum Sums {
-    Refused(u32),
-    Are(Totals),
-}
-
 // A fraction of two whole numbers.
 #[repr(C)]
 #[derive(Clone, Copy)]
 pub struct Ratio {
     pub numerator: u64,
     pub denominator: u64,
-}
-
-// What the mean answers: the refusal, or the fraction.
-#[derive(Clone, Copy)]
-pub enum Average {
-    Refused(u32),
-    Is(Ratio),
 }
 
 // The totals of no card, all zero. Refuses nothing.
@@ -184,31 +173,29 @@ fn full(t: Totals) -> bool
     65535 < t.cards + 1
 }
 
-fn refused_card(t: Totals, luma: &[f32]) -> u32
-    ensures { result ≡ refusal (call.card_sentences t luma.now) }
+// Whether totals and a card pass. Refused: 6, 18, 19.
+fn check_card(t: Totals, luma: &[f32]) -> Result<(), Refusal>
+    ensures { outcome_number result ≡ refusal (call.card_sentences t luma.now) }
 {
     if 1048576 < luma.len() {
-        return 6;
+        return Err(Refusal::Count);
     }
     if full(t) {
-        return 18;
+        return Err(Refusal::Totals);
     }
     if bad_scores(luma) {
-        return 19;
+        return Err(Refusal::Score);
     }
-    0
+    Ok(())
 }
 
 // A card added to totals: `luma` has its refined scores, one a module. What is answered can be handed in again, and
 // where t are the totals of some cards it is the totals of these and the card. Refused: 6, 18, 19.
-pub fn add_card(t: Totals, luma: &[f32]) -> Sums
-    ensures { (call.sums_said result ≡ call.add_card_of t luma.now) × call.CardAdded t luma.now }
+pub fn add_card(t: Totals, luma: &[f32]) -> Result<Totals, Refusal>
+    ensures { (said result ≡ call.add_card_of t luma.now) × call.CardAdded t luma.now }
 {
-    let n = refused_card(t, luma);
-    if n != 0 {
-        return Sums::Refused(n);
-    }
-    Sums::Are(add_scores(t, luma))
+    check_card(t, luma)?;
+    Ok(add_scores(t, luma))
 }
 
 // ---- two batches
@@ -242,13 +229,13 @@ fn plus(a: Totals, b: Totals) -> Totals
 
 // The totals of two batches added. What is answered can be handed in again, and where a and b are the totals of some
 // cards it is the totals of them all, in any order and however they are split. Refused: 18.
-pub fn add_totals(a: Totals, b: Totals) -> Sums
-    ensures { (call.sums_said result ≡ call.add_totals_of a b) × call.BatchesAdded a b × spec.AddUp }
+pub fn add_totals(a: Totals, b: Totals) -> Result<Totals, Refusal>
+    ensures { (said result ≡ call.add_totals_of a b) × call.BatchesAdded a b × spec.AddUp }
 {
     if too_many(a, b) {
-        return Sums::Refused(18);
+        return Err(Refusal::Totals);
     }
-    Sums::Are(plus(a, b))
+    Ok(plus(a, b))
 }
 
 // ---- the mean
@@ -285,11 +272,11 @@ fn reduced(t: Totals) -> Ratio
 }
 
 // The mean magnitude in 65,536ths, as two whole numbers without common factor; 0 over 1 with no modules. Refused: 18.
-pub fn mean(t: Totals) -> Average
-    ensures { (average.average_said result ≡ average.mean_of t) × average.MeanLowest t }
+pub fn mean(t: Totals) -> Result<Ratio, Refusal>
+    ensures { (said result ≡ average.mean_of t) × average.MeanLowest t }
 {
     if bad_totals(t) {
-        return Average::Refused(18);
+        return Err(Refusal::Totals);
     }
-    Average::Is(reduced(t))
+    Ok(reduced(t))
 }

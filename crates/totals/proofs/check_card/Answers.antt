@@ -1,8 +1,8 @@
--- `totals::refused_card` meets its contract: the sentences in their order, one return for each. Assumes nothing.
+-- `totals::check_card` meets its contract: the sentences in their order, one return for each. Assumes nothing.
 use Rattle.sentences.proofs.Laws.{sentences}
 use Rattle.totals.specs.Calls.{card_sentences}
 use Rattle.totals.proofs.Shapes.{long, not-long}
-use Rattle.totals.proofs.refused_card.Goals as goal
+use Rattle.totals.proofs.check_card.Goals as goal
 
 pub returns-then-luma-gt1048576 : goal.returns-then-luma-gt1048576
 unfolding card_sentences
