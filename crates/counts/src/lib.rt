@@ -8,12 +8,12 @@
 ghost use Rattle.std.specs.Prelude.{◌≡◌, false, ◌+◌, ◌<◌, ◌≤◌, length};
 ghost use Rattle.sentences.specs.Sentences.{refusal};
 ghost use Rattle.limits.specs.Limits.{bad_hues};
-ghost use Rattle.answers.specs.Answers.{ended};
+ghost use Rattle.answers.specs.Answers.{outcome_number, ended};
 ghost use Rattle.color.specs.Palette.{palette_len};
 ghost use Rattle.counts.specs.Counts as spec;
 ghost use Rattle.counts.specs.Calls as call;
 
-use answers::Outcome;
+use answers::Refusal;
 use color::{Lab, Srgb8};
 use stats::ChannelStats;
 
@@ -160,22 +160,23 @@ fn short(palette: &[f32], hues: usize, out: &[u32]) -> bool
     out.len() < classes(hues)
 }
 
-fn refused(noise: ChannelStats, palette: &[f32], hues: usize, out: &[u32]) -> u32
-    ensures { result ≡ refusal (call.sentences_of noise palette.now hues out.now) }
+// Whether the call passes. Refused: 3, 5, 8, 9.
+fn check(noise: ChannelStats, palette: &[f32], hues: usize, out: &[u32]) -> Result<(), Refusal>
+    ensures { outcome_number result ≡ refusal (call.sentences_of noise palette.now hues out.now) }
 {
     if limits::bad_hues(hues) {
-        return 3;
+        return Err(Refusal::Hues);
     }
     if short(palette, hues, out) {
-        return 5;
+        return Err(Refusal::Length);
     }
     if stats::bad_numbers(noise, palette, hues) {
-        return 8;
+        return Err(Refusal::Number);
     }
     if stats::bad_sigmas(noise) {
-        return 9;
+        return Err(Refusal::Sigma);
     }
-    0
+    Ok(())
 }
 
 // Core: the counts, of a palette and room that are long enough.
@@ -191,13 +192,15 @@ pub fn counts_of(noise: ChannelStats, palette: &[f32], hues: usize, out: &mut [u
 // unit model: dark by hue, then light by hue, then those whose `luma_llr` is zero or a NaN; with chroma off dark, light
 // and the last. The counts add up to 32,768. What lies past them in `out` is kept. Refused: 3, 5, 8, 9; nothing is
 // written then.
-pub fn colour_counts(noise: ChannelStats, palette: &[f32], hues: usize, out: &mut [u32]) -> Outcome
+pub fn colour_counts(
+    noise: ChannelStats,
+    palette: &[f32],
+    hues: usize,
+    out: &mut [u32],
+) -> Result<(), Refusal>
     ensures { (ended result out.new ≡ call.counts_of noise palette.now hues out.old) × call.Accepted result noise palette.now hues out.old out.new }
 {
-    let n = refused(noise, palette, hues, out);
-    if n != 0 {
-        return Outcome::Refused(n);
-    }
+    check(noise, palette, hues, out)?;
     counts_of(noise, palette, hues, out);
-    Outcome::Done
+    Ok(())
 }

@@ -1,13 +1,13 @@
 -- `colour_counts` meets its contract: the number with the room untouched, or the counts, which add up. Assumes nothing.
-use Rattle.answers.proofs.Answers.{list-kept, list_written}
+use Rattle.answers.proofs.Answers.{list_on, list_written}
 use Rattle.counts.proofs.Passed.{past-hues, past-palette, past_room, of_refused, of_done}
 use Rattle.counts.proofs.colour_counts.Goals as goal
 
-pub returns-then-n-ne0 : goal.returns-then-n-ne0
-returns-then-n-ne0 c = (search (list-kept), search (of_refused))
+pub returns-in_err-check : goal.returns-in_err-check
+returns-in_err-check c = (search (list_on, c.in_err-check.ensures), of_refused _ _ _ _ _ _ _ c.from_residual.ensures)
 
 pub counts_of-requires : goal.counts_of-requires
-counts_of-requires c = (search (past-hues), search (past-palette), search (past_room))
+counts_of-requires c = (past-hues _ _ _ _ c.in_ok-check.ensures, past-palette _ _ _ _ c.in_ok-check.ensures, past_room _ _ _ _ c.in_ok-check.ensures)
 
 pub returns : goal.returns
-returns c = (search (list_written), search (of_done))
+returns c = (search (list_written, c.in_ok-check.ensures), search (of_done))

@@ -1,4 +1,4 @@
--- `refused` meets its contract: the sentences in their order, one return for each. Assumes nothing.
+-- `check` meets its contract: the sentences in their order, one return for each. Assumes nothing.
 use mathlib.Core.Path.{◌≡◌, sym, ◌∙◌}
 use mathlib.Core.Bool.{Bool, false}
 use mathlib.Core.List.{List}
@@ -11,7 +11,7 @@ use Rattle.limits.specs.Limits.{bad_hues}
 use Rattle.color.specs.Palette.{palette_len}
 use Rattle.counts.specs.Calls.{short, sentences_of}
 use Rattle.counts.proofs.Passed.{long-enough}
-use Rattle.counts.proofs.refused.Goals as goal
+use Rattle.counts.proofs.check.Goals as goal
 
 one_of_five : (k : ℕ) (r : Bool) → r ≡ bad_hues k → r ≡ false → bad_hues k ≡ false
 one_of_five k r e f = sym e ∙ f
