@@ -25,8 +25,8 @@ use Rattle.stats.specs.Calls.{short_palette, bad_noise_numbers, bad_numbers, bad
 use Rattle.stats.proofs.Passed.{palette-long}
 use Rattle.observed.specs.Ready.{Sampled}
 use Rattle.demod.specs.declared.ScoreReport.{ScoreReport}
-use Rattle.demod.specs.declared.Scored.TheVariants.{Done}
-use Rattle.demod.specs.Call.{bad_module_lengths, bad_cell_lengths, short_chroma, bad_lengths, bad_inputs, bad_corrected, Request, module_colours, cell_colours, sentences_of, report_of, scored_said, turned_away, done, scored_of}
+use Rattle.answers.specs.Answers.{gives}
+use Rattle.demod.specs.Call.{bad_module_lengths, bad_cell_lengths, short_chroma, bad_lengths, bad_inputs, bad_corrected, Request, module_colours, cell_colours, sentences_of, report_of, turned_away, done, scored_of}
 use Rattle.observed.specs.Colours.{wild_colour_at, wild_colours}
 use Rattle.observed.proofs.Places.{exact_xs, exact_ys}
 
@@ -92,7 +92,7 @@ module _ (hues : ℕ) (modules : ℕ → Linear) (m : ℕ) (cells : ℕ → Line
   cells-tame : chroma_on hues ≡ true → (i : ℕ) → i < c → wild_linear (cells i) ≡ false
   cells-tame o = any_up-false (wild_colour_at cells) c (rw o at both.1)
 
--- at Done no sentence holds
+-- where a call is accepted no sentence holds
 pub record Accepted (q : Request) : Type 0 where
   pub shaped : Shaped q.layout
   pub lengths : Lengths q.layout q.xs q.ys q.raw q.cxs q.cys q.craw q.palette q.luma q.colours q.chroma
@@ -105,14 +105,14 @@ pub record Accepted (q : Request) : Type 0 where
   pub cells-tame : chroma_on q.layout.hues ≡ true → (i : ℕ) → i < length q.cxs → wild_linear (cell_colours q i) ≡ false
 
 module _ (q : Request) where
-  numbered : sound (sentences_of q) ≡ true
+  sound-list : sound (sentences_of q) ≡ true
   unfolding sentences_of shape placement sound fresh
-  numbered = refl
+  sound-list = refl
 
   module _ (n : ℕ) (e : n ≡ refusal (sentences_of q)) where
     -- the sentence of the number that is given holds, and none that is tried before it does
     pub given : (n ≡ 0 → ⊥) → at n (sentences_of q) ≡ true
-    given z = that_holds n (sentences_of q) numbered z e
+    given z = that_holds n (sentences_of q) sound-list z e
 
     pub first : (m : ℕ) → at m (before n (sentences_of q)) ≡ false
     first m = earlier_fail n (sentences_of q) m e
@@ -121,83 +121,83 @@ module _ (q : Request) where
     unfolding scored_of
     turned-away z = refuses (turned_away q) (done q) n (refusal (sentences_of q)) z e
 
-    module _ (z : n ≡ 0) where
-      pub taken : done q ≡ scored_of q
-      unfolding scored_of
-      taken = accepts (turned_away q) (done q) n (refusal (sentences_of q)) z e
+  module _ (e : 0 ≡ refusal (sentences_of q)) where
+    pub taken : done q ≡ scored_of q
+    unfolding scored_of
+    taken = accepts (turned_away q) (done q) 0 (refusal (sentences_of q)) refl e
 
-      none : (m : ℕ) → at m (sentences_of q) ≡ false
-      none m = none-holds (sentences_of q) numbered m (sym z ∙ e)
+    none : (m : ℕ) → at m (sentences_of q) ≡ false
+    none m = none-holds (sentences_of q) sound-list m e
 
-      -- the two groups are passed
-      is_shaped : Shaped q.layout
-      unfolding sentences_of
-      is_shaped = shaped q.layout 0 (split (shape q.layout) _ (shape-sound q.layout) (sym z ∙ e)).0 refl
+    -- the two groups are passed
+    is_shaped : Shaped q.layout
+    unfolding sentences_of
+    is_shaped = shaped q.layout 0 (split (shape q.layout) _ (shape-sound q.layout) e).0 refl
 
-      is_placed : Placed q.layout q.xs q.ys q.cxs q.cys
-      unfolding sentences_of sound fresh
-      is_placed =
-          let past-shape = (split (shape q.layout) _ (shape-sound q.layout) (sym z ∙ e)).1 in
-          let past-lengths = (split (_ ∷ []) _ refl past-shape).1 in
-          let at-placement = (split (placement q.layout q.xs q.ys q.cxs q.cys) _ (placement-sound q.layout q.xs q.ys q.cxs q.cys) past-lengths).0 in
-          placed q.layout q.xs q.ys q.cxs q.cys 0 at-placement refl
+    is_placed : Placed q.layout q.xs q.ys q.cxs q.cys
+    unfolding sentences_of sound fresh
+    is_placed =
+        let past-shape = (split (shape q.layout) _ (shape-sound q.layout) e).1 in
+        let past-lengths = (split (_ ∷ []) _ refl past-shape).1 in
+        let at-placement = (split (placement q.layout q.xs q.ys q.cxs q.cys) _ (placement-sound q.layout q.xs q.ys q.cxs q.cys) past-lengths).0 in
+        placed q.layout q.xs q.ys q.cxs q.cys 0 at-placement refl
 
-      long : Lengths q.layout q.xs q.ys q.raw q.cxs q.cys q.craw q.palette q.luma q.colours q.chroma
-      unfolding sentences_of shape at
-      long = lengths_in q.layout q.xs q.ys q.raw q.cxs q.cys q.craw q.palette q.luma q.colours q.chroma (none 5)
+    long : Lengths q.layout q.xs q.ys q.raw q.cxs q.cys q.craw q.palette q.luma q.colours q.chroma
+    unfolding sentences_of shape at
+    long = lengths_in q.layout q.xs q.ys q.raw q.cxs q.cys q.craw q.palette q.luma q.colours q.chroma (none 5)
 
-      pub accepted : Accepted q
-      unfolding sentences_of shape placement at
-      accepted =
-          record {
-            shaped = is_shaped;
-            lengths = long;
-            placed = is_placed;
-            sampled =
-                record {
-                  pairs = long.pairs.modules;
-                  xs_exact = exact_xs q.layout.side q.layout.grid q.xs q.ys is_shaped.side-most is_placed.places-good;
-                  ys_exact = exact_ys q.layout.side q.layout.grid q.xs q.ys is_shaped.side-most is_placed.places-good;
-                  raw-three = long.raw-three;
-                };
-            inputs = inputs_in q.raw (length q.xs) q.craw (length q.cxs) q.noise q.palette q.layout.hues (none 8);
-            sigmas = none 9;
-            model = none 10;
-            modules-tame = modules-tame q.layout.hues (module_colours q) (length q.xs) (cell_colours q) (length q.cxs) (none 12);
-            cells-tame = cells-tame q.layout.hues (module_colours q) (length q.xs) (cell_colours q) (length q.cxs) (none 12);
-          }
+    pub accepted : Accepted q
+    unfolding sentences_of shape placement at
+    accepted =
+        record {
+          shaped = is_shaped;
+          lengths = long;
+          placed = is_placed;
+          sampled =
+              record {
+                pairs = long.pairs.modules;
+                xs_exact = exact_xs q.layout.side q.layout.grid q.xs q.ys is_shaped.side-most is_placed.places-good;
+                ys_exact = exact_ys q.layout.side q.layout.grid q.xs q.ys is_shaped.side-most is_placed.places-good;
+                raw-three = long.raw-three;
+              };
+          inputs = inputs_in q.raw (length q.xs) q.craw (length q.cxs) q.noise q.palette q.layout.hues (none 8);
+          sigmas = none 9;
+          model = none 10;
+          modules-tame = modules-tame q.layout.hues (module_colours q) (length q.xs) (cell_colours q) (length q.cxs) (none 12);
+          cells-tame = cells-tame q.layout.hues (module_colours q) (length q.xs) (cell_colours q) (length q.cxs) (none 12);
+        }
 
--- the number is that of the first sentence that holds, and the answer's; where it is 0 the call is done
+-- the number is that of the first sentence that holds; where it is 0 the answer is the call's report
 module _ (q : Request) where
-  number_of : (n : ℕ) → (decided n (turned_away q) (done q)).number ≡ n
+  number-by : (n : ℕ) → (decided n (turned_away q) (done q)).number ≡ n
   unfolding decided
-  number_of zero = refl
-  number_of (suc n) = refl
+  number-by zero = refl
+  number-by (suc n) = refl
 
-  answer_of : (n : ℕ) → (scored_said (decided n (turned_away q) (done q)).answer).number ≡ (decided n (turned_away q) (done q)).number
+  answer-by : (n : ℕ) → (decided n (turned_away q) (done q)).answer.number ≡ (decided n (turned_away q) (done q)).number
   unfolding decided
-  answer_of zero = refl
-  answer_of (suc n) = refl
+  answer-by zero = refl
+  answer-by (suc n) = refl
 
-  done_of : (n : ℕ) → n ≡ 0 → (decided n (turned_away q) (done q)).answer ≡ Done (report_of q)
+  done-by : (n : ℕ) → n ≡ 0 → (decided n (turned_away q) (done q)).answer ≡ gives (report_of q)
   unfolding decided
-  done_of zero z = refl
-  done_of (suc n) z = absurd (omega arith)
+  done-by zero z = refl
+  done-by (suc n) z = absurd (omega arith)
 
   pub number : (scored_of q).number ≡ refusal (sentences_of q)
   unfolding scored_of
-  number = number_of (refusal (sentences_of q))
+  number = number-by (refusal (sentences_of q))
 
-  pub answer-number : (scored_said (scored_of q).answer).number ≡ (scored_of q).number
+  pub answer-number : (scored_of q).answer.number ≡ (scored_of q).number
   unfolding scored_of
-  answer-number = answer_of (refusal (sentences_of q))
+  answer-number = answer-by (refusal (sentences_of q))
 
-  pub done-answer : (scored_of q).number ≡ 0 → (scored_of q).answer ≡ Done (report_of q)
+  pub done-answer : (scored_of q).number ≡ 0 → (scored_of q).answer ≡ gives (report_of q)
   unfolding scored_of
-  done-answer z = done_of (refusal (sentences_of q)) (sym (number_of (refusal (sentences_of q))) ∙ z)
+  done-answer z = done-by (refusal (sentences_of q)) (sym (number-by (refusal (sentences_of q))) ∙ z)
 
   -- what is reported is the call's report
-  pub report_is : (r : ScoreReport) → (scored_of q).answer ≡ Done r → r ≡ report_of q
+  pub report_is : (r : ScoreReport) → (scored_of q).answer ≡ gives r → r ≡ report_of q
   report_is r e =
-      let z : (scored_of q).number ≡ 0 = sym answer-number ∙ ap (λ a. (scored_said a).number) e in
-      some-injective r (report_of q) (ap (λ a. (scored_said a).value) (sym e ∙ done-answer z))
+      let z : (scored_of q).number ≡ 0 = sym answer-number ∙ ap (λ a. a.number) e in
+      some-injective r (report_of q) (ap (λ a. a.value) (sym e ∙ done-answer z))

@@ -13,9 +13,9 @@ use lib.Ieee.{Float, nan}
 use Rattle.sentences.specs.Sentences.{refusal, at, before}
 use Rattle.limits.specs.Chroma.{chroma_on, symbol_bits, ring_modules, chroma_entries, chroma_length}
 use Rattle.modulate.specs.declared.Cell.TheVariants.{Unmasked, At}
-use Rattle.demod.specs.declared.Scored.TheVariants.{Done}
+use Rattle.answers.specs.Answers.{gives}
 use Rattle.scores.specs.Score.{write_cells, write_rings, ring_chroma, chroma_written}
-use Rattle.demod.specs.Call.{Request, module_colours, cell_colours, sentences_of, report_of, scored_said, turned_away, done, written_modules, written_chroma, scored_of}
+use Rattle.demod.specs.Call.{Request, module_colours, cell_colours, sentences_of, report_of, turned_away, done, written_modules, written_chroma, scored_of}
 use Rattle.demod.proofs.Accepted.{Accepted, accepted, number, answer-number, given, first, turned-away, taken}
 use Rattle.scores.proofs.Written.{Modules, modules_are, Entries, entry_score, place, cells_are, cell_of, rings_are, ring-has, ring_long, ring-below, ring-past}
 
@@ -120,13 +120,13 @@ module _ (q : Request) where
     pub chroma : chroma_on q.layout.hues ≡ true → Listed q
     pub no_chroma : chroma_on q.layout.hues ≡ false → written_chroma q ≡ q.chroma
 
-  pub at_done : (scored_of q).answer ≡ Done (report_of q) → IsDone
+  pub at_done : (scored_of q).answer ≡ gives (report_of q) → IsDone
   at_done h =
-      let e : 0 ≡ refusal (sentences_of q) = sym (ap (λ a. (scored_said a).number) h) ∙ (answer-number q ∙ number q) in
-      let a = accepted q 0 e refl in
+      let e : 0 ≡ refusal (sentences_of q) = sym (ap (λ a. a.number) h) ∙ (answer-number q ∙ number q) in
+      let a = accepted q e in
       record {
         fit = a;
-        left = sym (taken q 0 e refl);
+        left = sym (taken q e);
         wrote = modules_are q.noise q.palette q.layout.hues (module_colours q) q.luma q.colours (length q.xs) a.lengths.scores a.lengths.places;
         chroma = listed q a;
         no_chroma = chroma-off q;

@@ -17,7 +17,7 @@ use Rattle.color.specs.declared.Linear.{Linear}
 use Rattle.color.specs.Color.{whole, fraction, linear_to_lab}
 use Rattle.color.specs.Palette.{linear_at, wild_linear}
 use Rattle.color.proofs.Bounded.{lab-within}
-use Rattle.demod.specs.declared.Scored.TheVariants.{Done}
+use Rattle.answers.specs.Answers.{gives}
 use Rattle.illum.specs.declared.IlluminationModel.{IlluminationModel}
 use Rattle.illum.specs.Correct.{affine_row, mixed}
 use Rattle.stats.specs.declared.ChannelStats.{ChannelStats}
@@ -58,7 +58,7 @@ module _ (n : ChannelStats) (g : Good n) (palette : List Float) (hues : ℕ) (c 
       either false = llr_in
 
 -- the scores that an accepted call leaves
-pub luma_in : (q : Request) → Held q.noise → (scored_of q).answer ≡ Done (report_of q) → (i : ℕ) → i < length q.xs → In binary32 (neg (whole 20)) (whole 20) (get_or (scored_of q).luma i nan)
+pub luma_in : (q : Request) → Held q.noise → (scored_of q).answer ≡ gives (report_of q) → (i : ℕ) → i < length q.xs → In binary32 (neg (whole 20)) (whole 20) (get_or (scored_of q).luma i nan)
 luma_in q f e i l =
     let d = at_done q e in
     let a = d.fit in
@@ -66,7 +66,7 @@ luma_in q f e i l =
     rw (ap (λ (t : Final). get_or t.luma i nan) d.left ∙ d.wrote.scored i l) s
 
 -- and the corrected colours, which pass sentence 8 in turn
-pub colour-tame : (q : Request) → (scored_of q).answer ≡ Done (report_of q) → (i : ℕ) → i < length q.xs → wild_linear (linear_at (scored_of q).colours i) ≡ false
+pub colour-tame : (q : Request) → (scored_of q).answer ≡ gives (report_of q) → (i : ℕ) → i < length q.xs → wild_linear (linear_at (scored_of q).colours i) ≡ false
 colour-tame q e i l =
     let d = at_done q e in
     rw (ap (λ (t : Final). linear_at t.colours i) d.left ∙ d.wrote.coloured i l) (d.fit.modules-tame i l)

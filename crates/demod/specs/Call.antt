@@ -1,12 +1,13 @@
 -- `score`: which sentences of document 01 it can meet, in checking order, and what it leaves. Definitions only.
-use Rattle.std.specs.Prelude.{Bool, false, not, cond, ◌||◌, List, [], ◌∷◌, ◌++◌, ℕ, ◌*◌, ltb, eqb, ℤ, length, Float}
+use Rattle.std.specs.Prelude.{Bool, false, not, cond, ◌||◌, List, [], ◌∷◌, ◌++◌, ℕ, ◌*◌, ltb, eqb, ℤ, length, Float, Result}
 use Rattle.sentences.specs.Sentences.{Sentence, ◌when◌, refusal, decided}
 use Rattle.layout.specs.declared.Layout.{Layout}
 use Rattle.layout.specs.Groups.{shape, placement}
 use Rattle.limits.specs.Chroma.{chroma_on, ring_modules, chroma_length}
 use Rattle.color.specs.declared.Linear.{Linear}
 use Rattle.color.specs.Palette.{wild_in}
-use Rattle.answers.specs.Answers.{Said, refused_by, gives}
+use Rattle.answers.specs.declared.refusal.Refusal.{Refusal}
+use Rattle.answers.specs.Answers.{Said, refused_by, gives, said}
 use Rattle.illum.specs.declared.IlluminationModel.{IlluminationModel}
 use Rattle.illum.specs.Refusals.{bad_model}
 use Rattle.stats.specs.declared.ChannelStats.{ChannelStats}
@@ -14,8 +15,6 @@ use Rattle.stats.specs.Calls.{short_palette, bad_numbers, bad_sigmas}
 use Rattle.observed.specs.Colours.{module_colour, cell_colour, wild_colours, held_module_count}
 use Rattle.scores.specs.Score.{Sheet, sheet, write_modules, chroma_written, chroma_held}
 use Rattle.demod.specs.declared.ScoreReport.{ScoreReport}
-use Rattle.demod.specs.declared.Scored.{Scored}
-use Rattle.demod.specs.declared.Scored.TheVariants.{Refused, Done}
 
 -- ---- the sentences that `score` puts together
 
@@ -102,28 +101,26 @@ report_of q =
       held_cells = chroma_held q.layout q.model q.cxs q.cys;
     }
 
--- what each case of the answer says
-abbrev pub scored_said : Scored → Said ScoreReport
-scored_said (Refused n) = refused_by n
-scored_said (Done r) = gives r
-
 -- what it gives back: document 01's number, its answer, and the three lent slices
 pub record Final : Type 0 where
   pub number : ℕ
-  pub answer : Scored
+  pub answer : Said ScoreReport
   pub luma : List Float
   pub colours : List Float
   pub chroma : List Float
 
-abbrev pub final : Scored → List Float → List Float → List Float → Final
-final r luma colours chroma = record { number = (scored_said r).number; answer = r; luma = luma; colours = colours; chroma = chroma }
+abbrev pub answering : Said ScoreReport → List Float → List Float → List Float → Final
+answering a luma colours chroma = record { number = a.number; answer = a; luma = luma; colours = colours; chroma = chroma }
+
+abbrev pub final : Result ScoreReport Refusal → List Float → List Float → List Float → Final
+final r luma colours chroma = answering (said r) luma colours chroma
 
 -- refused by sentence n: nothing changes
 abbrev pub turned_away : Request → ℕ → Final
-turned_away q n = final (Refused n) q.luma q.colours q.chroma
+turned_away q n = answering (refused_by n) q.luma q.colours q.chroma
 
 abbrev pub done : Request → Final
-done q = final (Done (report_of q)) (written_modules q).luma (written_modules q).colours (written_chroma q)
+done q = answering (gives (report_of q)) (written_modules q).luma (written_modules q).colours (written_chroma q)
 
 unfoldable pub scored_of : Request → Final
 scored_of q = decided (refusal (sentences_of q)) (turned_away q) (done q)

@@ -6,17 +6,18 @@
 // that was held at 0.05.
 #![tactic(auto)]
 
-ghost use Rattle.std.specs.Prelude.{◌≡◌, ◌*◌, ◌≤◌, length};
+ghost use Rattle.std.specs.Prelude.{◌≡◌, ◌*◌, ◌≤◌, Ok, length};
 ghost use Rattle.sentences.specs.Sentences.{refusal};
 ghost use Rattle.layout.specs.Groups.{Shaped};
+ghost use Rattle.answers.specs.Answers.{outcome_number};
 ghost use Rattle.color.specs.Palette.{palette_len};
 ghost use Rattle.observed.specs.Colours.{module_colour, cell_colour};
 ghost use Rattle.observed.specs.Ready.{Sampled};
 ghost use Rattle.demod.specs.Ready.{Scorable};
 ghost use Rattle.demod.specs.Call as call;
 ghost use Rattle.demod.specs.Call.{request, sentences_of, final, done, scored_of};
-ghost use Rattle.demod.specs.declared.Scored.TheVariants.{Done};
 
+use answers::Refusal;
 use color::palette::wild_in;
 use illum::IlluminationModel;
 use layout::Layout;
@@ -31,42 +32,29 @@ pub struct ScoreReport {
     pub held_cells: usize,
 }
 
-// What `score` answers: a refusal by its number, or that it is done, with its report.
-#[derive(Clone, Copy)]
-pub enum Scored {
-    Refused(u32),
-    Done(ScoreReport),
-}
-
 // ---- the sentences
 
 // Sentence 5, of modules.
+#[tactic(auto, unfolding(crate::specs::Call::bad_module_lengths))]
 fn bad_module_lengths(xs: &[i32], ys: &[i32], raw: &[f32], luma: &[f32], colours: &[f32]) -> bool
     ensures { result ≡ call.bad_module_lengths (length xs.now) (length ys.now) (length raw.now) (length luma.now) (length colours.now) }
 {
-    if xs.len() != ys.len() {
-        return true;
-    }
-    if raw.len() < 3 * xs.len() {
-        return true;
-    }
-    if luma.len() < xs.len() {
-        return true;
-    }
-    colours.len() < 3 * xs.len()
+    xs.len() != ys.len()
+        || raw.len() < 3 * xs.len()
+        || luma.len() < xs.len()
+        || colours.len() < 3 * xs.len()
 }
 
 // Sentence 5, of cells.
+#[tactic(auto, unfolding(crate::specs::Call::bad_cell_lengths))]
 fn bad_cell_lengths(cxs: &[u16], cys: &[u16], raw: &[f32]) -> bool
     ensures { result ≡ call.bad_cell_lengths (length cxs.now) (length cys.now) (length raw.now) }
 {
-    if cxs.len() != cys.len() {
-        return true;
-    }
-    raw.len() < 3 * cxs.len()
+    cxs.len() != cys.len() || raw.len() < 3 * cxs.len()
 }
 
 // Sentence 5, of the chroma scores.
+#[tactic(auto, unfolding(crate::specs::Call::short_chroma))]
 fn short_chroma(layout: Layout, chroma: &[f32], modules: usize, cells: usize) -> bool
     ensures { result ≡ call.short_chroma layout (length chroma.now) modules cells }
 {
@@ -75,6 +63,7 @@ fn short_chroma(layout: Layout, chroma: &[f32], modules: usize, cells: usize) ->
 }
 
 // Sentence 8, of the raw colours of m modules and c cells, of the palette and of the noise record.
+#[tactic(auto, unfolding(crate::specs::Call::bad_inputs))]
 fn bad_inputs(
     raw: &[f32],
     m: usize,
@@ -87,16 +76,11 @@ fn bad_inputs(
     requires { (3 * m ≤ length raw.now) × (3 * c ≤ length craw.now) × (palette_len hues ≤ length palette.now) }
     ensures { result ≡ call.bad_inputs raw.now m craw.now c noise palette.now hues }
 {
-    if wild_in(raw, 3 * m) {
-        return true;
-    }
-    if wild_in(craw, 3 * c) {
-        return true;
-    }
-    stats::bad_numbers(noise, palette, hues)
+    wild_in(raw, 3 * m) || wild_in(craw, 3 * c) || stats::bad_numbers(noise, palette, hues)
 }
 
 // Sentence 12: of modules, and with chroma on of cells.
+#[tactic(auto, unfolding(crate::specs::Call::bad_corrected))]
 fn bad_corrected(
     layout: Layout,
     model: IlluminationModel,
@@ -110,16 +94,13 @@ fn bad_corrected(
     requires { Shaped layout × Sampled xs.now ys.now raw.now × (length cxs.now ≡ length cys.now) × (3 * length cxs.now ≤ length craw.now) }
     ensures { result ≡ call.bad_corrected layout.hues (module_colour model xs.now ys.now raw.now) (length xs.now) (cell_colour model layout.size cxs.now cys.now craw.now) (length cxs.now) }
 {
-    if observed::bad_module_colours(model, xs, ys, raw) {
-        return true;
-    }
-    if limits::chroma_on(layout.hues) {
-        return observed::bad_cell_colours(model, layout.size, cxs, cys, craw);
-    }
-    false
+    observed::bad_module_colours(model, xs, ys, raw)
+        || limits::chroma_on(layout.hues)
+            && observed::bad_cell_colours(model, layout.size, cxs, cys, craw)
 }
 
 // Sentence 5.
+#[tactic(auto, unfolding(crate::specs::Call::bad_lengths))]
 fn bad_lengths(
     layout: Layout,
     xs: &[i32],
@@ -135,20 +116,14 @@ fn bad_lengths(
 ) -> bool
     ensures { result ≡ call.bad_lengths layout xs.now ys.now raw.now cxs.now cys.now craw.now palette.now luma.now colours.now chroma.now }
 {
-    if bad_module_lengths(xs, ys, raw, luma, colours) {
-        return true;
-    }
-    if bad_cell_lengths(cxs, cys, craw) {
-        return true;
-    }
-    if stats::short_palette(palette, layout.hues) {
-        return true;
-    }
-    short_chroma(layout, chroma, xs.len(), cxs.len())
+    bad_module_lengths(xs, ys, raw, luma, colours)
+        || bad_cell_lengths(cxs, cys, craw)
+        || stats::short_palette(palette, layout.hues)
+        || short_chroma(layout, chroma, xs.len(), cxs.len())
 }
 
-// The number of the first sentence that holds, or 0.
-fn refused(
+// Whether a card passes that is scored. Refused: 2, 3, 4, 5, 6, 7, 8, 9, 10, 12.
+fn check(
     layout: Layout,
     xs: &[i32],
     ys: &[i32],
@@ -162,35 +137,29 @@ fn refused(
     luma: &[f32],
     colours: &[f32],
     chroma: &[f32],
-) -> u32
-    ensures { result ≡ refusal (sentences_of (request layout xs.now ys.now raw.now cxs.now cys.now craw.now palette.now model noise luma.now colours.now chroma.now)) }
+) -> Result<(), Refusal>
+    ensures { outcome_number result ≡ refusal (sentences_of (request layout xs.now ys.now raw.now cxs.now cys.now craw.now palette.now model noise luma.now colours.now chroma.now)) }
 {
-    let shape = layout::refused_shape(layout);
-    if shape != 0 {
-        return shape;
-    }
+    layout::check_shape(layout)?;
     if bad_lengths(
         layout, xs, ys, raw, cxs, cys, craw, palette, luma, colours, chroma,
     ) {
-        return 5;
+        return Err(Refusal::Length);
     }
-    let places = layout::refused_placement(layout, xs, ys, cxs, cys);
-    if places != 0 {
-        return places;
-    }
+    layout::check_placement(layout, xs, ys, cxs, cys)?;
     if bad_inputs(raw, xs.len(), craw, cxs.len(), noise, palette, layout.hues) {
-        return 8;
+        return Err(Refusal::Number);
     }
     if stats::bad_sigmas(noise) {
-        return 9;
+        return Err(Refusal::Sigma);
     }
     if illum::bad_model(model) {
-        return 10;
+        return Err(Refusal::Model);
     }
     if bad_corrected(layout, model, xs, ys, raw, cxs, cys, craw) {
-        return 12;
+        return Err(Refusal::Corrected);
     }
-    0
+    Ok(())
 }
 
 // ---- the call
@@ -212,7 +181,7 @@ fn write_scores(
     chroma: &mut [f32],
 ) -> ScoreReport
     requires { Scorable layout xs.now ys.now raw.now cxs.now cys.now craw.now palette.now luma.old colours.old chroma.old }
-    ensures { final (Done result) luma.new colours.new chroma.new ≡ done (request layout xs.now ys.now raw.now cxs.now cys.now craw.now palette.now model noise luma.old colours.old chroma.old) }
+    ensures { final (Ok result) luma.new colours.new chroma.new ≡ done (request layout xs.now ys.now raw.now cxs.now cys.now craw.now palette.now model noise luma.old colours.old chroma.old) }
 {
     let sigmas = scores::sigmas_of(noise, palette, layout.hues);
     let held_modules = scores::write_modules(
@@ -265,17 +234,13 @@ pub fn score(
     luma: &mut [f32],
     colours: &mut [f32],
     chroma: &mut [f32],
-) -> Scored
+) -> Result<ScoreReport, Refusal>
     ensures { final result luma.new colours.new chroma.new ≡ scored_of (request layout xs.now ys.now raw.now cxs.now cys.now craw.now palette.now model noise luma.old colours.old chroma.old) }
 {
-    let n = refused(
+    check(
         layout, xs, ys, raw, cxs, cys, craw, palette, model, noise, luma, colours, chroma,
-    );
-    if n != 0 {
-        return Scored::Refused(n);
-    }
-    let report = write_scores(
+    )?;
+    Ok(write_scores(
         layout, xs, ys, raw, cxs, cys, craw, palette, model, noise, luma, colours, chroma,
-    );
-    Scored::Done(report)
+    ))
 }

@@ -7,7 +7,11 @@ use lib.Ieee.{Float}
 use Rattle.sentences.specs.Sentences.{refusal}
 use Rattle.layout.specs.declared.Layout.{Layout}
 use Rattle.demod.specs.declared.ScoreReport.{ScoreReport}
-use Rattle.demod.specs.declared.Scored.TheVariants.{Refused, Done}
+use Rattle.std.specs.Prelude.{Result, Ok}
+use Rattle.std.specs.Result.{IsErr, IsErrAnd}
+use Rattle.answers.specs.declared.refusal.Refusal.{Refusal}
+use Rattle.answers.specs.Answers.{number_of}
+use Rattle.answers.proofs.Answers.{numbered, passed_on}
 use Rattle.illum.specs.declared.IlluminationModel.{IlluminationModel}
 use Rattle.stats.specs.declared.ChannelStats.{ChannelStats}
 use Rattle.demod.specs.Ready.{Scorable}
@@ -15,18 +19,19 @@ use Rattle.demod.specs.Call.{Request, request, sentences_of, final, done, scored
 use Rattle.demod.proofs.Accepted.{turned-away, taken, accepted}
 use Rattle.demod.proofs.score.Goals as goal
 
-module _ (q : Request) (n : ℕ) (luma colours chroma : List Float) (e : n ≡ refusal (sentences_of q)) where
-  away : (n ≡ 0 → ⊥) → luma ≡ q.luma → colours ≡ q.colours → chroma ≡ q.chroma → final (Refused n) luma colours chroma ≡ scored_of q
-  away z el ec eh = rw (el, ec, eh) (turned-away q n e z)
+module _ (q : Request) (luma colours chroma : List Float) where
+  away : (x : Result ScoreReport Refusal) (r : Refusal) → IsErr x × IsErrAnd x (λ y. y ≡ r) → number_of r ≡ refusal (sentences_of q) → luma ≡ q.luma → colours ≡ q.colours → chroma ≡ q.chroma →
+      final x luma colours chroma ≡ scored_of q
+  away x r p e el ec eh = rw (passed_on x r p, el, ec, eh) (turned-away q (number_of r) e (numbered r))
 
-  wrote : (r : ScoreReport) → n ≡ 0 → final (Done r) luma colours chroma ≡ done q → final (Done r) luma colours chroma ≡ scored_of q
-  wrote r z h = h ∙ taken q n e z
+  wrote : (r : ScoreReport) → 0 ≡ refusal (sentences_of q) → final (Ok r) luma colours chroma ≡ done q → final (Ok r) luma colours chroma ≡ scored_of q
+  wrote r e h = h ∙ taken q e
 
 -- an accepted call hands over what can be scored
-scorable : (layout : Layout) (xs ys : List ℤ) (raw : List Float) (cxs cys : List ℕ) (craw palette : List Float) (model : IlluminationModel) (noise : ChannelStats) (luma colours chroma : List Float) (n : ℕ) →
-    n ≡ refusal (sentences_of (request layout xs ys raw cxs cys craw palette model noise luma colours chroma)) → n ≡ 0 → Scorable layout xs ys raw cxs cys craw palette luma colours chroma
-scorable layout xs ys raw cxs cys craw palette model noise luma colours chroma n e z =
-    let a = accepted (request layout xs ys raw cxs cys craw palette model noise luma colours chroma) n e z in
+scorable : (layout : Layout) (xs ys : List ℤ) (raw : List Float) (cxs cys : List ℕ) (craw palette : List Float) (model : IlluminationModel) (noise : ChannelStats) (luma colours chroma : List Float) →
+    0 ≡ refusal (sentences_of (request layout xs ys raw cxs cys craw palette model noise luma colours chroma)) → Scorable layout xs ys raw cxs cys craw palette luma colours chroma
+scorable layout xs ys raw cxs cys craw palette model noise luma colours chroma e =
+    let a = accepted (request layout xs ys raw cxs cys craw palette model noise luma colours chroma) e in
     let l = a.lengths in
     record {
       shaped = a.shaped;
@@ -39,11 +44,11 @@ scorable layout xs ys raw cxs cys craw palette model noise luma colours chroma n
       chroma-long = l.chroma-long;
     }
 
-pub returns-then-n-ne0 : goal.returns-then-n-ne0
-returns-then-n-ne0 c = search (away)
+pub returns-in_err-check : goal.returns-in_err-check
+returns-in_err-check c = search (away, c.in_err-check.ensures)
 
-pub write_scores-report-requires : goal.write_scores-report-requires
-write_scores-report-requires c = scorable _ _ _ _ _ _ _ _ _ _ _ _ _ _ c.refused-n.ensures c.if-n-ne0.false
+pub write_scores-requires : goal.write_scores-requires
+write_scores-requires c = scorable _ _ _ _ _ _ _ _ _ _ _ _ _ c.in_ok-check.ensures
 
 pub returns : goal.returns
-returns c = search (wrote)
+returns c = search (wrote, c.in_ok-check.ensures)

@@ -14,8 +14,9 @@ use Rattle.demod.specs.Ready.{Scorable}
 use Rattle.observed.specs.Colours.{held_module_count}
 use Rattle.scores.specs.Score.{Sheet, sheet, chroma_written, chroma_held}
 use Rattle.demod.specs.declared.ScoreReport.{ScoreReport}
-use Rattle.demod.specs.declared.Scored.TheVariants.{Done}
-use Rattle.demod.specs.Call.{Request, request, module_colours, cell_colours, report_of, final, done, written_modules}
+use Rattle.std.specs.Prelude.{Ok}
+use Rattle.answers.specs.Answers.{gives}
+use Rattle.demod.specs.Call.{Request, request, module_colours, cell_colours, report_of, answering, final, done, written_modules}
 use Rattle.scores.proofs.Written.{modules_are}
 use Rattle.scores.proofs.Apart.{chroma_same}
 use Rattle.demod.proofs.write_scores.Goals as goal
@@ -39,11 +40,11 @@ module _ (layout : Layout) (xs ys : List ℤ) (raw : List Float) (cxs cys : List
         ∙ (modules_are noise palette layout.hues (module_colours q) luma colours (length xs) s.luma-long s.modules.colours-three).coloured j i
 
     wrote : (a b : ℕ) → a ≡ held_module_count model xs ys (length xs) → b ≡ chroma_held layout model cxs cys
-        → chroma' ≡ chroma_written layout noise palette (linear_at colours') (length xs) cxs cys (cell_colours q) chroma → final (Done (report a b)) luma' colours' chroma' ≡ done q
+        → chroma' ≡ chroma_written layout noise palette (linear_at colours') (length xs) cxs cys (cell_colours q) chroma → final (Ok (report a b)) luma' colours' chroma' ≡ done q
     wrote a b ea eb k =
-        ap (λ (z : ScoreReport). final (Done z) luma' colours' chroma') (reports a b ea eb)
-        ∙ ap (λ (s : Sheet). final (Done (report_of q)) s.luma s.colours chroma') h
-        ∙ ap (final (Done (report_of q)) (written_modules q).luma (written_modules q).colours) (k ∙ chroma_same layout noise palette (linear_at colours') (module_colours q) (length xs) cxs cys (cell_colours q) chroma colour_is)
+        ap (λ (z : ScoreReport). answering (gives z) luma' colours' chroma') (reports a b ea eb)
+        ∙ ap (λ (s : Sheet). answering (gives (report_of q)) s.luma s.colours chroma') h
+        ∙ ap (answering (gives (report_of q)) (written_modules q).luma (written_modules q).colours) (k ∙ chroma_same layout noise palette (linear_at colours') (module_colours q) (length xs) cxs cys (cell_colours q) chroma colour_is)
 
 pub sigmas_of-sigmas-requires : goal.sigmas_of-sigmas-requires
 sigmas_of-sigmas-requires c = record { hues-good = search rules; palette-long = search rules }
