@@ -3,20 +3,18 @@ use mathlib.Core.Path.{◌≡◌}
 use Prim.Native.Nat.{ℕ}
 use borrow.Author.Rules.{rules}
 use Rattle.loops.proofs.Laws.{loops}
-use Rattle.local.specs.Local.{dx_at, dy_at, y_at, classes, classify_by, classify_at, classified}
+use Rattle.local.specs.Local.{dx_at, dy_at, y_at, classify_by, classify_at}
 use Rattle.local.specs.declared.Classes.{Classes}
+use Rattle.local.specs.declared.Plane.{Plane}
 use Rattle.local.specs.declared.Window.{Window}
 use Rattle.local.proofs.classify.Goals as goal
 
-stepped : (w : Window) (i : ℕ) (s t : Classes) → t ≡ classify_by (dx_at w i) (dy_at w i) (y_at w i) i s → t ≡ classify_at w i s
+stepped : (w : Window) (p : Plane) (i : ℕ) (s t : Classes) → t ≡ classify_by p (dx_at w i) (dy_at w i) (y_at w i) i s → t ≡ classify_at w p i s
 unfolding classify_at
-stepped w i s t e = e
-
-whole : (w : Window) (c s : Classes) → s ≡ classified w (classes c.light c.moved c.plane) → s ≡ classified w c
-whole w c s e = e
+stepped w p i s t e = e
 
 pub returns : goal.returns
-returns c = search (whole, loops, rules)
+returns c = search (loops, rules)
 
 pub loop-i-init : goal.loop-i-init
 loop-i-init c = search (loops, rules)

@@ -1,35 +1,32 @@
--- `local::refit` meets its contract: the same tests. Assumes nothing.
-use mathlib.Core.Bool.{Bool, true, false, not, cond}
-use mathlib.Core.Path.{◌≡◌, sym, ◌∙◌}
+-- `local::refit` meets its contract: the same cases. Assumes nothing.
+use mathlib.Core.Bool.{true, false, not}
+use mathlib.Core.Path.{◌≡◌}
 use borrow.Author.Tests.{not-true, not-false}
+use Rattle.std.specs.Prelude.{Some, None}
 use Rattle.local.specs.Local.{fit_plane, classes, classified, reclassified, refitted}
 use Rattle.local.specs.declared.Classes.{Classes}
 use Rattle.local.specs.declared.Plane.{Plane}
 use Rattle.local.specs.declared.Window.{Window}
 use Rattle.local.proofs.refit.Goals as goal
 
-pick : (b : Bool) (x y : Classes) → b ≡ true → cond b x y ≡ x
-pick b x y e = rw e
-
 module _ (w : Window) (c : Classes) where
   still : not c.moved ≡ true → c ≡ refitted w c
   unfolding refitted
   still t = rw (not-true c.moved t)
 
-  module _ (p : Plane) (t : not c.moved ≡ false) (e : p ≡ fit_plane w c.light) where
-    none : not p.found ≡ true → classes c.light false p ≡ refitted w c
-    unfolding refitted reclassified
-    none h = rw (not-false c.moved t, ← e, not-true p.found h)
+  none : not c.moved ≡ false → None ≡ fit_plane w c.light → classes c.light false None ≡ refitted w c
+  unfolding refitted reclassified
+  none t e = rw (not-false c.moved t, ← e)
 
-    moved : (r : Classes) → not p.found ≡ false → r ≡ classified w (classes c.light false p) → r ≡ refitted w c
-    unfolding refitted reclassified
-    moved r h g = rw (not-false c.moved t, ← e) (g ∙ sym (pick p.found _ _ (not-false p.found h)))
+  moved : (p : Plane) (r : Classes) → not c.moved ≡ false → Some p ≡ fit_plane w c.light → r ≡ classified w p (classes c.light false (Some p)) → r ≡ refitted w c
+  unfolding refitted reclassified
+  moved p r t e g = rw (not-false c.moved t, ← e) g
 
 pub returns-then-not-c : goal.returns-then-not-c
 returns-then-not-c c = search (still)
 
-pub returns-then-not-plane : goal.returns-then-not-plane
-returns-then-not-plane c = search (none)
+pub returns-in-None : goal.returns-in-None
+returns-in-None c = search (none, c.in-None.ensures)
 
-pub returns : goal.returns
-returns c = search (moved)
+pub returns-in-Some : goal.returns-in-Some
+returns-in-Some c = search (moved, c.in-Some.ensures)

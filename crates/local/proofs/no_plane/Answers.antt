@@ -1,8 +1,0 @@
--- `local::no_plane` meets its contract: the same numbers. Assumes nothing.
-use mathlib.Core.Path.{refl}
-use lib.Ieee.{of_bits}
-use Rattle.local.proofs.no_plane.Goals as goal
-
-pub returns : goal.returns
-unfolding of_bits
-returns c = refl
