@@ -4,7 +4,7 @@ use mathlib.Core.Path.{◌≡◌, refl, sym, ap, ◌∙◌, subst}
 use mathlib.Core.Logic.{◌⊎◌, inl, inr, ⊎_elim}
 use mathlib.Core.Bool.{Bool, true, false, not, ◌||◌}
 use mathlib.Core.List.{List}
-use mathlib.Core.Option.{Option, none, some}
+use Rattle.std.specs.Prelude.{Option, Some, None}
 use Prim.Native.Nat.{ℕ, zero, suc, ◌≤◌, ◌<◌}
 use native.Mathlib.Omega.{arith}
 use borrow.Author.Tests.{ltb-true, ltb-false}
@@ -32,9 +32,9 @@ use Rattle.stats.specs.Arithmetic.{◌⊕◌, ◌⊗◌}
 use Rattle.stats.proofs.Range.{twenty_is, to_T, held_fits}
 use Rattle.stats.proofs.Reliable.{zero_is, reliability_in}
 use Rattle.local.specs.declared.Window.{Window}
-use Rattle.local.specs.declared.Classes.{Classes}
-use Rattle.answers.specs.Answers.{Said, gives, gives_none}
-use Rattle.local.specs.Local.{halves_of, split_of, above_of, refits_of, amount_of, FitValues, fit_of, concluded, local_fit}
+use Rattle.local.specs.declared.LocalFit.{LocalFit}
+use Rattle.local.specs.declared.Plane.{Plane}
+use Rattle.local.specs.Local.{halves_of, amount_of, fit_of, concluded, local_fit}
 use Rattle.sentences.specs.Sentences.{refusal}
 use Rattle.lists.proofs.Laws.{Reached}
 use Rattle.refine.specs.declared.Levels.{Levels}
@@ -199,18 +199,18 @@ at_eight = refl
 
 -- ---- the local amount is an f32
 
-abbrev AmountFits : Option FitValues → Type 0
-AmountFits none = T true
-AmountFits (some f) = T (fits binary32 f.amount)
+abbrev AmountFits : Option LocalFit → Type 0
+AmountFits None = T true
+AmountFits (Some f) = T (fits binary32 f.amount)
 
-fit-fits : (w : Window) (c : Classes) (y0 gap : Float) → AmountFits (concluded w c y0 gap).value
+fit-fits : (w : Window) (light : List Bool) (y0 gap : Float) (p : Option Plane) → AmountFits (concluded w light y0 gap p)
 unfolding concluded fit_of amount_of
-fit-fits w c y0 gap = either (λ (s : Said FitValues). AmountFits s.value) c.plane.found (gives _) gives_none (held_fits eight_is.is _ (mul-fits binary32 _ _)) tt
+fit-fits w light y0 gap None = tt
+fit-fits w light y0 gap (Some p) = held_fits eight_is.is _ (mul-fits binary32 _ _)
 
-amount-fits : (w : Window) (y0 gap : Float) → AmountFits (local_fit w y0 gap).value
+amount-fits : (w : Window) (y0 gap : Float) → AmountFits (local_fit w y0 gap)
 unfolding local_fit
-amount-fits w y0 gap =
-    either (λ (s : Said FitValues). AmountFits s.value) (eqb (halves_of w).nl 0 || eqb (halves_of w).nh 0) gives_none (concluded w (refits_of w (above_of w (split_of (halves_of w)))) y0 gap) tt (fit-fits w _ y0 gap)
+amount-fits w y0 gap = either AmountFits (eqb (halves_of w).nl 0 || eqb (halves_of w).nh 0) None _ tt (fit-fits w _ y0 gap _)
 
 -- ---- one module
 
@@ -220,10 +220,10 @@ module _ (noise : ChannelStats) (palette : List Float) (hues : ℕ) (lv : Levels
   weighed amount base step s =
       either Small (weighted hues) _ amount (weighed-small amount _ (reliability_in noise (linear_to_lab (deglared c base step lv)) palette hues) s) s
 
-  fit_keeps : (score : Float) (f : Option FitValues) → T (fits binary32 score) → AmountFits f → AmountWithin f → Kept score (add_fit noise palette hues lv c score f)
+  fit_keeps : (score : Float) (f : Option LocalFit) → T (fits binary32 score) → AmountFits f → AmountWithin f → Kept score (add_fit noise palette hues lv c score f)
   unfolding add_fit
-  fit_keeps score none t g h = same_keeps score t
-  fit_keeps score (some f) t g h = added_keeps score _ t (weighed f.amount f.base f.step (small f.amount g h))
+  fit_keeps score None t g h = same_keeps score t
+  fit_keeps score (Some f) t g h = added_keeps score _ t (weighed f.amount f.base f.step (small f.amount g h))
 
 kept : (noise : ChannelStats) (palette : List Float) (hues : ℕ) (lv : Levels) (c : Linear) (w : Window) (score : Float) → T (fits binary32 score) → Kept score (refine_one noise palette hues lv c w score)
 unfolding refine_one
@@ -231,7 +231,7 @@ kept noise palette hues lv c w score t =
     let y0 = luminance c in
     either (Kept score) (sure score) score _ (same_keeps score t)
     (either (Kept score) (ltb w.count 12) score _ (same_keeps score t)
-    (fit_keeps noise palette hues lv c score (local_fit w y0 lv.gap).value t (amount-fits w y0 lv.gap) (amount-within w y0 lv.gap)))
+    (fit_keeps noise palette hues lv c score (local_fit w y0 lv.gap) t (amount-fits w y0 lv.gap) (amount-within w y0 lv.gap)))
 
 pub keeps_sign : StepKeepsSign
 keeps_sign noise palette hues lv c w score t = (kept noise palette hues lv c w score t).sign
@@ -253,7 +253,7 @@ module _ (q : Request) (i : ℕ) (t : T (fits binary32 (get_or q.luma i nan))) w
       (kept q.noise q.palette q.hues lv (linear_at q.colours i) (window_of q.side grid (square_of q.side q.xs q.ys i))) t (ltb i (length q.xs)) refl
 
   by_number : (n : ℕ) → n ≡ refusal (sentences_of q) → Kept (get_or q.luma i nan) (get_or (refine_of q).luma i nan)
-  by_number zero e = subst (λ (f : Final). Kept (get_or q.luma i nan) (get_or f.luma i nan)) (at_done q 0 e refl) (refined_keeps (accepted q 0 e refl).long.listed.luma-long)
+  by_number zero e = subst (λ (f : Final). Kept (get_or q.luma i nan) (get_or f.luma i nan)) (at_done q e) (refined_keeps (accepted q e).long.listed.luma-long)
   by_number (suc n) e =
       subst (λ (f : Final). Kept (get_or q.luma i nan) (get_or f.luma i nan)) (at_refused q (suc n) e (λ z. omega arith)) (same_keeps (get_or q.luma i nan) t)
 

@@ -9,7 +9,11 @@ use lib.ListN.{length}
 use Rattle.sentences.specs.Sentences.{refusal}
 use Rattle.places.specs.Places.{bad_places}
 use Rattle.color.specs.Palette.{palette_len}
-use Rattle.answers.specs.declared.Outcome.TheVariants.{Done, Refused}
+use Rattle.std.specs.Prelude.{Result, Ok, ⊤}
+use Rattle.std.specs.Result.{IsErr, IsErrAnd}
+use Rattle.answers.specs.declared.refusal.Refusal.{Refusal}
+use Rattle.answers.specs.Answers.{number_of}
+use Rattle.answers.proofs.Answers.{numbered, passed_on}
 use Rattle.stats.specs.declared.ChannelStats.{ChannelStats}
 use Rattle.refine.specs.Refine.{lent, refined}
 use Rattle.refine.specs.Ready.{FullGrid}
@@ -21,48 +25,48 @@ module _ (luma : List Float) (side hues : ℕ) (xs ys : List ℤ) (grid : ℕ) (
   abbrev q : Request
   q = request luma side hues xs ys grid colours palette noise scratch
 
-  module _ (n : ℕ) (e : n ≡ refusal (sentences_of q)) where
-    away : (l s : List Float) → (n ≡ 0 → ⊥) → l ≡ luma → s ≡ scratch → final (Refused n) l s ≡ refine_of q
-    away l s z el es = rw (el, es) (at_refused q n e z)
+  away : (x : Result ⊤ Refusal) (r : Refusal) (l s : List Float) → IsErr x × IsErrAnd x (λ y. y ≡ r) → number_of r ≡ refusal (sentences_of q) → l ≡ luma → s ≡ scratch → final x l s ≡ refine_of q
+  away x r l s p e el es = rw (passed_on x r p, el, es) (at_refused q (number_of r) e (numbered r))
 
-    module _ (z : n ≡ 0) where
-      wrote : (l s : List Float) → lent l s ≡ refined noise palette hues side xs ys colours luma scratch → final Done l s ≡ refine_of q
-      unfolding refined_of
-      wrote l s h = ap final_of h ∙ at_done q n e z
+  module _ (e : 0 ≡ refusal (sentences_of q)) where
+    wrote : (l s : List Float) → lent l s ≡ refined noise palette hues side xs ys colours luma scratch → final (Ok tt) l s ≡ refine_of q
+    unfolding refined_of
+    wrote l s h = ap final_of h ∙ at_done q e
 
-      known : Accepted q
-      known = accepted q n e z
+    known : Accepted q
+    known = accepted q e
 
-      small-side : side ≤ 1024
-      small-side = known.side_in.1
+    small-side : side ≤ 1024
+    small-side = known.side_in.1
 
-      in_pairs : length xs ≡ length ys
-      in_pairs = known.long.pairs
+    in_pairs : length xs ≡ length ys
+    in_pairs = known.long.pairs
 
-      stand : bad_places side grid xs ys ≡ false
-      stand = known.placed.places-good
+    stand : bad_places side grid xs ys ≡ false
+    stand = known.placed.places-good
 
-      enough-colours : 3 * length xs ≤ length colours
-      enough-colours = known.long.listed.colours-long
+    enough-colours : 3 * length xs ≤ length colours
+    enough-colours = known.long.listed.colours-long
 
-      enough-scores : length xs ≤ length luma
-      enough-scores = known.long.listed.luma-long
+    enough-scores : length xs ≤ length luma
+    enough-scores = known.long.listed.luma-long
 
-      enough-palette : palette_len hues ≤ length palette
-      enough-palette = known.long.listed.palette-long
+    enough-palette : palette_len hues ≤ length palette
+    enough-palette = known.long.listed.palette-long
 
-      room : FullGrid side scratch
-      room = record { side-most = small-side; long = known.long.scratch-long }
+    room : FullGrid side scratch
+    room = record { side-most = small-side; long = known.long.scratch-long }
 
-pub returns-then-n-ne0 : goal.returns-then-n-ne0
-returns-then-n-ne0 c = search (away)
+pub returns-in_err-check : goal.returns-in_err-check
+returns-in_err-check c = search (away, c.in_err-check.ensures)
 
 pub refine-requires : goal.refine-requires
-refine-requires c = (
-  record { side-most = search (small-side); pairs = search (in_pairs); places-good = search (stand) },
-  record { colours-long = search (enough-colours); luma-long = search (enough-scores); palette-long = search (enough-palette) },
-  search (room),
-)
+refine-requires c =
+    let e = c.in_ok-check.ensures in (
+      record { side-most = search (small-side, e); pairs = search (in_pairs, e); places-good = search (stand, e) },
+      record { colours-long = search (enough-colours, e); luma-long = search (enough-scores, e); palette-long = search (enough-palette, e) },
+      search (room, e),
+    )
 
 pub returns : goal.returns
-returns c = search (wrote)
+returns c = search (wrote, c.in_ok-check.ensures)

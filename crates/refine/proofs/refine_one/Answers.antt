@@ -7,8 +7,9 @@ use borrow.Author.Tests.{lt-ltb, le-ltb}
 use lib.Ieee.{Float}
 use Rattle.color.specs.Color.{luminance}
 use Rattle.color.specs.declared.Linear.{Linear}
-use Rattle.answers.specs.Answers.{Said}
-use Rattle.local.specs.Local.{FitValues, local_fit}
+use Rattle.std.specs.Prelude.{Option}
+use Rattle.local.specs.declared.LocalFit.{LocalFit}
+use Rattle.local.specs.Local.{local_fit}
 use Rattle.refine.specs.Refine.{sure, add_fit, refine_one}
 use Rattle.refine.specs.declared.Levels.{Levels}
 use Rattle.local.specs.declared.Window.{Window}
@@ -24,7 +25,7 @@ module _ (noise : ChannelStats) (palette : List Float) (hues : ℕ) (lv : Levels
   unfolding refine_one
   few h l = rw (← e, h, lt-ltb w.count 12 l)
 
-  fitted : (y : Float) (f : Said FitValues) (r : Float) → t ≡ false → 12 ≤ w.count → y ≡ luminance c → f ≡ local_fit w y lv.gap → r ≡ add_fit noise palette hues lv c score f.value
+  fitted : (y : Float) (f : Option LocalFit) (r : Float) → t ≡ false → 12 ≤ w.count → y ≡ luminance c → f ≡ local_fit w y lv.gap → r ≡ add_fit noise palette hues lv c score f
       → r ≡ refine_one noise palette hues lv c w score
   unfolding refine_one
   fitted y f r h l ey ef er = rw (← e, h, le-ltb w.count 12 l, ← ey, ← ef) er
