@@ -10,19 +10,18 @@ use lib.Dec.{ltb}
 use lib.ListN.{length, get_or}
 use lib.Ieee.{Float, nan}
 use Rattle.sentences.specs.Sentences.{Sentence, refusal, decided, at, sound, fresh}
-use Rattle.answers.specs.declared.Outcome.{Outcome}
-use Rattle.answers.specs.declared.Outcome.TheVariants as outcome
+use Rattle.sentences.proofs.Laws.{accepts}
 use Rattle.symbols.specs.Gray.{chroma_symbol_to_hue}
 use Rattle.symbols.specs.Mask.{chroma_mask_apply}
-use Rattle.modulate.specs.Draw as drawing
 use Rattle.modulate.specs.Draw.{grid_level, ring_level, cell_hue, ring_hue, level_at, hue_at, entries_of}
 use Rattle.modulate.specs.Score.{unmasked, unmask_sentences, unmask_luma_of}
 use Rattle.reading.specs.Read.{reads, read_score_at, read_list, read_sentences, read_list_of}
 use Rattle.modulate.proofs.Symbols.{bit_lt}
 use Rattle.lists.proofs.Laws.{Reached, reached}
-use Rattle.answers.specs.Answers.{ended, written_or}
-use Rattle.answers.proofs.Answers.{given_is, list_done, none_of}
+use Rattle.answers.specs.Answers.{Ended, written_or}
+use Rattle.answers.proofs.Answers.{given_is, none_of}
 use Rattle.modulate.proofs.Accepted.{IsDrawn, drawn-done}
+use Rattle.modulate.proofs.Written.{list-number}
 use Rattle.limits.specs.Chroma.{chroma_on}
 use Rattle.margin.specs.Margin.{in_margin}
 use Rattle.margin.specs.declared.Threshold.{Threshold}
@@ -40,17 +39,12 @@ use Rattle.guarantee.specs.Card.{Setting, Card, modules, to_draw, drawn_card, to
 use Rattle.guarantee.specs.Guarantee.{Singles, InMargin, Readable, InMarginAt}
 use Rattle.guarantee.proofs.Sample.{Fits}
 
--- ---- a call whose number is 0 is done: a refused one has the number that it is refused by
-
-done_at : {A : Type 0} (number : A → ℕ) (answer : A → Outcome) (refused : ℕ → A) (accepted : A) → ((n : ℕ) → number (refused n) ≡ n) → answer accepted ≡ outcome.Done →
-    (n : ℕ) → number (decided n refused accepted) ≡ 0 → answer (decided n refused accepted) ≡ outcome.Done
-unfolding decided
-done_at number answer refused accepted same done zero e = done
-done_at number answer refused accepted same done (suc n) e = absurd (omega (arith, same (suc n)))
+-- ---- a call that writes one list, and whose number is 0, wrote it
 
 list-zero : {A : Type 0} (ss : List Sentence) (before after : List A) → (written_or ss before after).number ≡ 0 → (0 ≡ refusal ss) × ((written_or ss before after).list ≡ after)
 list-zero ss before after z =
-    list_done ss before after (done_at (λ x. x.number) (λ x. x.answer) (λ n. ended (outcome.Refused n) before) (ended outcome.Done after) (λ n. refl) refl (refusal ss) z)
+    let e : 0 ≡ refusal ss = sym z ∙ list-number before after ss in
+    (e, ap (λ (x : Ended _). x.list) (sym (accepts (λ n. record { number = n; list = before }) (record { number = 0; list = after }) 0 (refusal ss) refl e)))
 
 -- ---- a call that reads a list
 
@@ -72,12 +66,7 @@ module _ (scores : List Float) (bits : List ℕ) (done : (read_list_of scores bi
   pub read-long : length scores ≤ length (read_list_of scores bits).list
   read-long = rw was_done.1 (omega (arith, all_read.long, read-room))
 
--- ---- drawing, and refinement's number
-
-draw_zero : (q : drawing.Card) → (drawing.draw_of q).number ≡ 0 → (drawing.draw_of q).answer ≡ outcome.Done
-unfolding drawing.draw_of
-draw_zero q =
-    done_at (λ x. x.number) (λ x. x.answer) (drawing.not_drawn q) (drawing.drawn outcome.Done (drawing.levels_of q) (drawing.hues_of q)) (λ n. refl) refl (refusal (drawing.draw_sentences q))
+-- ---- refinement's number
 
 refine_by : (q : refinement.Request) (n : ℕ) → (decided n (refinement.turned_away q) (refinement.final_of (refinement.refined_of q))).number ≡ n
 unfolding decided
@@ -105,7 +94,7 @@ hue-below bits hues m cxs cys j h = either (ltb j (length cxs)) _ _ hues (mod-lt
 module _ (s : Setting) (c : Card) (R : Readable s c) where
   -- drawing
   pub is_drawn : IsDrawn (to_draw s c)
-  is_drawn = drawn-done (to_draw s c) (draw_zero (to_draw s c) R.drawn)
+  is_drawn = drawn-done (to_draw s c) R.drawn
 
   pub drawn-level : (i : ℕ) → i < modules s → get_or (drawn_card s c).levels i 0 ≡ level_at c.bits s.xs s.ys s.layout.grid s.mask i
   drawn-level i h = ap (λ d. get_or d.levels i 0) is_drawn.left ∙ is_drawn.level i h
@@ -126,7 +115,7 @@ module _ (s : Setting) (c : Card) (R : Readable s c) where
   refine-zero = sym R.accepted.refinement ∙ refine-number (to_refine s c)
 
   pub refined_is : refinement.final_of (refinement.refined_of (to_refine s c)) ≡ refined_card s c
-  refined_is = refining.at_done (to_refine s c) 0 refine-zero refl
+  refined_is = refining.at_done (to_refine s c) refine-zero
 
   -- unmasking
   pub unmasked_is : (unmasked_card s c).list ≡ unmasked s.mask s.xs s.ys s.layout.grid (refined_card s c).luma
