@@ -5,6 +5,7 @@ use Rattle.limits.specs.Limits.{bad_side}
 use Rattle.layout.specs.Groups.{module_placement}
 use Rattle.answers.specs.Answers.{Ended, written_or}
 use Rattle.illum.specs.Refusals.{bad_terms}
+use Rattle.page.specs.declared.Sheet.{Sheet}
 use Rattle.page.specs.Lines.{page_length, Modules, modules, page_text, overlaid}
 
 -- what the call takes
@@ -23,6 +24,13 @@ pub record Request : Type 0 where
 abbrev pub request : ℕ → ℕ → ℕ → ℕ → ℕ → List ℤ → List ℤ → ℕ → List Float → List ℕ → Request
 request side terms kept rejected held xs ys grid luma page =
     record { side = side; terms = terms; kept = kept; rejected = rejected; held = held; xs = xs; ys = ys; grid = grid; luma = luma; page = page }
+
+-- the same of a sheet and of the slice that it is laid out on
+abbrev pub request_on : Sheet → List ℕ → Request
+request_on s page = request s.side s.terms s.kept s.rejected s.held s.xs.now s.ys.now s.grid s.luma.now page
+
+abbrev pub modules_on : Sheet → Modules
+modules_on s = modules s.side s.xs.now s.ys.now s.luma.now
 
 -- ---- the sentences
 

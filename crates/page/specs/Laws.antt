@@ -1,7 +1,6 @@
 -- What holds of the page that an accepted call leaves, byte by byte. `proofs/Bytes.antt` proves it. Definitions only.
 use Rattle.std.specs.Prelude.{◌≡◌, ℕ, ◌+◌, ◌-◌, ◌*◌, ◌/◌, ◌%◌, ◌^◌, ◌≤◌, ◌<◌, pos, length, get_or}
 use Rattle.std.specs.Float.{nan}
-use Rattle.answers.specs.declared.Outcome.TheVariants.{Refused, Done}
 use Rattle.reading.specs.Read.{reads}
 use Rattle.page.specs.Lines.{columns, field_columns, page_length}
 use Rattle.page.specs.Calls.{Request, numbers_of, page_of}
@@ -44,5 +43,5 @@ pub record Page (q : Request) : Type 0 where
 
 -- of every call: done, or refused by a number with nothing written
 pub record Pages : Type 0 where
-  pub done : (q : Request) → (page_of q).answer ≡ Done → Page q
-  pub refused : (q : Request) (n : ℕ) → (n ≡ 0 → ⊥) → (page_of q).answer ≡ Refused n → (page_of q).list ≡ q.page
+  pub done : (q : Request) → (page_of q).number ≡ 0 → Page q
+  pub refused : (q : Request) (n : ℕ) → (n ≡ 0 → ⊥) → (page_of q).number ≡ n → (page_of q).list ≡ q.page

@@ -9,15 +9,15 @@
 // lays the card out in the first 51 × (side + 1) bytes.
 #![tactic(auto)]
 
-ghost use Rattle.std.specs.Prelude.{◌≡◌, [], ◌∷◌, ◌<◌, ◌≤◌, ◌^◌, length};
+ghost use Rattle.std.specs.Prelude.{◌≡◌, ◌+◌, ◌<◌, ◌≤◌, ◌^◌, length};
 ghost use Rattle.sentences.specs.Sentences.{refusal};
 ghost use Rattle.layout.specs.Groups.{Positions};
-ghost use Rattle.answers.specs.Answers.{ended};
-ghost use Rattle.page.specs.Lines.{page_length, modules, page_text, overlaid};
+ghost use Rattle.answers.specs.Answers.{ended, outcome_number};
+ghost use Rattle.page.specs.Lines.{page_length, overlaid};
 ghost use Rattle.page.specs.Steps as step;
 ghost use Rattle.page.specs.Calls as call;
 
-use answers::Outcome;
+use answers::Refusal;
 
 // The columns of a line; a line feed comes after them.
 pub const COLUMNS: usize = 50;
@@ -39,7 +39,7 @@ fn field_byte(n: usize, k: usize) -> u8
         if left < 10 {
             return b' ';
         }
-        left = left / 10;
+        left /= 10;
     }
     b'0' + (left % 10) as u8
 }
@@ -55,21 +55,21 @@ fn page_length(side: usize) -> usize
 }
 
 // Byte k of a page that has no module on its grid.
+#[tactic(auto, unfolding(crate::specs::Steps::blank_byte))]
 fn blank_byte(numbers: &[usize], side: usize, k: usize) -> u8
     requires { 5 ≤ length numbers.now }
     ensures { result ≡ step.blank_byte numbers.now side k }
 {
     let column = k % (COLUMNS + 1);
     if column == COLUMNS {
-        return b'\n';
+        b'\n'
+    } else if k < COLUMNS {
+        field_byte(numbers[k / 10], 9 - k % 10)
+    } else if column < side {
+        b'.'
+    } else {
+        b' '
     }
-    if k < COLUMNS {
-        return field_byte(numbers[k / 10], 9 - k % 10);
-    }
-    if column < side {
-        return b'.';
-    }
-    b' '
 }
 
 // All of them.
@@ -77,121 +77,110 @@ fn lay_blank(numbers: &[usize], side: usize, out: &mut [u8])
     requires { (5 ≤ length numbers.now) × step.RoomFor side out.old }
     ensures { out.new ≡ step.blank_page numbers.now side out.old }
 {
-    for k in 0..page_length(side) {
-        out[k] = blank_byte(numbers, side, k);
+    for (k, byte) in out[..page_length(side)].iter_mut().enumerate() {
+        *byte = blank_byte(numbers, side, k);
     }
-}
-
-// ---- the modules
-
-// Module i's digit on its square, where it stands on the grid.
-fn show_at(side: usize, xs: &[i32], ys: &[i32], luma: &[f32], i: usize, out: &mut [u8])
-    requires { step.RoomFor side out.old × (i < length xs.now) × (length xs.now ≡ length ys.now) × (length xs.now ≤ length luma.now) }
-    ensures { out.new ≡ step.show_at (modules side xs.now ys.now luma.now) i out.old }
-{
-    if places::off_grid_at(side, xs, ys, i) {
-        return;
-    }
-    let x = places::coordinate_at(side, xs, i) as usize;
-    let y = places::coordinate_at(side, ys, i) as usize;
-    out[(COLUMNS + 1) * (y + 1) + x] = b'0' + reading::read(luma[i]);
-}
-
-// Every module's digit, in list order: of several at one position the last stays.
-fn show_all(side: usize, xs: &[i32], ys: &[i32], luma: &[f32], out: &mut [u8])
-    requires { step.RoomFor side out.old × (length xs.now ≡ length ys.now) × (length xs.now ≤ length luma.now) }
-    ensures { out.new ≡ step.show_all (modules side xs.now ys.now luma.now) out.old }
-{
-    for i in 0..xs.len() {
-        show_at(side, xs, ys, luma, i, out);
-    }
-}
-
-// The page's text at the front of `out`.
-fn lay_out(
-    side: usize,
-    terms: usize,
-    kept: u32,
-    rejected: u32,
-    held: usize,
-    xs: &[i32],
-    ys: &[i32],
-    grid: usize,
-    luma: &[f32],
-    out: &mut [u8],
-)
-    requires { step.RoomFor side out.old × Positions side grid xs.now ys.now × (length xs.now ≤ length luma.now) × (terms < 10 ^ 10) × (held < 10 ^ 10) }
-    ensures { out.new ≡ overlaid (page_text (side ∷ terms ∷ kept ∷ rejected ∷ held ∷ []) (modules side xs.now ys.now luma.now)) out.old }
-{
-    let numbers = [side, terms, kept as usize, rejected as usize, held];
-    lay_blank(&numbers, side, out);
-    show_all(side, xs, ys, luma, out);
 }
 
 // ---- the call
 
-// Sentence 5: x and y run in pairs, there is a score for each module, and room for the page.
-fn short_slices(side: usize, xs: &[i32], ys: &[i32], luma: &[f32], out: &[u8]) -> bool
-    requires { side ≤ 1024 }
-    ensures { result ≡ call.short_slices side (length xs.now) (length ys.now) (length luma.now) (length out.now) }
-{
-    if xs.len() != ys.len() {
-        return true;
-    }
-    if luma.len() < xs.len() {
-        return true;
-    }
-    out.len() < page_length(side)
-}
-
-// Sentence 6, of the counts that are shown: one of the model's is above 16,384, or that of the modules above 1,048,576.
-fn bad_tally(kept: u32, rejected: u32, held: usize) -> bool
-    ensures { result ≡ call.bad_tally kept rejected held }
-{
-    if 16384 < kept {
-        return true;
-    }
-    if 16384 < rejected {
-        return true;
-    }
-    1048576 < held
-}
-
-// The number of the first sentence that holds, or 0; 6 and 7 of the modules by the group that calls share.
-fn refused(
+// What is laid out: the listed modules of a card, of which the first `grid` are grid modules, with their unmasked luma
+// scores, and the figures of line one.
+#[derive(Clone, Copy)]
+struct Sheet<'a> {
     side: usize,
     terms: usize,
     kept: u32,
     rejected: u32,
     held: usize,
-    xs: &[i32],
-    ys: &[i32],
+    xs: &'a [i32],
+    ys: &'a [i32],
     grid: usize,
-    luma: &[f32],
-    out: &[u8],
-) -> u32
-    ensures { result ≡ refusal (call.sentences_of (call.request side terms kept rejected held xs.now ys.now grid luma.now out.now)) }
-{
-    if limits::bad_side(side) {
-        return 2;
+    luma: &'a [f32],
+}
+
+impl Sheet<'_> {
+    // Module i's digit on its square, where it stands on the grid.
+    fn show_at(&self, i: usize, out: &mut [u8])
+        requires { step.RoomFor self.now.side out.old × (i < length self.now.xs.now) × (length self.now.xs.now ≡ length self.now.ys.now) × (length self.now.xs.now ≤ length self.now.luma.now) }
+        ensures { out.new ≡ step.show_at (call.modules_on self.now) i out.old }
+    {
+        if places::off_grid_at(self.side, self.xs, self.ys, i) {
+            return;
+        }
+        let x = usize::from(places::coordinate_at(self.side, self.xs, i));
+        let y = usize::from(places::coordinate_at(self.side, self.ys, i));
+        out[(COLUMNS + 1) * (y + 1) + x] = b'0' + reading::read(self.luma[i]);
     }
-    if short_slices(side, xs, ys, luma, out) {
-        return 5;
+
+    // Every module's digit, in list order: of several at one position the last stays.
+    fn show_all(&self, out: &mut [u8])
+        requires { step.RoomFor self.now.side out.old × (length self.now.xs.now ≡ length self.now.ys.now) × (length self.now.xs.now ≤ length self.now.luma.now) }
+        ensures { out.new ≡ step.show_all (call.modules_on self.now) out.old }
+    {
+        for i in 0..self.xs.len() {
+            self.show_at(i, out);
+        }
     }
-    if bad_tally(kept, rejected, held) {
-        return 6;
+
+    // The page's text at the front of `out`.
+    fn lay_out(&self, out: &mut [u8])
+        requires { step.RoomFor self.now.side out.old × Positions self.now.side self.now.grid self.now.xs.now self.now.ys.now × (length self.now.xs.now ≤ length self.now.luma.now) × (self.now.terms < 10 ^ 10) × (self.now.held < 10 ^ 10) }
+        ensures { out.new ≡ call.laid_out_bytes (call.request_on self.now out.old) }
+    {
+        let numbers = [
+            self.side,
+            self.terms,
+            self.kept as usize,
+            self.rejected as usize,
+            self.held,
+        ];
+        lay_blank(&numbers, self.side, out);
+        self.show_all(out);
     }
-    let places = layout::refused_modules(side, grid, xs, ys);
-    if places != 0 {
-        return places;
+
+    // Sentence 5: x and y run in pairs, there is a score for each module, and room for the page.
+    #[tactic(auto, unfolding(crate::specs::Calls::short_slices))]
+    fn short_slices(&self, out: &[u8]) -> bool
+        requires { self.now.side ≤ 1024 }
+        ensures { result ≡ call.short_slices self.now.side (length self.now.xs.now) (length self.now.ys.now) (length self.now.luma.now) (length out.now) }
+    {
+        self.xs.len() != self.ys.len()
+            || self.luma.len() < self.xs.len()
+            || out.len() < page_length(self.side)
     }
-    if illum::bad_terms(terms) {
-        return 10;
+
+    // Sentence 6, of the counts that are shown: one of the model's is above 16,384, or that of the modules above 1,048,576.
+    #[tactic(auto, unfolding(crate::specs::Calls::bad_tally))]
+    fn bad_tally(&self) -> bool
+        ensures { result ≡ call.bad_tally self.now.kept self.now.rejected self.now.held }
+    {
+        16384 < self.kept || 16384 < self.rejected || 1048576 < self.held
     }
-    if WIDEST < side {
-        return 14;
+
+    // Whether the sheet can be laid out on `out`. Refused: 2, 5, 6, 7, 10, 14, of which 6 and 7 of the modules by the
+    // group that calls share.
+    fn check(&self, out: &[u8]) -> Result<(), Refusal>
+        ensures { outcome_number result ≡ refusal (call.sentences_of (call.request_on self.now out.now)) }
+    {
+        if limits::bad_side(self.side) {
+            return Err(Refusal::Side);
+        }
+        if self.short_slices(out) {
+            return Err(Refusal::Length);
+        }
+        if self.bad_tally() {
+            return Err(Refusal::Count);
+        }
+        layout::check_modules(self.side, self.grid, self.xs, self.ys)?;
+        if illum::bad_terms(self.terms) {
+            return Err(Refusal::Model);
+        }
+        if WIDEST < self.side {
+            return Err(Refusal::Page);
+        }
+        Ok(())
     }
-    0
 }
 
 // Lays a read card out as side + 1 lines of 50 columns and a line feed, from a model's terms and its counts of kept and
@@ -211,13 +200,21 @@ pub fn page(
     grid: usize,
     luma: &[f32],
     out: &mut [u8],
-) -> Outcome
+) -> Result<(), Refusal>
     ensures { ended result out.new ≡ call.page_of (call.request side terms kept rejected held xs.now ys.now grid luma.now out.old) }
 {
-    let n = refused(side, terms, kept, rejected, held, xs, ys, grid, luma, out);
-    if n != 0 {
-        return Outcome::Refused(n);
-    }
-    lay_out(side, terms, kept, rejected, held, xs, ys, grid, luma, out);
-    Outcome::Done
+    let sheet = Sheet {
+        side,
+        terms,
+        kept,
+        rejected,
+        held,
+        xs,
+        ys,
+        grid,
+        luma,
+    };
+    sheet.check(out)?;
+    sheet.lay_out(out);
+    Ok(())
 }

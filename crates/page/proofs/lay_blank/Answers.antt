@@ -1,28 +1,26 @@
--- `page::lay_blank` meets its contract: what is left of the bytes takes the slice to the answer. Assumes nothing.
-use mathlib.Core.Path.{◌≡◌, ap}
-use mathlib.Core.List.{List}
-use Prim.Native.Nat.{ℕ, ◌+◌, ◌≤◌, ◌<◌}
+-- `page::lay_blank` meets its contract: the front of the slice has the bytes of the page without modules, and the rest is as it was. Assumes nothing.
+use mathlib.Core.Path.{◌≡◌, sym, ap, ◌∙◌}
+use mathlib.Core.List.{List, ◌++◌}
+use Prim.Native.Nat.{ℕ, ◌≤◌, ◌<◌}
 use native.Mathlib.Omega.{arith}
-use borrow.Author.Rules.{rules}
-use lib.ListN.{set}
-use Rattle.loops.proofs.Laws.{Left, loops, turn_to, done}
-use Rattle.lists.specs.Lists.{replace_at}
-use Rattle.page.specs.Lines.{page_length}
-use Rattle.page.specs.Steps.{blank_byte, blank_at}
+use lib.ListN.{length, get_or, take, drop}
+use lib.Seq.{length-take-le}
+use Rattle.lists.proofs.Laws.{is_replaced}
+use Rattle.page.specs.Lines.{page_length, overlaid}
+use Rattle.page.specs.Steps.{blank_byte, blank_at, blank_page}
+use Rattle.page.proofs.Laid.{overlaid-length, overlaid-text, overlaid-rest}
 use Rattle.page.proofs.lay_blank.Goals as goal
 
-again : (numbers : List ℕ) (side : ℕ) (out target : List ℕ) (k k-end v : ℕ) → Left (replace_at 0 (blank_at numbers side)) (page_length side) k out target → k-end ≡ page_length side → k < k-end →
-    v ≡ blank_byte numbers side k → Left (replace_at 0 (blank_at numbers side)) (page_length side) (k + 1) (set out k v) target
-again numbers side out target k k-end v l e h f = turn_to l (omega arith) (ap (set out k) f)
-
-over : (numbers : List ℕ) (side : ℕ) (out target : List ℕ) (k k-end : ℕ) → Left (replace_at 0 (blank_at numbers side)) (page_length side) k out target → k-end ≡ page_length side → k-end ≤ k → out ≡ target
-over numbers side out target k k-end l e h = done l (omega arith)
-
-pub loop-k-preserved : goal.loop-k-preserved
-loop-k-preserved c = (search rules, search rules, search (again))
-
-pub loop-k-init : goal.loop-k-init
-loop-k-init c = search (loops, rules)
+module _ (numbers : List ℕ) (side n k : ℕ) (items out : List ℕ) (e : n ≡ page_length side) (room : page_length side ≤ length out) where
+  blanked : length items ≡ length (take n out) → length (take n out) ≤ k → ((j : ℕ) → j < k → get_or items j 0 ≡ blank_byte numbers side j) → items ++ drop n out ≡ blank_page numbers side out
+  unfolding overlaid
+  blanked h q each =
+      let t : length (take n out) ≡ n = length-take-le n out (omega arith) in
+      let l : length items ≡ page_length side = h ∙ t ∙ e in
+      let r : length items ≤ length out = omega arith in
+      ap (λ (i : ℕ). items ++ drop i out) (e ∙ sym l)
+      ∙ is_replaced 0 (page_length side) (blank_at numbers side) out (overlaid items out) room (overlaid-length items out r)
+      (λ j u. overlaid-text items out r j (omega arith) ∙ each j (omega arith)) (λ j u. overlaid-rest items out r j (omega arith))
 
 pub returns : goal.returns
-returns c = search (over)
+returns c = let p = c.requires in let i = c.loop-k.invariant in blanked _ _ _ _ _ _ c.page_length.ensures p.1.long i.0 c.loop-k-test.false i.1

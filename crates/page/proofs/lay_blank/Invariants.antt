@@ -1,16 +1,8 @@
--- `page::lay_blank` meets its contract: what is left of the bytes takes the slice to the answer. Assumes nothing.
-use mathlib.Core.Path.{◌≡◌}
-use Prim.Native.Nat.{◌-◌}
-use lib.ListN.{length}
-use Rattle.loops.proofs.Laws.{Left}
-use Rattle.lists.specs.Lists.{replace_at}
-use Rattle.page.specs.Lines.{page_length}
-use Rattle.page.specs.Steps.{blank_at, blank_page}
+-- `page::lay_blank` meets its contract: the bytes before this one are those of the page without modules. Assumes nothing.
+use Rattle.std.proofs.Common.{◌≡◌, ◌<◌, ℕ, length, get_or}
+use Rattle.page.specs.Steps.{blank_byte}
 use Rattle.page.proofs.lay_blank.Given as goal
 
 abbrev pub invariant-loop-k : goal.invariant-loop-k
 invariant-loop-k l =
-    (l.k-end ≡ page_length l.side) × (length l.out ≡ length l.initial.out) × Left (replace_at 0 (blank_at l.numbers l.side)) (page_length l.side) l.k l.out (blank_page l.numbers l.side l.initial.out)
-
-abbrev pub decreases-loop-k : goal.decreases-loop-k
-decreases-loop-k l = l.k-end - l.k
+    (length l.byte-items ≡ length l.initial.byte-items) × ((j : ℕ) → j < l.k → get_or l.byte-items j 0 ≡ blank_byte l.numbers l.side j)

@@ -1,4 +1,4 @@
--- `page::lay_out` meets its contract: the bytes without modules, and then the modules, are the text. Assumes nothing.
+-- `page::Sheet::lay_out` meets its contract: the bytes without modules, and then the modules, are the text. Assumes nothing.
 use mathlib.Core.Path.{◌≡◌, ap, ◌∙◌}
 use mathlib.Core.List.{List, [], ◌∷◌}
 use Prim.Native.Nat.{ℕ, ◌^◌, ◌<◌}
@@ -14,7 +14,7 @@ use Rattle.page.specs.Lines.{modules, page_text, overlaid}
 use Rattle.page.specs.Steps.{RoomFor, blank_page, show_all}
 use Rattle.page.proofs.Text.{five-numbers}
 use Rattle.page.proofs.Laid.{laid_out}
-use Rattle.page.proofs.lay_out.Goals as goal
+use Rattle.page.proofs.Sheet.lay_out.Goals as goal
 
 module _ (side terms kept rejected held g : ℕ) (xs ys : List ℤ) (luma : List Float) (out : List ℕ) (room : RoomFor side out) (p : Positions side g xs ys) where
   laid : (a b : List ℕ) → terms < 10 ^ 10 → kept < 10 ^ 10 → rejected < 10 ^ 10 → held < 10 ^ 10 → a ≡ blank_page (side ∷ terms ∷ kept ∷ rejected ∷ held ∷ []) side out → b ≡ show_all (modules side xs ys luma) a →

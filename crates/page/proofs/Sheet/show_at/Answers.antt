@@ -1,4 +1,4 @@
--- `page::show_at` meets its contract: a module off the grid changes nothing, one on it stands in one of the grid's columns and rows. Assumes nothing.
+-- `page::Sheet::show_at` meets its contract: a module off the grid changes nothing, one on it stands in one of the grid's columns and rows. Assumes nothing.
 use mathlib.Core.Path.{◌≡◌, sym, ap, ◌∙◌}
 use mathlib.Core.Bool.{Bool, true, false}
 use mathlib.Core.List.{List}
@@ -17,7 +17,7 @@ use Rattle.reading.specs.Read.{reads}
 use Rattle.reading.proofs.Erasure.{reads-most}
 use Rattle.page.specs.Lines.{page_length, modules}
 use Rattle.page.specs.Steps.{show_at}
-use Rattle.page.proofs.show_at.Goals as goal
+use Rattle.page.proofs.Sheet.show_at.Goals as goal
 
 digit-fits : (v : Float) (r : ℕ) → r ≡ reads v → Fits w8 (48 + r)
 digit-fits v r e = record { fits = omega (arith, reads-most v) }
@@ -46,11 +46,11 @@ module _ (side : ℕ) (xs ys : List ℤ) (luma : List Float) (i : ℕ) (out : Li
   unfolding show_at
   wrote a b v f ea eb ev = rw (← e, f, ← ea, ← eb, ev)
 
-pub coordinate_at-x-requires : goal.coordinate_at-x-requires
-coordinate_at-x-requires c = (search rules, search rules, search (on_x))
+pub coordinate_at-requires : goal.coordinate_at-requires
+coordinate_at-requires c = (search rules, search rules, search (on_x))
 
-pub coordinate_at-y-requires : goal.coordinate_at-y-requires
-coordinate_at-y-requires c = (search rules, search rules, search (on_y))
+pub coordinate_at-requires-2 : goal.coordinate_at-requires-2
+coordinate_at-requires-2 c = (search rules, search rules, search (on_y))
 
 pub returns-then-off_grid_at : goal.returns-then-off_grid_at
 returns-then-off_grid_at c = search (stays)
@@ -59,7 +59,7 @@ pub overflow_add-out : goal.overflow_add-out
 overflow_add-out c = search (digit-fits)
 
 pub bounds-out-y : goal.bounds-out-y
-bounds-out-y c = search (place_in)
+bounds-out-y c = rw (c.from-x.ensures, c.from-y.ensures) (search (place_in))
 
 pub returns : goal.returns
-returns c = search (wrote)
+returns c = rw (c.from-x.ensures, c.from-y.ensures) (search (wrote))
