@@ -1,5 +1,5 @@
 -- What a fit knows past the sentences 2 to 8: each of them fails. Assumes nothing.
-use mathlib.Core.Path.{◌≡◌, refl, sym, ap, ◌∙◌}
+use mathlib.Core.Path.{◌≡◌, refl}
 use mathlib.Core.Bool.{Bool, true, false}
 use mathlib.Core.List.{List}
 use Prim.Native.Nat.{ℕ, ◌*◌, ◌≤◌}
@@ -12,8 +12,12 @@ use lib.Dec.{ltb}
 use Rattle.references.specs.References.{bad_positions, bad_colours, short_scratch, reference_placement}
 use Rattle.references.proofs.Laws.{room_in, few_in}
 use Rattle.illum.specs.declared.IlluminationModel.{IlluminationModel}
-use Rattle.illum.specs.Correct.{no_model}
-use Rattle.illum.specs.Refusals.{modelled}
+use Rattle.std.specs.Prelude.{Result, Err}
+use Rattle.std.specs.Result.{IsErr, IsErrAnd}
+use Rattle.answers.specs.declared.refusal.Refusal.{Refusal}
+use Rattle.answers.specs.Answers.{number_of}
+use Rattle.answers.proofs.Answers.{numbered, passed_on}
+use Rattle.illum.specs.Refusals.{model_said}
 use Rattle.fit.specs.Fit.{short, fit_sentences, Request, sentences_of, final, turned_away, done, fit_of}
 
 pub record Accepted (flat : List Float) (n side marks lent : ℕ) : Type 0 where
@@ -30,13 +34,13 @@ unfolding short
 lengths_in marks lent n h = let p = neither (ltb marks n) (short_scratch lent n) h in (ltb-false marks n p.0, room_in lent n p.1)
 
 module _ (flat : List Float) (cut : Bool) (n side marks lent : ℕ) where
-  numbered : sound (fit_sentences flat cut n side marks lent) ≡ true
+  sentences-sound : sound (fit_sentences flat cut n side marks lent) ≡ true
   unfolding fit_sentences reference_placement sound fresh
-  numbered = refl
+  sentences-sound = refl
 
-  module _ (k : ℕ) (e : k ≡ refusal (fit_sentences flat cut n side marks lent)) (z : k ≡ 0) where
+  module _ (e : 0 ≡ refusal (fit_sentences flat cut n side marks lent)) where
     none : (m : ℕ) → at m (fit_sentences flat cut n side marks lent) ≡ false
-    none m = none-holds (fit_sentences flat cut n side marks lent) numbered m (sym z ∙ e)
+    none m = none-holds (fit_sentences flat cut n side marks lent) sentences-sound m e
 
     lengths : (n ≤ marks) × (4 * n ≤ lent)
     unfolding fit_sentences at
@@ -55,13 +59,16 @@ module _ (flat : List Float) (cut : Bool) (n side marks lent : ℕ) where
           finite = none 8;
         }
 
--- what a call gives by its number
-module _ (q : Request) (k : ℕ) (e : k ≡ refusal (sentences_of q)) where
-  pub turned-away : (m : IlluminationModel) → (k ≡ 0 → ⊥) → m ≡ no_model → final (modelled k m) q.kept q.scratch ≡ fit_of q
+-- what a call gives: refused, or what the passes left
+module _ (q : Request) where
+  pub turned-away : (r : Refusal) → number_of r ≡ refusal (sentences_of q) → final (model_said (Err r)) q.kept q.scratch ≡ fit_of q
   unfolding fit_of
-  turned-away m z h =
-      ap (λ (n : IlluminationModel). final (modelled k n) q.kept q.scratch) h ∙ refuses (turned_away q) (done q) k (refusal (sentences_of q)) z e
+  turned-away r e = refuses (turned_away q) (done q) (number_of r) (refusal (sentences_of q)) (numbered r) e
 
-  pub taken : k ≡ 0 → done q ≡ fit_of q
+  pub sent_back : (x : Result IlluminationModel Refusal) (r : Refusal) → IsErr x × IsErrAnd x (λ y. y ≡ r) → number_of r ≡ refusal (sentences_of q)
+      → final (model_said x) q.kept q.scratch ≡ fit_of q
+  sent_back x r p e = rw (passed_on x r p) (turned-away r e)
+
+  pub taken : 0 ≡ refusal (sentences_of q) → done q ≡ fit_of q
   unfolding fit_of
-  taken z = accepts (turned_away q) (done q) k (refusal (sentences_of q)) z e
+  taken e = accepts (turned_away q) (done q) 0 (refusal (sentences_of q)) refl e

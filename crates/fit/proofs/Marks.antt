@@ -12,7 +12,10 @@ use lib.Ieee.{Float}
 use Rattle.loops.specs.Loops.{raise}
 use Rattle.loops.proofs.Laws.{for_up_same, for_up-done, for_up_to}
 use Rattle.lists.proofs.Laws.{reached}
-use Rattle.illum.specs.declared.Modelled.{Modelled}
+use Rattle.std.specs.Prelude.{Result, Ok, Err, IfOk}
+use Rattle.answers.specs.declared.refusal.Refusal.{Refusal}
+use Rattle.illum.specs.declared.IlluminationModel.{IlluminationModel}
+use Rattle.illum.specs.Refusals.{model_said}
 use Rattle.equations.specs.Live.{is_live, live_count}
 use Rattle.fit.specs.Fit.{kept_mark, mark_at, marks_of, is_mark, marked, MarksAddUp, Request, Final, final, ran_of, fit_of}
 use Rattle.fit.proofs.Counts.{for_up_last}
@@ -114,5 +117,7 @@ fit-marks q e =
     })
 
 -- of what a call gives
-pub marks-add_up : (q : Request) (r : Modelled) (kept : List ℕ) (scratch : List Float) → final r kept scratch ≡ fit_of q → r.number ≡ 0 → MarksAddUp q.n r.model kept
-marks-add_up q r kept scratch e = subst (λ (f : Final). f.answer.number ≡ 0 → MarksAddUp q.n f.answer.model f.kept) (sym e) (fit-marks q)
+pub marks-add_up : (q : Request) (r : Result IlluminationModel Refusal) (kept : List ℕ) (scratch : List Float) → final (model_said r) kept scratch ≡ fit_of q
+    → IfOk r (λ m. MarksAddUp q.n m kept)
+marks-add_up q (Ok m) kept scratch e = subst (λ (f : Final). f.answer.number ≡ 0 → MarksAddUp q.n f.answer.model f.kept) (sym e) (fit-marks q) refl
+marks-add_up q (Err r) kept scratch e = tt

@@ -3,51 +3,39 @@ use mathlib.Core.Path.{◌≡◌, refl, ap, ◌∙◌}
 use mathlib.Core.Bool.{Bool, true, false, cond, ◌||◌}
 use mathlib.Core.List.{List}
 use Prim.Native.Nat.{ℕ}
-use native.Mathlib.Omega.{arith}
 use lib.Ieee.{Float}
+use Rattle.std.specs.Prelude.{Option, None, Some, Result, Ok, Err, IfOk, IfSome}
+use Rattle.std.specs.Option.{option_map}
 use Rattle.sentences.proofs.Laws.{neither}
+use Rattle.answers.specs.declared.refusal.Refusal.{Refusal}
+use Rattle.answers.specs.declared.refusal.Refusal.TheVariants.{Fit}
 use Rattle.illum.specs.declared.IlluminationModel.{IlluminationModel}
 use Rattle.illum.specs.Refusals.{bad_terms, bad_model_side, not_finite_affine, not_finite_gains, not_finite_flares, not_finite_model, bad_shape, bad_model}
-use Rattle.fit.specs.declared.Pass.{Pass}
 use Rattle.equations.specs.Once.{fit_once}
-use Rattle.equations.proofs.Alike.{Alike, itself, fit-once-alike}
+use Rattle.equations.proofs.Alike.{Alike, fit-once-alike}
 use Rattle.residuals.specs.Residual.{residuals_of}
-use Rattle.fit.specs.Fit.{with_counts, bad_pass, pass, measured, pass_of}
+use Rattle.fit.specs.Fit.{with_counts, bad_pass, measured, looked_at, pass_of}
 
-measured-alike : (m k : IlluminationModel) (residuals live : List Float) (n : ℕ) → Alike m k → Alike m (measured k residuals live n).model
-unfolding measured
-measured-alike m k residuals live n h = record { terms = h.terms; side = h.side; rejected = h.rejected; kept = h.kept }
+-- what holds of the model that a pass from model m gives
+abbrev pub Fitting : IlluminationModel → Result (Option IlluminationModel) Refusal → Type 0
+Fitting m p = IfOk p (λ o. IfSome o (λ k. Alike m k × (not_finite_model k ≡ false)))
 
-either-alike : (m : IlluminationModel) (p : Pass) (b : Bool) → Alike m p.model → Alike m (cond b p (pass false false m)).model
-either-alike m p true h = h
-either-alike m p false h = itself m
+judges : (m k : IlluminationModel) (residuals : List Float) (n : ℕ) (b : Bool) → Alike m k → bad_pass k residuals n ≡ b → Fitting m (cond b (Err Fit) (Ok (Some k)))
+unfolding bad_pass
+judges m k residuals n true h e = tt
+judges m k residuals n false h e = (h, (neither _ _ e).0)
 
-pub pass-alike : (m : IlluminationModel) (flat live : List Float) (n : ℕ) → Alike m (pass_of m flat live n).model
+looks : (m : IlluminationModel) (flat live : List Float) (n : ℕ) (o : Option IlluminationModel) → ((k : IlluminationModel) → o ≡ Some k → Alike m k)
+    → Fitting m (looked_at flat n (option_map (λ k. measured (residuals_of k flat n) live n k) o))
+looks m flat live n None h = tt
+looks m flat live n (Some k) h =
+    let a = h k refl in
+    let v = measured (residuals_of k flat n) live n k in
+    judges m v (residuals_of v flat n) n (bad_pass v (residuals_of v flat n) n) (record { terms = a.terms; side = a.side; rejected = a.rejected; kept = a.kept }) refl
+
+pub pass-fitting : (m : IlluminationModel) (flat live : List Float) (n : ℕ) → Fitting m (pass_of m flat live n)
 unfolding pass_of
-pass-alike m flat live n =
-    let o = fit_once m flat live n in
-    either-alike m (measured o.model (residuals_of o.model flat n) live n) o.solved (measured-alike m o.model (residuals_of o.model flat n) live n (fit-once-alike m flat live n))
-
--- ---- finite
-
-measured-finite : (m : IlluminationModel) (residuals live : List Float) (n : ℕ) → (measured m residuals live n).bad ≡ false → not_finite_model (measured m residuals live n).model ≡ false
-unfolding measured bad_pass
-measured-finite m residuals live n h = (neither _ _ h).0
-
-no : {A : Type 0} → false ≡ true → A
-no e = let z : ◌≡◌ {A = ℕ} 0 1 = cc in absurd (omega arith)
-
-either-finite : (m : IlluminationModel) (p : Pass) (b : Bool) → (p.bad ≡ false → not_finite_model p.model ≡ false) → (cond b p (pass false false m)).solved ≡ true
-    → (cond b p (pass false false m)).bad ≡ false → not_finite_model (cond b p (pass false false m)).model ≡ false
-either-finite m p true h s u = h u
-either-finite m p false h s u = no s
-
-pub pass-finite : (m : IlluminationModel) (flat live : List Float) (n : ℕ) → (pass_of m flat live n).solved ≡ true → (pass_of m flat live n).bad ≡ false
-    → not_finite_model (pass_of m flat live n).model ≡ false
-unfolding pass_of
-pass-finite m flat live n =
-    let o = fit_once m flat live n in
-    either-finite m (measured o.model (residuals_of o.model flat n) live n) o.solved (measured-finite o.model (residuals_of o.model flat n) live n)
+pass-fitting m flat live n = looks m flat live n (fit_once m flat live n) (fit-once-alike m flat live n)
 
 -- ---- sentence 10
 

@@ -1,16 +1,18 @@
 -- The fit: two passes with a rejection between them, the marks of the references that were kept, and the refusals of `fit_flat` and
 -- `fit_counted`. Definitions only.
-use Rattle.std.specs.Prelude.{◌≡◌, Bool, true, false, cond, not, ◌||◌, List, [], ◌∷◌, ◌++◌, ℕ, ◌+◌, ◌*◌, ◌/◌, ◌%◌, ltb, eqb, length, get_or, Float}
+use Rattle.std.specs.Prelude.{◌≡◌, Bool, cond, not, ◌||◌, List, [], ◌∷◌, ◌++◌, ℕ, ◌+◌, ◌*◌, ◌/◌, ◌%◌, ltb, eqb, length, get_or, Float, Option, Some, None, Result, Ok, Err}
+use Rattle.std.specs.Option.{option_map}
 use Rattle.loops.specs.Loops.{any_up, count_up}
 use Rattle.lists.specs.Lists.{replaced}
 use Rattle.sentences.specs.Sentences.{Sentence, ◌when◌, refusal, decided}
 use Rattle.limits.specs.Limits.{bad_side}
 use Rattle.order.specs.Deviation.{cleared}
 use Rattle.illum.specs.declared.IlluminationModel.{IlluminationModel}
-use Rattle.illum.specs.declared.Modelled.{Modelled}
 use Rattle.illum.specs.Correct.{unit_model}
-use Rattle.illum.specs.Refusals.{not_finite_at, not_finite_model, modelled, refused_model}
-use Rattle.fit.specs.declared.Pass.{Pass}
+use Rattle.answers.specs.declared.refusal.Refusal.{Refusal}
+use Rattle.answers.specs.declared.refusal.Refusal.TheVariants.{Fit}
+use Rattle.answers.specs.Answers.{number_of}
+use Rattle.illum.specs.Refusals.{not_finite_at, not_finite_model, Modelled, modelled, refused_model}
 use Rattle.references.specs.References.{bad_colours, short_scratch, reference_placement}
 use Rattle.equations.specs.Live.{live_marks, is_live, live_count}
 use Rattle.equations.specs.Once.{fit_once}
@@ -62,20 +64,21 @@ with_counts m rejected kept =
 unfoldable pub bad_pass : IlluminationModel → List Float → ℕ → Bool
 bad_pass m residuals n = not_finite_model m || any_up 0 n (not_finite_at residuals)
 
-abbrev pub pass : Bool → Bool → IlluminationModel → Pass
-pass solved bad m = record { solved = solved; bad = bad; model = m }
+-- a solution with the root mean square of its residuals
+abbrev pub measured : List Float → List Float → ℕ → IlluminationModel → IlluminationModel
+measured residuals live n m = with_rms m (rms_of residuals live n)
 
-abbrev pub judged : IlluminationModel → List Float → ℕ → Pass
-judged m residuals n = pass true (bad_pass m residuals n) m
+-- the model that a pass over the live references gives, where it has a solution
+abbrev pub solution_of : IlluminationModel → List Float → List Float → ℕ → Option IlluminationModel
+solution_of m flat live n = option_map (λ k. measured (residuals_of k flat n) live n k) (fit_once m flat live n)
 
--- after a pass that has a solution
-unfoldable pub measured : IlluminationModel → List Float → List Float → ℕ → Pass
-measured m residuals live n = judged (with_rms m (rms_of residuals live n)) residuals n
+-- no solution, a model that sentence 11 lets pass, or refused by 11
+abbrev pub looked_at : List Float → ℕ → Option IlluminationModel → Result (Option IlluminationModel) Refusal
+looked_at flat n None = Ok None
+looked_at flat n (Some m) = cond (bad_pass m (residuals_of m flat n) n) (Err Fit) (Ok (Some m))
 
-unfoldable pub pass_of : IlluminationModel → List Float → List Float → ℕ → Pass
-pass_of m flat live n =
-    let o = fit_once m flat live n in
-    cond o.solved (measured o.model (residuals_of o.model flat n) live n) (pass false false m)
+unfoldable pub pass_of : IlluminationModel → List Float → List Float → ℕ → Result (Option IlluminationModel) Refusal
+pass_of m flat live n = looked_at flat n (solution_of m flat live n)
 
 -- ---- two passes
 
@@ -88,9 +91,10 @@ abbrev pub ran : Modelled → List Float → Ran
 ran r live = record { answer = r; live = live }
 
 -- pass two from model m: where it has no solution m stays, with kept 0
-abbrev pub concluded : IlluminationModel → List Float → ℕ → Pass → Modelled
-concluded m live n p =
-    cond p.solved (cond p.bad (refused_model 11) (modelled 0 (with_counts p.model p.model.rejected (live_count live n)))) (modelled 0 m)
+abbrev pub concluded : IlluminationModel → List Float → ℕ → Result (Option IlluminationModel) Refusal → Modelled
+concluded m live n (Ok None) = modelled 0 m
+concluded m live n (Ok (Some k)) = modelled 0 (with_counts k k.rejected (live_count live n))
+concluded m live n (Err r) = refused_model (number_of r)
 
 -- a model with its count of rejected references, and which are live
 pub record Dropped : Type 0 where
@@ -115,9 +119,10 @@ unfoldable pub refitted : IlluminationModel → List Float → List Float → Li
 refitted m flat residuals live n = second_pass flat n (dropped_of m residuals live n)
 
 -- pass one from the unit model
-abbrev pub first_pass : IlluminationModel → List Float → ℕ → Pass → Ran
-first_pass start flat n p =
-    cond p.solved (cond p.bad (ran (refused_model 11) (live_marks n)) (refitted p.model flat (residuals_of p.model flat n) (live_marks n) n)) (ran (modelled 0 start) (live_marks n))
+abbrev pub first_pass : IlluminationModel → List Float → ℕ → Result (Option IlluminationModel) Refusal → Ran
+first_pass start flat n (Ok None) = ran (modelled 0 start) (live_marks n)
+first_pass start flat n (Ok (Some m)) = refitted m flat (residuals_of m flat n) (live_marks n) n
+first_pass start flat n (Err r) = ran (refused_model (number_of r)) (live_marks n)
 
 -- the Rust's `fit`; number 11 where a pass gave something that is not finite
 unfoldable pub fitted : List Float → ℕ → ℕ → ℕ → Ran

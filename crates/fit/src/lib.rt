@@ -6,31 +6,24 @@
 //
 //     let mut kept = [0u8; 256];
 //     let mut scratch = [0.0f32; 1024];
-//     let fitted = fit::fit_flat(&flat, 21, 1, &mut kept, &mut scratch);      // up to 256 references of a card of side 21, version 1
-//     if fitted.number == 0 { .. fitted.model .. kept[i] .. }
+//     match fit::fit_flat(&flat, 21, 1, &mut kept, &mut scratch) { .. }      // up to 256 references of a card of side 21, version 1
 #![tactic(auto)]
 
-ghost use Rattle.std.specs.Prelude.{◌≡◌, true, false, ◌*◌, ◌/◌, ◌<◌, ◌≤◌, length, take, drop};
+ghost use Rattle.std.specs.Prelude.{◌≡◌, false, ◌*◌, ◌/◌, ◌<◌, ◌≤◌, length, take, drop, IfOk, IfSome};
 ghost use Rattle.sentences.specs.Sentences.{refusal};
+ghost use Rattle.answers.specs.Answers.{outcome_number};
+ghost use Rattle.illum.specs.Refusals.{model_said};
 ghost use Rattle.references.specs.Ready.{Scratch, Lent};
 ghost use Rattle.residuals.specs.Residual.{residuals_of};
 ghost use Rattle.fit.specs.Fit as spec;
 ghost use Rattle.fit.specs.Fit.{final, request, flat_request, ran, dropped};
-ghost use Rattle.residuals.specs.Ready.{Residuals};
 
+use answers::Refusal;
 use equations::live;
-use illum::{IlluminationModel, Modelled};
+use illum::IlluminationModel;
 
 // ---- the passes. Their s is 4 × n floats for n references: n live marks, n residuals, n floats of work, and n that no pass
 // touches.
-
-// What a pass gives: whether it has a solution, whether sentence 11 holds after it, and the model.
-#[derive(Clone, Copy)]
-pub struct Pass {
-    pub solved: bool,
-    pub bad: bool,
-    pub model: IlluminationModel,
-}
 
 // The model with another residual.
 fn with_rms(m: IlluminationModel, rms: f32) -> IlluminationModel
@@ -62,37 +55,29 @@ fn bad_pass(m: IlluminationModel, residuals: &[f32], n: usize) -> bool
     residuals::not_finite_in(residuals, n)
 }
 
-// A solved pass, with the root mean square of its residuals.
-fn measure(m: IlluminationModel, residuals: &[f32], live: &[f32], n: usize) -> Pass
-    requires { (n ≤ 16384) × Residuals n residuals.now live.now }
-    ensures { result ≡ spec.measured m residuals.now live.now n }
-{
-    let model = with_rms(m, residuals::residual_rms(residuals, live, n));
-    let bad = bad_pass(model, residuals, n);
-    Pass {
-        solved: true,
-        bad,
-        model,
-    }
-}
-
-// One pass over the live references, from model m, which leaves its residuals where it has a solution.
-fn run_pass(m: IlluminationModel, flat: &[f32], n: usize, s: &mut [f32]) -> Pass
+// One pass over the live references, from model m: its model, where it has a solution, whose residuals it leaves. Refused by 11.
+fn run_pass(
+    m: IlluminationModel,
+    flat: &[f32],
+    n: usize,
+    s: &mut [f32],
+) -> Result<Option<IlluminationModel>, Refusal>
     requires { Lent n flat.now s.old }
-    ensures { (result ≡ spec.pass_of m flat.now (take n s.old) n) × (take n s.new ≡ take n s.old) × (result.solved ≡ true → take n (drop n s.new) ≡ residuals_of result.model flat.now n) }
+    ensures passed { result ≡ spec.pass_of m flat.now (take n s.old) n }
+    ensures marks { take n s.new ≡ take n s.old }
+    ensures residuals { IfOk result (λ o. IfSome o (λ model. take n (drop n s.new) ≡ residuals_of model flat.now n)) }
 {
-    let o = equations::fit_once(m, flat, &s[..n], n);
-    if !o.solved {
-        return Pass {
-            solved: false,
-            bad: false,
-            model: m,
-        };
-    }
-    let model = o.model;
-    residuals::write_residuals(&mut s[n..2 * n], model, flat, n);
+    let Some(solution) = equations::fit_once(m, flat, &s[..n], n) else {
+        return Ok(None);
+    };
+    residuals::write_residuals(&mut s[n..2 * n], solution, flat, n);
     let w = &s[..];
-    measure(model, &w[n..2 * n], &w[..n], n)
+    let residuals = &w[n..2 * n];
+    let model = with_rms(solution, residuals::residual_rms(residuals, &w[..n], n));
+    if bad_pass(model, residuals, n) {
+        return Err(Refusal::Fit);
+    }
+    Ok(Some(model))
 }
 
 // Drops the references whose residual is above 3 sigma, and counts them in the model.
@@ -105,61 +90,44 @@ fn drop_outliers(m: IlluminationModel, n: usize, s: &mut [f32]) -> IlluminationM
     with_counts(m, rejected as u32, m.kept)
 }
 
-// What comes after pass one: m's outliers dropped, and pass two.
-fn refit(m: IlluminationModel, flat: &[f32], n: usize, s: &mut [f32]) -> Modelled
+// What comes after pass one: m's outliers dropped, and pass two. Refused by 11.
+fn refit(
+    m: IlluminationModel,
+    flat: &[f32],
+    n: usize,
+    s: &mut [f32],
+) -> Result<IlluminationModel, Refusal>
     requires { (1 ≤ n) × Lent n flat.now s.old }
-    ensures { ran result (take n s.new) ≡ spec.refitted m flat.now (take n (drop n s.old)) (take n s.old) n }
+    ensures { ran (model_said result) (take n s.new) ≡ spec.refitted m flat.now (take n (drop n s.old)) (take n s.old) n }
 {
     let first = drop_outliers(m, n, s);
-    let two = run_pass(first, flat, n, s);
-    if !two.solved {
-        return Modelled {
-            number: 0,
-            model: first,
-        };
-    }
-    if two.bad {
-        return Modelled {
-            number: 11,
-            model: illum::no_model(),
-        };
-    }
-    let model = two.model;
+    let Some(model) = run_pass(first, flat, n, s)? else {
+        return Ok(first);
+    };
     let kept = live::live_count(&s[..n], n) as u32;
-    Modelled {
-        number: 0,
-        model: with_counts(model, model.rejected, kept),
-    }
+    Ok(with_counts(model, model.rejected, kept))
 }
 
-// Core: the fit of n references that the sentences 2 to 8 let pass: number 0 and the model, or 11. The first n of s are left as
-// the live marks: 1 for a reference that is live, 0 for one that is rejected.
-pub fn fit_live(flat: &[f32], n: usize, side: usize, terms: usize, s: &mut [f32]) -> Modelled
+// Core: the fit of n references that the sentences 2 to 8 let pass. Refused by 11. The first n of s are left as the live marks: 1
+// for a reference that is live, 0 for one that is rejected.
+pub fn fit_live(
+    flat: &[f32],
+    n: usize,
+    side: usize,
+    terms: usize,
+    s: &mut [f32],
+) -> Result<IlluminationModel, Refusal>
     requires { Lent n flat.now s.old × (side ≤ 1024) }
-    ensures { ran result (take n s.new) ≡ spec.fitted flat.now n side terms }
+    ensures { ran (model_said result) (take n s.new) ≡ spec.fitted flat.now n side terms }
 {
     residuals::revive(&mut s[..n]);
     let start = illum::unit_model(side, terms);
     if n < 8 {
-        return Modelled {
-            number: 0,
-            model: start,
-        };
+        return Ok(start);
     }
-    let one = run_pass(start, flat, n, s);
-    if !one.solved {
-        return Modelled {
-            number: 0,
-            model: start,
-        };
-    }
-    if one.bad {
-        return Modelled {
-            number: 11,
-            model: illum::no_model(),
-        };
-    }
-    let model = one.model;
+    let Some(model) = run_pass(start, flat, n, s)? else {
+        return Ok(start);
+    };
     refit(model, flat, n, s)
 }
 
@@ -189,17 +157,6 @@ fn write_marks(count: u32, live: &[f32], n: usize, kept: &mut [u8])
     }
 }
 
-// Writes the marks of n references after the passes, where they were not refused by 11.
-fn mark_kept(number: u32, count: u32, live: &[f32], n: usize, kept: &mut [u8])
-    requires { (n ≤ length live.now) × (n ≤ length kept.old) }
-    ensures { kept.new ≡ spec.marks_left number count live.now n kept.old }
-{
-    if number != 0 {
-        return;
-    }
-    write_marks(count, live, n, kept);
-}
-
 // ---- the calls
 
 // 4 terms below version 10, 9 from it on.
@@ -222,25 +179,22 @@ fn short(marks: usize, lent: usize, n: usize) -> bool
     references::short_scratch(lent, n)
 }
 
-// The number of the first sentence that holds, or 0.
-fn refused(flat: &[f32], n: usize, side: usize, marks: usize, lent: usize) -> u32
+// Refuses by the first sentence that holds.
+fn check(flat: &[f32], n: usize, side: usize, marks: usize, lent: usize) -> Result<(), Refusal>
     requires { n ≤ 16384 → 8 * n ≤ length flat.now }
-    ensures { result ≡ refusal (spec.fit_sentences flat.now false n side marks lent) }
+    ensures { outcome_number result ≡ refusal (spec.fit_sentences flat.now false n side marks lent) }
 {
     if limits::bad_side(side) {
-        return 2;
+        return Err(Refusal::Side);
     }
     if short(marks, lent, n) {
-        return 5;
+        return Err(Refusal::Length);
     }
-    let placed = references::refused_references(side, flat, n);
-    if placed != 0 {
-        return placed;
-    }
+    references::check_references(side, flat, n)?;
     if references::bad_colours(flat, n) {
-        return 8;
+        return Err(Refusal::Number);
     }
-    0
+    Ok(())
 }
 
 // Core: fits n references, which stand in flat where there are no more than 16,384 of them. Refused by 2, 5 (kept shorter than n,
@@ -252,22 +206,17 @@ pub fn fit_counted(
     version: u8,
     kept: &mut [u8],
     scratch: &mut [f32],
-) -> Modelled
+) -> Result<IlluminationModel, Refusal>
     requires { n ≤ 16384 → 8 * n ≤ length flat.now }
-    ensures { final result kept.new scratch.new ≡ spec.fit_of (request flat.now false n side version kept.old scratch.old) }
+    ensures { final (model_said result) kept.new scratch.new ≡ spec.fit_of (request flat.now false n side version kept.old scratch.old) }
 {
-    let number = refused(flat, n, side, kept.len(), scratch.len());
-    if number != 0 {
-        return Modelled {
-            number,
-            model: illum::no_model(),
-        };
+    check(flat, n, side, kept.len(), scratch.len())?;
+    let fitted = fit_live(flat, n, side, terms_for(version), &mut scratch[..4 * n]);
+    if let Ok(model) = fitted {
+        write_marks(model.kept, &scratch[..n], n, kept);
     }
-    let r = fit_live(flat, n, side, terms_for(version), &mut scratch[..4 * n]);
-    let model = r.model;
-    mark_kept(r.number, model.kept, &scratch[..n], n, kept);
     references::clear(scratch, 4 * n);
-    r
+    fitted
 }
 
 // Fits the model to references in flat floats, eight each, for a card of this side and version. The first byte a reference of kept
@@ -280,21 +229,15 @@ pub fn fit_flat(
     version: u8,
     kept: &mut [u8],
     scratch: &mut [f32],
-) -> Modelled
-    ensures scratch_after { final result kept.new scratch.new ≡ spec.fit_of (flat_request flat.now side version kept.old scratch.old) }
-    ensures marks_add_up { result.number ≡ 0 → spec.MarksAddUp (length flat.now / 8) result.model kept.new }
+) -> Result<IlluminationModel, Refusal>
+    ensures scratch_after { final (model_said result) kept.new scratch.new ≡ spec.fit_of (flat_request flat.now side version kept.old scratch.old) }
+    ensures marks_add_up { IfOk result (λ model. spec.MarksAddUp (length flat.now / 8) model kept.new) }
 {
     if flat.len() % 8 == 0 {
         return fit_counted(flat, flat.len() / 8, side, version, kept, scratch);
     }
     if limits::bad_side(side) {
-        return Modelled {
-            number: 2,
-            model: illum::no_model(),
-        };
+        return Err(Refusal::Side);
     }
-    Modelled {
-        number: 5,
-        model: illum::no_model(),
-    }
+    Err(Refusal::Length)
 }

@@ -1,23 +1,24 @@
--- `fit::fit_live` meets its contract: too few references, pass one without a solution or not finite, or what comes after it.
+-- `fit::fit_live` meets its contract: too few references; pass one refused or without a solution; or what comes after it.
 -- Assumes nothing.
 use mathlib.Core.Path.{◌≡◌, sym, ap, ◌∙◌}
-use mathlib.Core.Bool.{true, false, not}
 use mathlib.Core.List.{List, ◌++◌}
 use Prim.Native.Nat.{ℕ, ◌*◌, ◌<◌, ◌≤◌}
 use native.Mathlib.Omega.{arith}
-use borrow.Author.Tests.{not-true, not-false, lt-ltb, le-ltb}
+use borrow.Author.Tests.{lt-ltb, le-ltb}
 use lib.ListN.{length, take, drop, length-replicate}
 use lib.Seq.{length-take-le, take_at}
 use lib.Ieee.{Float}
+use Rattle.std.specs.Prelude.{Option, None, Some, Result, Ok, Err}
+use Rattle.std.specs.Result.{IsErr, IsErrAnd}
+use Rattle.std.proofs.lemmas.Option.{MatchOption-at_some}
+use Rattle.answers.specs.declared.refusal.Refusal.{Refusal}
+use Rattle.answers.proofs.Answers.{passed_on}
 use Rattle.illum.specs.declared.IlluminationModel.{IlluminationModel}
-use Rattle.illum.specs.declared.Modelled.{Modelled}
-use Rattle.illum.specs.Correct.{no_model, unit_model}
-use Rattle.illum.specs.Refusals.{modelled}
-use Rattle.fit.specs.declared.Pass.{Pass}
+use Rattle.illum.specs.Correct.{unit_model}
+use Rattle.illum.specs.Refusals.{Modelled, modelled, model_said}
 use Rattle.equations.specs.Live.{live_mark, live_marks}
 use Rattle.residuals.specs.Residual.{residuals_of}
 use Rattle.fit.specs.Fit.{pass_of, ran, refitted, first_pass, fitted}
-use borrow.Author.Rules.{rules}
 use Rattle.fit.proofs.fit_live.Goals as goal
 
 -- `revive` writes ys to the start of s
@@ -31,61 +32,43 @@ module _ (flat s ys : List Float) (n side terms : ℕ) (start : IlluminationMode
   unfolding fitted
   few h = ap (ran (modelled 0 start)) marks ∙ cc (lt-ltb n 8 h)
 
-  -- past pass one, p, which leaves the marks
-  module _ (h : 8 ≤ n) (p : Pass) (live : List Float) (ep : p ≡ pass_of start flat (take n (ys ++ drop n s)) n) (el : live ≡ take n (ys ++ drop n s)) where
-    at_first : first_pass start flat n p ≡ fitted flat n side terms
+  -- past pass one, which leaves the marks
+  module _ (h : 8 ≤ n) (live : List Float) (el : live ≡ take n (ys ++ drop n s)) where
+    at_first : (p : Result (Option IlluminationModel) Refusal) → p ≡ pass_of start flat (take n (ys ++ drop n s)) n → first_pass start flat n p ≡ fitted flat n side terms
     unfolding fitted
-    at_first =
+    at_first p ep =
         ap (first_pass start flat n) (ep ∙ ap (λ (z : List Float). pass_of start flat z n) marks)
         ∙ ap (λ (m : IlluminationModel). first_pass m flat n (pass_of m flat (live_marks n) n)) es ∙ cc (le-ltb n 8 h)
 
-    unsolved : not p.solved ≡ true → ran (modelled 0 start) live ≡ fitted flat n side terms
-    unsolved t = ap (ran (modelled 0 start)) (el ∙ marks) ∙ cc (at_first, not-true p.solved t)
+    turned : (x : Result IlluminationModel Refusal) (r : Refusal) → IsErr x × IsErrAnd x (λ y. y ≡ r) → Err r ≡ pass_of start flat (take n (ys ++ drop n s)) n
+        → ran (model_said x) live ≡ fitted flat n side terms
+    turned x r q e = rw (passed_on x r q) (ap (ran (model_said (Err r))) (el ∙ marks) ∙ at_first (Err r) e)
 
-    infinite : (k : IlluminationModel) → not p.solved ≡ false → p.bad ≡ true → k ≡ no_model → ran (modelled 11 k) live ≡ fitted flat n side terms
-    infinite k t u e = ap (ran (modelled 11 k)) (el ∙ marks) ∙ cc (at_first, not-false p.solved t)
+    module _ (o : Option IlluminationModel) (e : Ok o ≡ pass_of start flat (take n (ys ++ drop n s)) n) where
+      unsolved : o ≡ None → ran (modelled 0 start) live ≡ fitted flat n side terms
+      unsolved t = ap (ran (modelled 0 start)) (el ∙ marks) ∙ at_first (Ok None) (ap Ok (sym t) ∙ e)
 
-    goes_on : (r : Modelled) (residuals live' : List Float) → ran r live' ≡ refitted p.model flat residuals live n → (p.solved ≡ true → residuals ≡ residuals_of p.model flat n)
-        → not p.solved ≡ false → p.bad ≡ false → ran r live' ≡ fitted flat n side terms
-    goes_on r residuals live' e er t u =
-        let t' : p.solved ≡ true = not-false p.solved t in
-        e ∙ ap (λ (z : List Float). refitted p.model flat z live n) (er t')
-        ∙ ap (λ (z : List Float). refitted p.model flat (residuals_of p.model flat n) z n) (el ∙ marks) ∙ cc at_first
-
-pub slice_bounds-revive-end-2 : goal.slice_bounds-revive-end-2
-slice_bounds-revive-end-2 c = sym (length-take-le _ _ (search rules))
+      goes_on : (k : IlluminationModel) (r : Modelled) (residuals live' : List Float) → o ≡ Some k → ran r live' ≡ refitted k flat residuals live n → residuals ≡ residuals_of k flat n
+          → ran r live' ≡ fitted flat n side terms
+      goes_on k r residuals live' t er eq =
+          er ∙ ap (λ (z : List Float). refitted k flat z live n) eq ∙ ap (λ (z : List Float). refitted k flat (residuals_of k flat n) z n) (el ∙ marks)
+          ∙ at_first (Ok (Some k)) (ap Ok (sym t) ∙ e)
 
 pub returns-then-n-lt8 : goal.returns-then-n-lt8
-returns-then-n-lt8 c = search (few)
+returns-then-n-lt8 c = few _ _ _ _ _ _ _ c.unit_model-start.ensures c.revive.ensures c.requires.0.four c.if-n-lt8.true
 
-pub returns-then-not-one : goal.returns-then-not-one
-returns-then-not-one c =
-    let p = c in
-    let u = p in
-    let v = u in
-    let start = v in
-    unsolved _ start.args.s.now v.revive.new.live start.args.n start.args.side start.args.terms _
-    u.unit_model-start.ensures v.revive.ensures start.requires.0.four p.if-n-lt8.false p.run_pass-one.result _ p.run_pass-one.ensures.0 p.run_pass-one.ensures.1
-    c.if-not-one.true
+pub returns-in_err-model : goal.returns-in_err-model
+returns-in_err-model c =
+    turned _ _ _ _ _ _ _ c.unit_model-start.ensures c.revive.ensures c.requires.0.four c.if-n-lt8.false _ c.in_err-model.ensures.marks
+    _ _ c.from_residual.ensures c.in_err-model.ensures.passed
 
-pub returns-then-one : goal.returns-then-one
-returns-then-one c =
-    let w = c in
-    let p = w in
-    let u = p in
-    let v = u in
-    let start = v in
-    infinite _ start.args.s.now v.revive.new.live start.args.n start.args.side start.args.terms _
-    u.unit_model-start.ensures v.revive.ensures start.requires.0.four p.if-n-lt8.false p.run_pass-one.result _ p.run_pass-one.ensures.0 p.run_pass-one.ensures.1
-    _ w.if-not-one.false c.if-one.true c.no_model.ensures
+pub returns-in_default : goal.returns-in_default
+returns-in_default c =
+    unsolved _ _ _ _ _ _ _ c.unit_model-start.ensures c.revive.ensures c.requires.0.four c.if-n-lt8.false _ c.in_ok-model.ensures.marks
+    _ c.in_ok-model.ensures.passed c.in_default.is
 
 pub returns : goal.returns
 returns c =
-    let w = c in
-    let p = w in
-    let u = p in
-    let v = u in
-    let start = v in
-    goes_on _ start.args.s.now v.revive.new.live start.args.n start.args.side start.args.terms _
-    u.unit_model-start.ensures v.revive.ensures start.requires.0.four p.if-n-lt8.false p.run_pass-one.result _ p.run_pass-one.ensures.0 p.run_pass-one.ensures.1
-    _ _ _ c.refit.ensures p.run_pass-one.ensures.2 w.if-not-one.false w.if-one.false
+    goes_on _ _ _ _ _ _ _ c.unit_model-start.ensures c.revive.ensures c.requires.0.four c.if-n-lt8.false _ c.in_ok-model.ensures.marks
+    _ c.in_ok-model.ensures.passed _ _ _ _ c.in-Some.is c.refit.ensures
+    (MatchOption-at_some _ _ _ c.in-Some.is c.in_ok-model.ensures.residuals)
