@@ -9,7 +9,12 @@ use lib.Ieee.{Float}
 use Rattle.sentences.specs.Sentences.{refusal, at, fresh, sound}
 use Rattle.sentences.proofs.Laws.{none-holds, neither, refuses, accepts}
 use Rattle.limits.proofs.Laws.{side_in}
-use Rattle.answers.specs.Answers.{refused_by}
+use Rattle.std.specs.Prelude.{Result, Err}
+use Rattle.std.specs.Result.{IsErr, IsErrAnd}
+use Rattle.answers.specs.declared.refusal.Refusal.{Refusal}
+use Rattle.answers.specs.Answers.{number_of, said}
+use Rattle.answers.proofs.Answers.{numbered, passed_on}
+use Rattle.measure.specs.declared.Measurement.{Measurement}
 use Rattle.color.specs.Palette.{palette_len, wild_palette}
 use Rattle.illum.specs.declared.IlluminationModel.{IlluminationModel}
 use Rattle.illum.specs.Refusals.{bad_model}
@@ -47,13 +52,13 @@ unfolding wild_numbers
 tame flat n palette hues h = neither (wild_colours flat n) (wild_palette palette hues) h
 
 module _ (flat : List Float) (cut : Bool) (n side : ℕ) (m : IlluminationModel) (palette : List Float) (hues lent : ℕ) where
-  numbered : sound (sentences_for flat cut n side m palette hues lent) ≡ true
+  sentences-sound : sound (sentences_for flat cut n side m palette hues lent) ≡ true
   unfolding sentences_for reference_placement sound fresh
-  numbered = refl
+  sentences-sound = refl
 
-  module _ (k : ℕ) (e : k ≡ refusal (sentences_for flat cut n side m palette hues lent)) (z : k ≡ 0) where
+  module _ (e : 0 ≡ refusal (sentences_for flat cut n side m palette hues lent)) where
     none : (j : ℕ) → at j (sentences_for flat cut n side m palette hues lent) ≡ false
-    none j = none-holds (sentences_for flat cut n side m palette hues lent) numbered j (sym z ∙ e)
+    none j = none-holds (sentences_for flat cut n side m palette hues lent) sentences-sound j e
 
     pub accepted : Accepted flat n side m palette hues lent
     unfolding sentences_for reference_placement at
@@ -72,12 +77,16 @@ module _ (flat : List Float) (cut : Bool) (n side : ℕ) (m : IlluminationModel)
           corrected = none 12;
         }
 
--- what a call gives by its number
-module _ (q : Request) (k : ℕ) (e : k ≡ refusal (sentences_of q)) where
-  pub turned-away : (k ≡ 0 → ⊥) → final (refused_by k) q.scratch ≡ measure_of q
+-- what a call gives: refused, or the measurement
+module _ (q : Request) where
+  pub turned-away : (r : Refusal) → number_of r ≡ refusal (sentences_of q) → final (said (Err r)) q.scratch ≡ measure_of q
   unfolding measure_of
-  turned-away z = refuses (turned_away q) (done q) k (refusal (sentences_of q)) z e
+  turned-away r e = refuses (turned_away q) (done q) (number_of r) (refusal (sentences_of q)) (numbered r) e
 
-  pub taken : k ≡ 0 → done q ≡ measure_of q
+  pub sent_back : (x : Result Measurement Refusal) (r : Refusal) → IsErr x × IsErrAnd x (λ y. y ≡ r) → number_of r ≡ refusal (sentences_of q)
+      → final (said x) q.scratch ≡ measure_of q
+  sent_back x r p e = rw (passed_on x r p) (turned-away r e)
+
+  pub taken : 0 ≡ refusal (sentences_of q) → done q ≡ measure_of q
   unfolding measure_of
-  taken z = accepts (turned_away q) (done q) k (refusal (sentences_of q)) z e
+  taken e = accepts (turned_away q) (done q) 0 (refusal (sentences_of q)) refl e

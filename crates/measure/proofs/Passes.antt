@@ -294,7 +294,7 @@ module _ (q : Request) (ff : F32 q.flat) (fp : F32 q.palette) (r : Measurement) 
       let g : r ≡ measurement q.model q.palette q.flat q.n = sym (some-injective _ r (ap (λ s. s.value) h)) in
       rw g
       (answer-passes q.model q.palette q.flat q.n q.side q.hues (length q.scratch) ff fp
-      (accepted q.flat q.cut q.n q.side q.model q.palette q.hues (length q.scratch) zero e refl))
+      (accepted q.flat q.cut q.n q.side q.model q.palette q.hues (length q.scratch) e))
   by_number (suc k) e h = absurd (none-ne-some r (ap (λ s. s.value) h))
 
   pub answered-passes : (measure_of q).said ≡ gives r → Passing r.noise

@@ -20,7 +20,8 @@ use Rattle.measure.specs.declared.Form.TheVariants.{Plain, Less}
 use Rattle.measure.specs.Measure.{spread_about, raised_sigma, luma_sigma, chroma_sigma, figures_of, record_of}
 use Rattle.stats.specs.declared.ChannelStats.{ChannelStats}
 use Rattle.stats.specs.Noise.{nominal}
-use Rattle.measure.specs.declared.Level.{Level}
+use Rattle.std.specs.Prelude.{None, Some}
+use Rattle.std.proofs.lemmas.Option.{none-some, same_Some}
 use Rattle.measure.specs.Columns.{m2, m3, m4, m5, marked, formed, picked_in, level_within, spread_in, RealDistances, RealSpreads, levelled, figures_in, record_in}
 use Rattle.measure.proofs.Lists.{picked-few}
 use Rattle.color.proofs.Numbers.{three_quarters, n0}
@@ -100,13 +101,28 @@ pub few_in : (n at : ℕ) (lo hi : Float) (t : List Float) → 0 + length (picke
 few_in n at lo hi t = omega (arith, picked-few n 0 (λ i. marked lo hi (get_or t (2 * n + i) nan)) (λ i. get_or t (at + i) nan))
 
 -- a level's list
-pub level : (n k : ℕ) (lo hi : Float) (t y : List Float) (m : Float) → k ≡ 0 + length (picked_in n 0 lo hi t) → y ≡ map (formed Plain) (picked_in n 0 lo hi t) → m ≡ median_of y
-    → ◌≡◌ {A = Level} (record { count = k; l = m }) (levelled (picked_in n 0 lo hi t))
-level n k lo hi t y m ek ey em =
-    let xs = picked_in n 0 lo hi t in
-    let a : k ≡ length xs = omega arith in
-    let b : m ≡ median_of xs = em ∙ ap median_of (ey ∙ plain xs) in
-    cc
+module _ (n k : ℕ) (lo hi : Float) (t : List Float) (ek : k ≡ 0 + length (picked_in n 0 lo hi t)) where
+  pub level-few : k < 3 → None ≡ levelled (picked_in n 0 lo hi t)
+  level-few h = rw (lt-ltb (length (picked_in n 0 lo hi t)) 3 (omega arith))
+
+  pub level : (y : List Float) (m : Float) → 3 ≤ k → y ≡ map (formed Plain) (picked_in n 0 lo hi t) → m ≡ median_of y → Some m ≡ levelled (picked_in n 0 lo hi t)
+  level y m h ey em = rw (le-ltb (length (picked_in n 0 lo hi t)) 3 (omega arith)) (ap Some (em ∙ ap median_of (ey ∙ plain (picked_in n 0 lo hi t))))
+
+-- a list that has a median, and one that has none
+module _ (xs : List Float) where
+  levelled-none : None ≡ levelled xs → ltb (length xs) 3 ≡ true
+  levelled-none e = by (ltb (length xs) 3) e
+    where
+      by : (b : Bool) → None ≡ cond b None (Some (median_of xs)) → b ≡ true
+      by true e = refl
+      by false e = absurd (none-some (median_of xs) e)
+
+  levelled-some : (l : Float) → Some l ≡ levelled xs → (ltb (length xs) 3 ≡ false) × (l ≡ median_of xs)
+  levelled-some l e = by (ltb (length xs) 3) e
+    where
+      by : (b : Bool) → Some l ≡ cond b None (Some (median_of xs)) → (b ≡ false) × (l ≡ median_of xs)
+      by true e = absurd (none-some l (sym e))
+      by false e = (refl, same_Some l (median_of xs) e)
 
 -- the record
 pub figured : (n : ℕ) (t t1 t2 t3 : List Float) (l0 l1 a b c d : Float) → a ≡ luma_sigma l0 l1 (level_within false n t) (level_within true n t)
@@ -116,31 +132,34 @@ pub figured : (n : ℕ) (t t1 t2 t3 : List Float) (l0 l1 a b c d : Float) → a 
 unfolding figures_in figures_of
 figured n t t1 t2 t3 l0 l1 a b c d ea ed e3 ec e2 eb e1 = cc (three_quarters, n0)
 
-module _ (palette : List Float) (n : ℕ) (t : List Float) (dark : Level) (ed : dark ≡ levelled (level_within false n t)) where
-  pub dark-few : (r : ChannelStats) → dark.count < 3 → r ≡ nominal palette → r ≡ record_in palette n t
+module _ (palette : List Float) (n : ℕ) (t : List Float) where
+  pub dark-few : None ≡ levelled (level_within false n t) → (r : ChannelStats) → r ≡ nominal palette → r ≡ record_in palette n t
   unfolding record_in record_of
-  dark-few r h e = rw (lt-ltb (length (level_within false n t)) 3 (rw (ap (λ (x : Level). x.count) ed) at h)) e
+  dark-few ed r e = rw (levelled-none (level_within false n t) ed) e
 
-  module _ (t1 : List Float) (light : Level) (el : light ≡ levelled (level_within true n t1)) (e1 : t1 ≡ t) (h : 3 ≤ dark.count) where
-    nd : ltb (length (level_within false n t)) 3 ≡ false
-    nd = le-ltb (length (level_within false n t)) 3 (rw (ap (λ (x : Level). x.count) ed) at h)
-
-    lt : light ≡ levelled (level_within true n t)
-    lt = el ∙ ap (λ (u : List Float). levelled (level_within true n u)) e1
-
-    pub light-few : (r : ChannelStats) → light.count < 3 → r ≡ nominal palette → r ≡ record_in palette n t
+  module _ (l0 : Float) (ed : Some l0 ≡ levelled (level_within false n t)) (t1 : List Float) (e1 : t1 ≡ t) where
+    pub light-few : None ≡ levelled (level_within true n t1) → (r : ChannelStats) → r ≡ nominal palette → r ≡ record_in palette n t
     unfolding record_in record_of
-    light-few r k e = rw (nd, lt-ltb (length (level_within true n t)) 3 (rw (ap (λ (x : Level). x.count) lt) at k)) e
+    light-few el r e = rw ((levelled-some (level_within false n t) l0 ed).0, levelled-none (level_within true n t) (rw e1 at el)) e
 
-    pub spreads_still : (t2 : List Float) → t2 ≡ t1 → RealSpreads n (median_of (level_within false n t)) (median_of (level_within true n t)) t → RealSpreads n dark.l light.l t2
-    spreads_still t2 e2 real = rw (e2 ∙ e1, ap (λ (x : Level). x.l) ed, ap (λ (x : Level). x.l) lt) real
+    module _ (l1 : Float) (el : Some l1 ≡ levelled (level_within true n t1)) (t2 : List Float) (e2 : t2 ≡ t1) where
+      dark_is : l0 ≡ median_of (level_within false n t)
+      dark_is = (levelled-some (level_within false n t) l0 ed).1
 
-    pub both-levels : (t2 : List Float) (r : ChannelStats) → 3 ≤ light.count → r ≡ figures_in n dark.l light.l t2 → t2 ≡ t1 → r ≡ record_in palette n t
-    unfolding record_in record_of figures_in
-    both-levels t2 r k e e2 =
-        rw (nd, le-ltb (length (level_within true n t)) 3 (rw (ap (λ (x : Level). x.count) lt) at k))
-        (e ∙ ap (figures_in n dark.l light.l) (e2 ∙ e1)
-        ∙ ap (λ (a : Float). figures_in n a light.l t) (ap (λ (x : Level). x.l) ed) ∙ ap (λ (a : Float). figures_in n (median_of (level_within false n t)) a t) (ap (λ (x : Level). x.l) lt))
+      light : Some l1 ≡ levelled (level_within true n t)
+      light = rw e1 at el
+
+      light_is : l1 ≡ median_of (level_within true n t)
+      light_is = (levelled-some (level_within true n t) l1 light).1
+
+      pub spreads_still : RealSpreads n (median_of (level_within false n t)) (median_of (level_within true n t)) t → RealSpreads n l0 l1 t2
+      spreads_still real = rw (e2 ∙ e1, dark_is, light_is) real
+
+      pub both-levels : (r : ChannelStats) → r ≡ figures_in n l0 l1 t2 → r ≡ record_in palette n t
+      unfolding record_in record_of figures_in
+      both-levels r e =
+          rw ((levelled-some (level_within false n t) l0 ed).0, (levelled-some (level_within true n t) l1 light).0)
+          (e ∙ ap (figures_in n l0 l1) (e2 ∙ e1) ∙ ap (λ (a : Float). figures_in n a l1 t) dark_is ∙ ap (λ (a : Float). figures_in n (median_of (level_within false n t)) a t) light_is)
 
 -- the lists of the two levels, one behind the other
 module _ (n k : ℕ) (t t1 : List Float) (e : t1 ≡ t) where

@@ -1,6 +1,6 @@
 -- How the lists stand in the scratch, four columns of n: room for one list, the corrected lightness, the chroma error and the mark of each
 -- reference. Definitions only; `Measure` says what is right.
-use Rattle.std.specs.Prelude.{◌≡◌, Bool, true, false, cond, ◌&&◌, List, map, ℕ, ◌+◌, ◌*◌, ◌≤◌, ◌<◌, ltb, length, get_or, set, Float}
+use Rattle.std.specs.Prelude.{◌≡◌, Bool, true, false, cond, ◌&&◌, List, map, ℕ, ◌+◌, ◌*◌, ◌≤◌, ◌<◌, ltb, length, get_or, set, Float, Option, None, Some}
 use Rattle.std.specs.Float.{nan, binary32}
 use Rattle.std.specs.Float.Ieee.{add, sub, mul, of_bits, le, eq, is_nan}
 use Rattle.float.specs.Root.{sqrt_of}
@@ -12,7 +12,6 @@ use Rattle.order.specs.Deviation.{deviation}
 use Rattle.order.specs.Law.{Numbers}
 use Rattle.illum.specs.declared.IlluminationModel.{IlluminationModel}
 use Rattle.measure.specs.declared.Known.{Known}
-use Rattle.measure.specs.declared.Level.{Level}
 use Rattle.measure.specs.declared.Form.{Form}
 use Rattle.measure.specs.declared.Form.TheVariants.{Plain, Less}
 use Rattle.stats.specs.declared.ChannelStats.{ChannelStats}
@@ -184,9 +183,9 @@ pub record RealSpreads (n : ℕ) (l0 l1 : Float) (t : List Float) : Type 0 where
   pub dark : RealDistances (picked_in n n m2 m3 t)
   pub light : RealDistances (picked_in n n m4 m5 t)
 
--- how many a level has, and their median
-abbrev pub levelled : List Float → Level
-levelled xs = record { count = length xs; l = median_of xs }
+-- the median of a level's list; none of fewer than 3
+abbrev pub levelled : List Float → Option Float
+levelled xs = cond (ltb (length xs) 3) None (Some (median_of xs))
 
 -- ---- the form in which an element is listed
 

@@ -18,8 +18,6 @@ use Rattle.illum.specs.Correct.{corrected, held_at}
 use Rattle.illum.specs.Refusals.{bad_model}
 use Rattle.measure.specs.declared.Seen.{Seen}
 use Rattle.measure.specs.declared.Measurement.{Measurement}
-use Rattle.measure.specs.declared.Measured.{Measured}
-use Rattle.measure.specs.declared.Measured.TheVariants.{Refused, Record}
 use Rattle.stats.specs.declared.ChannelStats.{ChannelStats}
 use Rattle.stats.specs.Noise.{nominal}
 use Rattle.stats.specs.Calls.{short_palette}
@@ -177,11 +175,6 @@ abbrev pub measurement : IlluminationModel → List Float → List Float → ℕ
 measurement m palette flat n = record { noise = measured m palette flat n; held = held_count m flat n }
 
 -- ---- the calls
-
--- what each case of the answer says
-abbrev pub measured_said : Measured → Said Measurement
-measured_said (Refused n) = refused_by n
-measured_said (Record r) = gives r
 
 -- what a call is handed: n references in flat floats, of which the last is cut off where `cut`
 pub record Request : Type 0 where

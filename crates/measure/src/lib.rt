@@ -11,16 +11,18 @@
 
 ghost use Rattle.std.specs.Prelude.{◌≡◌, true, false, ◌++◌, map, ◌+◌, ◌*◌, ◌<◌, ◌≤◌, length, take, drop};
 ghost use Rattle.sentences.specs.Sentences.{refusal};
+ghost use Rattle.answers.specs.Answers.{outcome_number, said};
 ghost use Rattle.color.specs.Color.{linear_to_lab};
 ghost use Rattle.color.specs.Palette.{palette_len};
 ghost use Rattle.order.specs.Median.{median_of};
 ghost use Rattle.references.specs.References.{wild_colours};
 ghost use Rattle.references.specs.Ready.{Scratch, Lent};
 ghost use Rattle.measure.specs.Measure as spec;
-ghost use Rattle.measure.specs.Measure.{measured_said, final, request, flat_request};
+ghost use Rattle.measure.specs.Measure.{final, request, flat_request};
 ghost use Rattle.measure.specs.Columns as column;
 ghost use Rattle.measure.specs.Ready.{Middle, Given, Levels};
 
+use answers::Refusal;
 use color::palette::level_l;
 use color::{Lab, Linear};
 use illum::IlluminationModel;
@@ -33,13 +35,6 @@ use stats::ChannelStats;
 pub struct Measurement {
     pub noise: ChannelStats,
     pub held: usize,
-}
-
-// What the calls answer: a refusal by its number, or the record with the count.
-#[derive(Clone, Copy)]
-pub enum Measured {
-    Refused(u32),
-    Record(Measurement),
 }
 
 // ---- one reference
@@ -453,21 +448,16 @@ fn chroma_sigma(s: &mut [f32], n: usize, lo: f32, hi: f32, least: usize, other: 
 
 // ---- the record
 
-// How many references count for a level, and their median lightness.
-#[derive(Clone, Copy)]
-struct Level {
-    count: usize,
-    l: f32,
-}
-
-// The level whose references are marked from lo to hi.
-fn level_of(s: &mut [f32], n: usize, lo: f32, hi: f32) -> Level
+// The median lightness of the level whose references are marked from lo to hi; none of fewer than 3.
+fn level_of(s: &mut [f32], n: usize, lo: f32, hi: f32) -> Option<f32>
     requires { Scratch n s.old }
     ensures { (result ≡ column.levelled (column.picked_in n 0 lo hi (drop n s.old))) × (drop n s.new ≡ drop n s.old) }
 {
     let count = list(s, n, 0, lo, hi, Form::Plain, 0);
-    let l = median_of(s, n, count);
-    Level { count, l }
+    if count < 3 {
+        return None;
+    }
+    Some(median_of(s, n, count))
 }
 
 // The record of the levels' medians and the columns.
@@ -495,15 +485,13 @@ fn record_of(palette: &[f32], n: usize, s: &mut [f32]) -> ChannelStats
     requires { Levels n s.old × (2 ≤ length palette.now) × column.RealSpreads n (median_of (column.level_within false n (drop n s.old))) (median_of (column.level_within true n (drop n s.old))) (drop n s.old) }
     ensures { result ≡ column.record_in palette.now n (drop n s.old) }
 {
-    let dark = level_of(s, n, 1.0, 2.0);
-    let light = level_of(s, n, 5.0, 6.0);
-    if dark.count < 3 {
+    let Some(l0) = level_of(s, n, 1.0, 2.0) else {
         return ChannelStats::nominal_of(palette);
-    }
-    if light.count < 3 {
+    };
+    let Some(l1) = level_of(s, n, 5.0, 6.0) else {
         return ChannelStats::nominal_of(palette);
-    }
-    figures_of(s, n, dark.l, light.l)
+    };
+    figures_of(s, n, l0, l1)
 }
 
 // The record of n references that the sentences let pass, with the count of those that have a mark; `nominal` and 0 of fewer than 8.
@@ -581,8 +569,8 @@ fn bad_corrected(model: IlluminationModel, flat: &[f32], n: usize) -> bool
     false
 }
 
-// The number of the first sentence that holds, or 0.
-fn refused(
+// Refuses by the first sentence that holds.
+fn check(
     flat: &[f32],
     n: usize,
     side: usize,
@@ -590,33 +578,30 @@ fn refused(
     palette: &[f32],
     hues: usize,
     lent: usize,
-) -> u32
+) -> Result<(), Refusal>
     requires { n ≤ 16384 → 8 * n ≤ length flat.now }
-    ensures { result ≡ refusal (spec.sentences_for flat.now false n side model palette.now hues lent) }
+    ensures { outcome_number result ≡ refusal (spec.sentences_for flat.now false n side model palette.now hues lent) }
 {
     if limits::bad_side(side) {
-        return 2;
+        return Err(Refusal::Side);
     }
     if limits::bad_hues(hues) {
-        return 3;
+        return Err(Refusal::Hues);
     }
     if too_short(palette, hues, lent, n) {
-        return 5;
+        return Err(Refusal::Length);
     }
-    let placed = references::refused_references(side, flat, n);
-    if placed != 0 {
-        return placed;
-    }
+    references::check_references(side, flat, n)?;
     if wild_numbers(flat, n, palette, hues) {
-        return 8;
+        return Err(Refusal::Number);
     }
     if illum::bad_model(model) {
-        return 10;
+        return Err(Refusal::Model);
     }
     if bad_corrected(model, flat, n) {
-        return 12;
+        return Err(Refusal::Corrected);
     }
-    0
+    Ok(())
 }
 
 // ---- the calls
@@ -631,17 +616,14 @@ pub fn measure_counted(
     palette: &[f32],
     hues: usize,
     scratch: &mut [f32],
-) -> Measured
+) -> Result<Measurement, Refusal>
     requires { n ≤ 16384 → 8 * n ≤ length flat.now }
-    ensures { final (measured_said result) scratch.new ≡ spec.measure_of (request flat.now false n side model palette.now hues scratch.old) }
+    ensures { final (said result) scratch.new ≡ spec.measure_of (request flat.now false n side model palette.now hues scratch.old) }
 {
-    let number = refused(flat, n, side, model, palette, hues, scratch.len());
-    if number != 0 {
-        return Measured::Refused(number);
-    }
-    let r = measurement_of(model, palette, flat, n, &mut scratch[..4 * n]);
+    check(flat, n, side, model, palette, hues, scratch.len())?;
+    let measurement = measurement_of(model, palette, flat, n, &mut scratch[..4 * n]);
     references::clear(scratch, 4 * n);
-    Measured::Record(r)
+    Ok(measurement)
 }
 
 // Measures the noise record from references in flat floats, eight each, for a card of this side, corrected by the model. With
@@ -656,17 +638,17 @@ pub fn measure_flat(
     palette: &[f32],
     hues: usize,
     scratch: &mut [f32],
-) -> Measured
-    ensures { final (measured_said result) scratch.new ≡ spec.measure_of (flat_request flat.now side model palette.now hues scratch.old) }
+) -> Result<Measurement, Refusal>
+    ensures { final (said result) scratch.new ≡ spec.measure_of (flat_request flat.now side model palette.now hues scratch.old) }
 {
     if flat.len() % 8 == 0 {
         return measure_counted(flat, flat.len() / 8, side, model, palette, hues, scratch);
     }
     if limits::bad_side(side) {
-        return Measured::Refused(2);
+        return Err(Refusal::Side);
     }
     if limits::bad_hues(hues) {
-        return Measured::Refused(3);
+        return Err(Refusal::Hues);
     }
-    Measured::Refused(5)
+    Err(Refusal::Length)
 }

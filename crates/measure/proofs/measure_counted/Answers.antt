@@ -8,7 +8,7 @@ use lib.ListN.{length, take, drop, replicate, length-append}
 use lib.Seq.{length-take-le, drop_at}
 use lib.Ieee.{Float}
 use Rattle.sentences.specs.Sentences.{refusal}
-use Rattle.answers.specs.Answers.{refused_by, gives}
+use Rattle.answers.specs.Answers.{gives}
 use Rattle.order.specs.Median.{zero32}
 use Rattle.order.specs.Deviation.{cleared}
 use Rattle.illum.specs.declared.IlluminationModel.{IlluminationModel}
@@ -16,20 +16,20 @@ use Rattle.references.specs.References.{wild_colours}
 use Rattle.measure.specs.declared.Measurement.{Measurement}
 use Rattle.measure.specs.Measure.{bad_corrected, measurement, final, request, sentences_for, measure_of}
 use Rattle.measure.specs.Ready.{Given}
-use Rattle.measure.proofs.Accepted.{accepted, turned-away, taken}
+use Rattle.measure.proofs.Accepted.{accepted, sent_back, taken}
 use Rattle.measure.proofs.measure_counted.Goals as goal
 
--- s is lent, and the number k of the first sentence that holds is 0
-module _ (flat palette s : List Float) (n side hues k : ℕ) (m : IlluminationModel) (e : k ≡ refusal (sentences_for flat false n side m palette hues (length s))) (z : k ≡ 0) where
+-- s is lent, and no sentence holds
+module _ (flat palette s : List Float) (n side hues : ℕ) (m : IlluminationModel) (e : 0 ≡ refusal (sentences_for flat false n side m palette hues (length s))) where
   room : 4 * n ≤ length s
-  room = (accepted flat false n side m palette hues (length s) k e z).room
+  room = (accepted flat false n side m palette hues (length s) e).room
 
   four : 4 * n ≡ length (take (4 * n) s)
   four = sym (length-take-le (4 * n) s room)
 
   ready : (n ≤ 16384 → 8 * n ≤ length flat) → Given palette n flat (take (4 * n) s) × (wild_colours flat n ≡ false) × (bad_corrected m flat n ≡ false)
   ready h =
-      let a = accepted flat false n side m palette hues (length s) k e z in
+      let a = accepted flat false n side m palette hues (length s) e in
       (record { levels = a.levels; lent = record { stand = h a.few; most = a.few; four = sym four } }, a.colours, a.corrected)
 
   -- u is the first 4 × n numbers of s as the core left them
@@ -44,43 +44,28 @@ module _ (flat palette s : List Float) (n side hues k : ℕ) (m : IlluminationMo
     ends : (t : List Float) (r : Measurement) → r ≡ measurement m palette flat n → t ≡ cleared (4 * n) (u ++ drop (4 * n) s) → final (gives r) t ≡ measure_of (request flat false n side m palette hues s)
     ends t r er ec =
         ap (final (gives r)) (ec ∙ past) ∙ ap (λ (x : Measurement). final (gives x) (cleared (4 * n) s)) er
-        ∙ taken (request flat false n side m palette hues s) k e z
+        ∙ taken (request flat false n side m palette hues s) e
 
-turned : (flat palette s : List Float) (n side hues k : ℕ) (m : IlluminationModel) → k ≡ refusal (sentences_for flat false n side m palette hues (length s)) → (k ≡ 0 → ⊥)
-    → final (refused_by k) s ≡ measure_of (request flat false n side m palette hues s)
-turned flat palette s n side hues k m e h = turned-away (request flat false n side m palette hues s) k e h
-
-pub returns-then-number-ne0 : goal.returns-then-number-ne0
-returns-then-number-ne0 c = search (turned)
+pub returns-in_err-check : goal.returns-in_err-check
+returns-in_err-check c = sent_back _ _ _ c.from_residual.ensures c.in_err-check.ensures
 
 pub overflow_mul-n : goal.overflow_mul-n
-overflow_mul-n c = omega (arith, (accepted _ _ _ _ _ _ _ _ _ c.refused-number.ensures c.if-number-ne0.false).few)
+overflow_mul-n c = omega (arith, (accepted _ _ _ _ _ _ _ _ c.in_ok-check.ensures).few)
 
 pub slice_bounds-measurement_of-end : goal.slice_bounds-measurement_of-end
-slice_bounds-measurement_of-end c = search (room)
+slice_bounds-measurement_of-end c = room _ _ _ _ _ _ _ c.in_ok-check.ensures
 
 pub slice_bounds-measurement_of-end-2 : goal.slice_bounds-measurement_of-end-2
-slice_bounds-measurement_of-end-2 c = search (four)
+slice_bounds-measurement_of-end-2 c = four _ _ _ _ _ _ _ c.in_ok-check.ensures
 
-pub measurement_of-r-requires : goal.measurement_of-r-requires
-measurement_of-r-requires c =
-    let k = c in
-    ready _ _ _ _ _ _ _ _ k.refused-number.ensures c.if-number-ne0.false k.requires
+pub measurement_of-measurement-requires : goal.measurement_of-measurement-requires
+measurement_of-measurement-requires c = ready _ _ _ _ _ _ _ c.in_ok-check.ensures c.requires
 
 pub overflow_mul-n-2 : goal.overflow_mul-n-2
-overflow_mul-n-2 c =
-    let k = c in
-    omega (arith, (accepted _ _ _ _ _ _ _ _ _ k.refused-number.ensures k.if-number-ne0.false).few)
+overflow_mul-n-2 c = omega (arith, (accepted _ _ _ _ _ _ _ _ c.in_ok-check.ensures).few)
 
 pub clear-requires : goal.clear-requires
-clear-requires c =
-    let l = c in
-    let k = l in
-    let a = k.args in
-    let w =
-    long a.flat.now a.palette.now a.scratch.now a.n a.side a.hues _ a.model k.refused-number.ensures l.if-number-ne0.false
-    l.measurement_of-r.new.s l.measurement_of-r.auto.s in
-    omega (arith, w)
+clear-requires c = long _ _ _ _ _ _ _ c.in_ok-check.ensures _ c.measurement_of-measurement.auto.s
 
 pub returns : goal.returns
-returns c = search (ends)
+returns c = ends _ _ _ _ _ _ _ c.in_ok-check.ensures _ c.measurement_of-measurement.auto.s _ _ c.measurement_of-measurement.ensures c.clear.ensures

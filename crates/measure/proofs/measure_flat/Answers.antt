@@ -3,12 +3,12 @@ use mathlib.Core.Path.{◌≡◌, sym, ap, ◌∙◌}
 use mathlib.Core.Bool.{Bool, true, false, not}
 use mathlib.Core.List.{List}
 use Prim.Native.Nat.{ℕ, ◌/◌, ◌%◌}
-use native.Mathlib.Omega.{arith}
 use borrow.Author.Tests.{eq-eqb, ne_eqb}
 use lib.ListN.{length}
 use lib.Ieee.{Float}
 use Rattle.sentences.specs.Sentences.{refusal}
 use Rattle.limits.specs.Limits.{bad_side, bad_hues}
+use Rattle.answers.specs.declared.refusal.Refusal.TheVariants.{Side, Hues, Length}
 use Rattle.answers.specs.Answers.{refused_by}
 use Rattle.illum.specs.declared.IlluminationModel.{IlluminationModel}
 use Rattle.measure.specs.Measure.{too_short, sentences_for, Final, final, request, flat_request, measure_of}
@@ -22,16 +22,16 @@ module _ (flat scratch palette : List Float) (side hues : ℕ) (m : Illumination
   module _ (r : Bool) (e : r ≡ bad_side side) where
     two : r ≡ true → final (refused_by 2) scratch ≡ measure_of (flat_request flat side m palette hues scratch)
     unfolding sentences_for refusal
-    two t = turned-away (flat_request flat side m palette hues scratch) 2 (cc) (λ z. omega arith)
+    two t = turned-away (flat_request flat side m palette hues scratch) Side (cc)
 
     module _ (t : r ≡ false) (q : Bool) (d : q ≡ bad_hues hues) where
       three : q ≡ true → final (refused_by 3) scratch ≡ measure_of (flat_request flat side m palette hues scratch)
       unfolding sentences_for refusal
-      three u = turned-away (flat_request flat side m palette hues scratch) 3 (cc) (λ z. omega arith)
+      three u = turned-away (flat_request flat side m palette hues scratch) Hues (cc)
 
       five : q ≡ false → (length flat % 8 ≡ 0 → ⊥) → final (refused_by 5) scratch ≡ measure_of (flat_request flat side m palette hues scratch)
       unfolding sentences_for refusal too_short
-      five u h = turned-away (flat_request flat side m palette hues scratch) 5 (cc (ne_eqb (length flat % 8) 0 h)) (λ z. omega arith)
+      five u h = turned-away (flat_request flat side m palette hues scratch) Length (cc (ne_eqb (length flat % 8) 0 h))
 
 pub returns-then-flat-eq0 : goal.returns-then-flat-eq0
 returns-then-flat-eq0 c = counted _ _ _ _ _ _ _ c.if-flat-eq0.true c.measure_counted.ensures

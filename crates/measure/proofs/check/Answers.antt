@@ -1,4 +1,4 @@
--- `measure::refused` meets its contract: the sentences, one after the other; past 2 the side is at most 1,024, past 5 the palette is long enough, and past 6 the references stand in the slice. Assumes nothing.
+-- `measure::check` meets its contract: the sentences, one after the other; past 2 the side is at most 1,024, past 5 the palette is long enough, and past 6 the references stand in the slice. Assumes nothing.
 use mathlib.Core.Path.{◌≡◌, sym, ◌∙◌}
 use mathlib.Core.Bool.{Bool, false}
 use Prim.Native.Nat.{ℕ, ◌≤◌}
@@ -9,19 +9,19 @@ use Rattle.references.proofs.Laws.{stand-placed, placements}
 use Rattle.measure.specs.Measure.{sentences_for}
 use Rattle.measure.proofs.Accepted.{palette_in}
 use borrow.Author.Rules.{rules}
-use Rattle.measure.proofs.refused.Goals as goal
+use Rattle.measure.proofs.check.Goals as goal
 
 most : (side : ℕ) (r : Bool) → r ≡ bad_side side → r ≡ false → side ≤ 1024
 most side r e f = (side_in side (sym e ∙ f)).1
 
-pub refused_references-placed-requires : goal.refused_references-placed-requires
-refused_references-placed-requires c = (search (most), search rules)
+pub check_references-requires : goal.check_references-requires
+check_references-requires c = (search (most), search rules)
 
 pub wild_numbers-requires : goal.wild_numbers-requires
-wild_numbers-requires c = (search (stand-placed), search (palette_in))
+wild_numbers-requires c = (stand-placed _ _ _ c.in_ok-check_references.ensures c.requires, search (palette_in))
 
 pub bad_corrected-requires : goal.bad_corrected-requires
-bad_corrected-requires c = search (stand-placed)
+bad_corrected-requires c = stand-placed _ _ _ c.in_ok-check_references.ensures c.requires
 
 pub bad_side-requires : goal.bad_side-requires
 unfolding sentences_for
@@ -47,13 +47,13 @@ pub returns-then-too_short : goal.returns-then-too_short
 unfolding sentences_for
 returns-then-too_short c = search (sentences) depth 9
 
-pub returns-then-placed-ne0 : goal.returns-then-placed-ne0
+pub returns-in_err-check_references : goal.returns-in_err-check_references
 unfolding sentences_for
-returns-then-placed-ne0 c = search (sentences, placements) depth 9
+returns-in_err-check_references c = search (sentences, placements, c.in_err-check_references.ensures) depth 9
 
 pub returns-then-wild_numbers : goal.returns-then-wild_numbers
 unfolding sentences_for
-returns-then-wild_numbers c = search (sentences, placements) depth 9
+returns-then-wild_numbers c = search (sentences, placements, c.in_ok-check_references.ensures) depth 9
 
 pub bad_model-requires : goal.bad_model-requires
 unfolding sentences_for
@@ -61,12 +61,12 @@ bad_model-requires c = search rules
 
 pub returns-then-bad_model : goal.returns-then-bad_model
 unfolding sentences_for
-returns-then-bad_model c = search (sentences, placements) depth 9
+returns-then-bad_model c = search (sentences, placements, c.in_ok-check_references.ensures) depth 9
 
 pub returns-then-bad_corrected : goal.returns-then-bad_corrected
 unfolding sentences_for
-returns-then-bad_corrected c = search (sentences, placements) depth 9
+returns-then-bad_corrected c = search (sentences, placements, c.in_ok-check_references.ensures) depth 9
 
 pub returns : goal.returns
 unfolding sentences_for
-returns c = search (sentences, placements) depth 9
+returns c = search (sentences, placements, c.in_ok-check_references.ensures) depth 9
