@@ -24,14 +24,13 @@ use Rattle.layout.proofs.Laws.{modules-sound}
 use Rattle.color.specs.Color.{whole, fraction}
 use Rattle.color.specs.Palette.{linear_at, wild, wild_linear, wild_at, wild_in}
 use Rattle.color.proofs.Rises.{fin_of_fraction}
-use Rattle.answers.specs.declared.Outcome.TheVariants as outcome
-use Rattle.answers.specs.Answers.{ended}
+use Rattle.std.specs.Prelude.{Ok}
+use Rattle.answers.specs.Answers.{gives, ended}
 use Rattle.modulate.specs.Score.{bad_luma_lengths, unmask_at, unmasked, unmask_sentences, unmask_luma_of}
 use Rattle.reading.specs.Read.{read_list, read_sentences, read_list_of}
 use Rattle.lists.proofs.Laws.{reached}
 use Rattle.stats.specs.Calls.{short_palette, bad_numbers, bad_sigmas}
 use Rattle.stats.proofs.Range.{Held}
-use Rattle.demod.specs.declared.Scored.TheVariants as scored
 use Rattle.demod.specs.Call.{report_of}
 use Rattle.demod.proofs.Outcome.{IsDone, at_done}
 use Rattle.demod.proofs.Range.{luma_in, colour-tame}
@@ -48,12 +47,12 @@ no_or a b p q = rw (p, q)
 
 -- ---- the calls, where no sentence holds
 
-read_done : (scores : List Float) (bits : List ℕ) → length scores ≤ length bits → read_list_of scores bits ≡ ended outcome.Done (read_list scores bits)
+read_done : (scores : List Float) (bits : List ℕ) → length scores ≤ length bits → read_list_of scores bits ≡ ended (Ok tt) (read_list scores bits)
 unfolding read_list_of read_sentences refusal decided
 read_done scores bits h = rw (le-ltb (length bits) (length scores) h)
 
 unmask-done : (luma : List Float) (side : ℕ) (xs ys : List ℤ) (g mask : ℕ) → bad_side side ≡ false → length xs ≡ length ys → length xs ≤ length luma →
-    refusal (module_placement side g xs ys) ≡ 0 → unmask_luma_of luma side xs ys g mask ≡ ended outcome.Done (unmasked mask xs ys g luma)
+    refusal (module_placement side g xs ys) ≡ 0 → unmask_luma_of luma side xs ys g mask ≡ ended (Ok tt) (unmasked mask xs ys g luma)
 unfolding unmask_luma_of unmask_sentences bad_luma_lengths refusal decided
 unmask-done luma side xs ys g mask a b c d = rw (a, eq-eqb (length xs) (length ys) b, le-ltb (length luma) (length xs) c, d)
 
@@ -100,7 +99,7 @@ score_tame v p =
 -- ---- after an accepted scoring
 
 module _ (s : Setting) (c : Card) (z : (scored_card s c).number ≡ 0) where
-  is_done : (scored_card s c).answer ≡ scored.Done (report_of (to_score s c))
+  is_done : (scored_card s c).answer ≡ gives (report_of (to_score s c))
   is_done = done-answer (to_score s c) z
 
   pub facts : IsDone (to_score s c)
@@ -152,7 +151,7 @@ module _ (s : Setting) (c : Card) (z : (scored_card s c).number ≡ 0) where
         (omega (arith, luma-long, facts.fit.lengths.scores))).long ∙
         luma-long
 
-    unmasks : unmasked_card s c ≡ ended outcome.Done (unmasked s.mask s.xs s.ys s.layout.grid (refined_card s c).luma)
+    unmasks : unmasked_card s c ≡ ended (Ok tt) (unmasked s.mask s.xs s.ys s.layout.grid (refined_card s c).luma)
     unmasks =
         let a = facts.fit in
         unmask-done (refined_card s c).luma s.layout.side s.xs s.ys s.layout.grid s.mask a.shaped.side-good a.lengths.pairs.modules (omega (arith, refined-long, a.lengths.scores)) a.placed.modules-pass

@@ -1,16 +1,14 @@
 -- What `read_bits` leaves: "A card is read from its raw colours: scoring corrects them by the model, refinement takes the luma scores that scoring left, unmasking those that refinement left, and
 -- reading takes these and the chroma scores". The first of these calls that is refused decides. The calls are those of the read guarantee's card (crate `guarantee`). Definitions only.
-use Rattle.std.specs.Prelude.{◌≡◌, List, [], ◌++◌, ℕ, ℤ, take, Float}
+use Rattle.std.specs.Prelude.{◌≡◌, List, [], ◌++◌, ℕ, ℤ, take, Float, Result}
 use Rattle.sentences.specs.Sentences.{decided}
 use Rattle.layout.specs.declared.Layout.{Layout}
-use Rattle.answers.specs.declared.Outcome.{Outcome}
-use Rattle.answers.specs.declared.Outcome.TheVariants as outcome
+use Rattle.answers.specs.declared.refusal.Refusal.{Refusal}
+use Rattle.answers.specs.Answers.{Said, refused_by, gives, said}
 use Rattle.illum.specs.declared.IlluminationModel.{IlluminationModel}
 use Rattle.stats.specs.declared.ChannelStats.{ChannelStats}
 use Rattle.demod.specs.declared.ScoreReport.{ScoreReport}
-use Rattle.demod.specs.declared.Scored.{Scored}
-use Rattle.demod.specs.declared.Scored.TheVariants.{Refused, Done}
-use Rattle.demod.specs.Call.{scored_said, report_of}
+use Rattle.demod.specs.Call.{report_of}
 use Rattle.guarantee.specs.Card.{Setting, Card, modules, chroma_scores, drawn_card, to_score, scored_card, refined_card, unmasked_card, luma_read, chroma_read, Accepted, bits_drawn, bits_read}
 use Rattle.guarantee.specs.Guarantee.{Singles, InMargin, Near}
 
@@ -72,27 +70,22 @@ lent luma colours chroma scratch bits symbols =
 -- document 01's number, the answer, which is of the same kind as scoring's, and these
 pub record Left : Type 0 where
   pub number : ℕ
-  pub answer : Scored
+  pub answer : Said ScoreReport
   pub lent : Lent
 
-abbrev pub leaving : Scored → Lent → Left
-leaving r m = record { number = (scored_said r).number; answer = r; lent = m }
+abbrev pub leaving : Said ScoreReport → Lent → Left
+leaving a m = record { number = a.number; answer = a; lent = m }
 
-abbrev pub left : Scored → List Float → List Float → List Float → List Float → List ℕ → List ℕ → Left
-left r luma colours chroma scratch bits symbols = leaving r (lent luma colours chroma scratch bits symbols)
+abbrev pub left : Result ScoreReport Refusal → List Float → List Float → List Float → List Float → List ℕ → List ℕ → Left
+left r luma colours chroma scratch bits symbols = leaving (said r) (lent luma colours chroma scratch bits symbols)
 
 -- a call that left the memory m is refused by number n
 abbrev pub stopped : Lent → ℕ → Left
-stopped m n = leaving (Refused n) m
+stopped m n = leaving (refused_by n) m
 
 -- the last call is done: what is answered is what scoring reported
 abbrev pub done : ScoreReport → Lent → Left
-done report m = leaving (Done report) m
-
--- the answer of a call after scoring, with that report
-abbrev pub reported : ScoreReport → Outcome → Scored
-reported report (outcome.Refused n) = Refused n
-reported report outcome.Done = Done report
+done report m = leaving (gives report) m
 
 -- ---- the calls in turn
 
