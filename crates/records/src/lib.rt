@@ -2,7 +2,7 @@
 //
 //     let mut kept = [0u8; 256];
 //     let mut scratch = [0.0f32; 1024];
-//     let fitted = records::fit(&references, 21, 1, &mut kept, &mut scratch);      // up to 256 references of a card of side 21, version 1
+//     match records::fit(&references, 21, 1, &mut kept, &mut scratch) { .. }      // up to 256 references of a card of side 21, version 1
 //
 // `fit` and `measure` copy the records into a local array of 8 × 16,384 floats, 512 KB of stack. A caller with less calls
 // `fit::fit_flat` and `measure::measure_flat`, which take the same floats and give the same answers.
@@ -11,12 +11,14 @@
 ghost use Rattle.std.specs.Prelude.{◌≡◌, false, ◌++◌, ◌+◌, ◌*◌, ◌≤◌, length, take};
 ghost use Rattle.fit.specs.Fit as fitting;
 ghost use Rattle.measure.specs.Measure as measuring;
-ghost use Rattle.measure.specs.Measure.{measured_said};
+ghost use Rattle.answers.specs.Answers.{said};
+ghost use Rattle.illum.specs.Refusals.{model_said};
 ghost use Rattle.records.specs.Records as spec;
 
+use answers::Refusal;
 use color::Linear;
-use illum::{IlluminationModel, Modelled};
-use measure::Measured;
+use illum::IlluminationModel;
+use measure::Measurement;
 
 // A reference of known colour: its position in modules, the colour that was observed there, and the colour that was drawn.
 #[repr(C)]
@@ -35,15 +37,16 @@ fn put(flat: &mut [f32], i: usize, r: Reference)
     requires { 8 * i + 8 ≤ length flat.old }
     ensures { take (8 * (i + 1)) flat.new ≡ take (8 * i) flat.old ++ spec.eight r }
 {
-    let at = 8 * i;
-    flat[at] = r.x;
-    flat[at + 1] = r.y;
-    flat[at + 2] = r.observed.r;
-    flat[at + 3] = r.observed.g;
-    flat[at + 4] = r.observed.b;
-    flat[at + 5] = r.nominal.r;
-    flat[at + 6] = r.nominal.g;
-    flat[at + 7] = r.nominal.b;
+    flat[8 * i..8 * i + 8].copy_from_slice(&[
+        r.x,
+        r.y,
+        r.observed.r,
+        r.observed.g,
+        r.observed.b,
+        r.nominal.r,
+        r.nominal.g,
+        r.nominal.b,
+    ]);
 }
 
 // How many of n records are copied: none where there are more than 16,384, since the call is refused then.
@@ -61,10 +64,8 @@ fn gather(refs: &[Reference], m: usize, flat: &mut [f32])
     requires { (m ≤ length refs.now) × (8 * m ≤ length flat.old) }
     ensures { take (8 * m) flat.new ≡ spec.flattened (take m refs.now) }
 {
-    let mut i = 0;
-    while i < m {
-        put(flat, i, refs[i]);
-        i = i + 1;
+    for (i, r) in refs[..m].iter().enumerate() {
+        put(flat, i, *r);
     }
 }
 
@@ -78,9 +79,9 @@ fn fit_copied(
     version: u8,
     kept: &mut [u8],
     scratch: &mut [f32],
-) -> Modelled
+) -> Result<IlluminationModel, Refusal>
     requires { length flat.old ≡ 131072 }
-    ensures { fitting.final result kept.new scratch.new ≡ fitting.fit_of (fitting.request (take (8 * spec.copied n) flat.old) false n side version kept.old scratch.old) }
+    ensures { fitting.final (model_said result) kept.new scratch.new ≡ fitting.fit_of (fitting.request (take (8 * spec.copied n) flat.old) false n side version kept.old scratch.old) }
 {
     let m = copied(n);
     fit::fit_counted(&flat[..8 * m], n, side, version, kept, scratch)
@@ -95,9 +96,9 @@ fn measure_copied(
     palette: &[f32],
     hues: usize,
     scratch: &mut [f32],
-) -> Measured
+) -> Result<Measurement, Refusal>
     requires { length flat.old ≡ 131072 }
-    ensures { measuring.final (measured_said result) scratch.new ≡ measuring.measure_of (measuring.request (take (8 * spec.copied n) flat.old) false n side model palette.now hues scratch.old) }
+    ensures { measuring.final (said result) scratch.new ≡ measuring.measure_of (measuring.request (take (8 * spec.copied n) flat.old) false n side model palette.now hues scratch.old) }
 {
     let m = copied(n);
     measure::measure_counted(&flat[..8 * m], n, side, model, palette, hues, scratch)
@@ -112,8 +113,8 @@ pub fn fit(
     version: u8,
     kept: &mut [u8],
     scratch: &mut [f32],
-) -> Modelled
-    ensures { fitting.final result kept.new scratch.new ≡ fitting.fit_of (fitting.flat_request (spec.flattened refs.now) side version kept.old scratch.old) }
+) -> Result<IlluminationModel, Refusal>
+    ensures { fitting.final (model_said result) kept.new scratch.new ≡ fitting.fit_of (fitting.flat_request (spec.flattened refs.now) side version kept.old scratch.old) }
 {
     let n = refs.len();
     let m = copied(n);
@@ -132,8 +133,8 @@ pub fn measure(
     palette: &[f32],
     hues: usize,
     scratch: &mut [f32],
-) -> Measured
-    ensures { measuring.final (measured_said result) scratch.new ≡ measuring.measure_of (measuring.flat_request (spec.flattened refs.now) side model palette.now hues scratch.old) }
+) -> Result<Measurement, Refusal>
+    ensures { measuring.final (said result) scratch.new ≡ measuring.measure_of (measuring.flat_request (spec.flattened refs.now) side model palette.now hues scratch.old) }
 {
     let n = refs.len();
     let m = copied(n);

@@ -1,6 +1,7 @@
 -- `records::gather` meets its contract: a turn adds the record at i. Assumes nothing.
-use Rattle.std.proofs.Common.{◌≡◌, ◌+◌, ◌<◌, ◌++◌, ℕ, List, length, get_or, take, refl, sym, ap, ◌∙◌, add-one, arith}
+use Rattle.std.proofs.Common.{◌≡◌, ◌+◌, ◌*◌, ◌<◌, ◌≤◌, ◌++◌, ℕ, List, length, get_or, take, refl, sym, ap, ◌∙◌, add-one, arith}
 use Rattle.std.proofs.lemmas.List.{get_or_default}
+use lib.Seq.{length-take-le, take_all}
 use lib.Ieee.{Float}
 use Rattle.records.specs.declared.Reference.{Reference}
 use Rattle.records.specs.Records.{eight, flattened, no_reference}
@@ -14,15 +15,18 @@ one_more ps i d a b h e f =
     ∙ ap (λ (r : Reference). flattened (take i ps) ++ eight r) (get_or_default ps i d no_reference h)
     ∙ sym (flattened-more ps i h) ∙ ap (λ (k : ℕ). flattened (take k ps)) (sym (add-one i))
 
+all : (ps : List Reference) (zs : List Float) (m i : ℕ) → length (take m ps) ≤ i → i ≤ length (take m ps) → m ≤ length ps → take (8 * i) zs ≡ flattened (take i (take m ps))
+    → take (8 * m) zs ≡ flattened (take m ps)
+all ps zs m i h k l e =
+    let q : m ≡ i = omega (arith, length-take-le m ps l) in
+    ap (λ (j : ℕ). take (8 * j) zs) q ∙ e ∙ ap flattened (take_all i (take m ps) h)
+
 pub loop-i-init : goal.loop-i-init
 unfolding flattened
-loop-i-init c = (omega arith, refl, refl)
+loop-i-init c = refl
 
 pub loop-i-preserved : goal.loop-i-preserved
-loop-i-preserved c =
-    let g = c.loop-i.invariant in
-    let h : c.loop-i.i < length c.args.refs.now = omega arith in (
-      omega arith,
-      omega arith,
-      one_more _ _ _ _ _ h g.2 c.put.ensures,
-    )
+loop-i-preserved c = one_more _ _ _ _ _ c.loop-i-test.true c.loop-i.invariant c.put.ensures
+
+pub returns : goal.returns
+returns c = all _ _ _ _ c.loop-i-test.false c.loop-i.auto.i-end c.requires.0 c.loop-i.invariant
