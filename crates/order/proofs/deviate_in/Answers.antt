@@ -1,15 +1,21 @@
--- `order::deviate_in` meets its contract: before turn i the distances of the first i values are written, and the others stand as they were.
--- Assumes nothing.
-use borrow.Author.Rules.{rules}
-use Rattle.order.proofs.Fill.{fill-begin, fill-turn, fill-ahead, fill-whole}
-use Rattle.order.proofs.Distances.{distances-long, distance-each}
+-- `order::deviate_in` meets its contract: the distances of the values so far are written, and the others stand as they were. Assumes nothing.
+use mathlib.Core.List.{List, map, ◌++◌}
+use mathlib.Core.Path.{◌≡◌}
+use Prim.Native.Nat.{ℕ, ◌+◌, ◌<◌}
+use native.Mathlib.Omega.{arith}
+use lib.Ieee.{Float, binary32, nan, sub}
+use lib.ListN.{length, take, drop, set, get_or}
+use Rattle.float.specs.Select.{abs}
+use Rattle.order.specs.Deviation.{deviation}
+use Rattle.std.proofs.lemmas.List.{get_or_default}
+use Rattle.std.proofs.lemmas.List.Edits.{map_over_more}
 use Rattle.order.proofs.deviate_in.Goals as goal
 
-pub loop-i-init : goal.loop-i-init
-loop-i-init c = search (distances-long, fill-begin, rules)
+next : (m : Float) (xs ys : List Float) (i : ℕ) (r : Float) → i < length xs → length ys ≡ length xs → ys ≡ map (deviation m) (take i xs) ++ drop i xs → r ≡ abs (sub binary32 (get_or ys i nan) m)
+    → set ys i r ≡ map (deviation m) (take (i + 1) xs) ++ drop (i + 1) xs
+unfolding deviation
+next m xs ys i r h l e d =
+    rw d (map_over_more (deviation m) xs ys i (get_or ys i nan) h e (get_or_default ys i nan (get_or ys i nan) (omega arith)))
 
-pub loop-i-preserved : goal.loop-i-preserved
-loop-i-preserved c = search (distance-each, fill-turn, fill-ahead, rules)
-
-pub returns : goal.returns
-returns c = search (fill-whole, rules)
+pub loop-x-preserved : goal.loop-x-preserved
+loop-x-preserved c = search (next)

@@ -6,5 +6,5 @@ use Rattle.order.proofs.larger.Goals as goal
 pub returns-then-m-x : goal.returns-then-m-x
 returns-then-m-x c = (sym (max-above _ _ c.if-m-x.true), above-number _ _ c.if-m-x.true)
 
-pub returns : goal.returns
-returns c = (sym (max-below _ _ c.requires c.if-m-x.false), c.requires)
+pub returns-else-m-x : goal.returns-else-m-x
+returns-else-m-x c = (sym (max-below _ _ c.requires c.if-m-x.false), c.requires)

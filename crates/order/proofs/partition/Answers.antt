@@ -3,6 +3,8 @@
 use Prim.Native.Nat.{◌-◌}
 use mathlib.Core.Path.{refl, sym, ap, ◌∙◌}
 use native.Mathlib.Omega.{arith}
+use lib.Ieee.{nan}
+use Rattle.std.proofs.lemmas.List.Edits.{swap_is}
 use Rattle.order.specs.Median.{Parted}
 use Rattle.order.proofs.Parting as parting
 use Rattle.order.proofs.Parting.{Ends, parted-done}
@@ -20,7 +22,9 @@ pub scan_down-e-requires : goal.scan_down-e-requires
 scan_down-e-requires c = (c.loop-i.invariant.stops c.loop-i-test.true).down
 
 pub swap-requires : goal.swap-requires
-swap-requires c = let h = parting.ends _ _ _ _ (c.loop-i.invariant.stops c.loop-i-test.true) _ _ c.scan_up-i.ensures c.scan_down-e.ensures in omega arith
+swap-requires c =
+    let h = parting.ends _ _ _ _ (c.loop-i.invariant.stops c.loop-i-test.true) _ _ c.scan_up-i.ensures c.scan_down-e.ensures in
+    record { a_in_bounds = omega arith; b_in_bounds = omega arith }
 
 pub overflow_add-i : goal.overflow_add-i
 overflow_add-i c = let h = parting.ends _ _ _ _ (c.loop-i.invariant.stops c.loop-i-test.true) _ _ c.scan_up-i.ensures c.scan_down-e.ensures in omega arith
@@ -31,7 +35,9 @@ loop-i-smaller-then-i-e c = let h = parting.ends _ _ _ _ (c.loop-i.invariant.sto
 pub loop-i-preserved-then-i-e : goal.loop-i-preserved-then-i-e
 loop-i-preserved-then-i-e c =
     let a = c in
-    rw c.swap.ensures
+    let h = parting.ends _ _ _ _ (c.loop-i.invariant.stops c.loop-i-test.true) _ _ c.scan_up-i.ensures c.scan_down-e.ensures in
+    let e = c.swap.ensures.after ∙ sym (swap_is c.loop-i.v c.scan_up-i.result (c.scan_down-e.result - 1) nan (omega arith) (omega arith)) in
+    rw e
     (parting.going_on _ _ _ _ _ _ a.loop-i.invariant a.loop-i-test.true _ _ a.scan_up-i.ensures a.scan_down-e.ensures
     c.if-i-e.true)
 
