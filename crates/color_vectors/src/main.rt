@@ -1,8 +1,7 @@
 // Replays the stored answers of the crate `color`: each component of each answer, every bit.
 #![tactic(auto)]
 
-use answers::Number;
-use color::palette::Flag;
+use answers::Refusal;
 use color::{Lab, Linear, Srgb8, Xyz};
 use std::io;
 use vectors::{Compared, Tally};
@@ -91,23 +90,23 @@ fn put_float(got: &mut [u64], x: f32) -> usize {
 }
 
 // 0 and the number, or the refusal's number alone.
-fn put_number(got: &mut [u64], n: Number) -> usize {
+fn put_number(got: &mut [u64], n: Result<usize, Refusal>) -> usize {
     match n {
-        Number::Is(v) => {
+        Ok(v) => {
             let second = vectors::put(got, 0, 0);
             vectors::put(got, second, v as u64)
         }
-        Number::Refused(r) => vectors::put(got, 0, r as u64),
+        Err(r) => vectors::put(got, 0, u64::from(u32::from(r))),
     }
 }
 
-fn put_flag(got: &mut [u64], f: Flag) -> usize {
+fn put_flag(got: &mut [u64], f: Result<bool, Refusal>) -> usize {
     match f {
-        Flag::Is(v) => {
+        Ok(v) => {
             let second = vectors::put(got, 0, 0);
             vectors::put(got, second, v as u64)
         }
-        Flag::Refused(r) => vectors::put(got, 0, r as u64),
+        Err(r) => vectors::put(got, 0, u64::from(u32::from(r))),
     }
 }
 

@@ -2,7 +2,8 @@
 // every bit.
 #![tactic(auto)]
 
-use demod::Scored;
+use answers::Refusal;
+use demod::ScoreReport;
 use illum::IlluminationModel;
 use layout::Layout;
 use stage_words::count;
@@ -36,10 +37,10 @@ fn card_at(row: &[u64], at_grid: usize, at_model: usize) -> Card {
 }
 
 // 0 and how many modules and how many cells have a mark, or the refusal's number.
-fn put_scored(got: &mut [u64], s: Scored) -> usize {
+fn put_scored(got: &mut [u64], s: Result<ScoreReport, Refusal>) -> usize {
     match s {
-        Scored::Refused(number) => vectors::put(got, 0, number as u64),
-        Scored::Done(report) => {
+        Err(r) => vectors::put(got, 0, u64::from(u32::from(r))),
+        Ok(report) => {
             let to_modules = vectors::put(got, 0, 0);
             let to_cells = vectors::put(got, to_modules, report.held_modules as u64);
             vectors::put(got, to_cells, report.held_cells as u64)

@@ -7,20 +7,22 @@
 // is above 16,384, and `fit::fit_counted` is called with it.
 #![tactic(auto)]
 
-use illum::{Correction, IlluminationModel, Marked, Modelled, Unshaded};
+use answers::Refusal;
+use illum::{IlluminationModel, Marked, Unshaded};
 use std::io;
 use vectors::{Compared, Tally};
 
 // ---- answers: words put into a row
 
 // 0 and the model, or the refusal's number.
-fn put_modelled(got: &mut [u64], m: Modelled) -> usize {
-    let next = vectors::put(got, 0, m.number as u64);
-    if m.number != 0 {
-        return next;
+fn put_modelled(got: &mut [u64], fitted: Result<IlluminationModel, Refusal>) -> usize {
+    match fitted {
+        Ok(model) => {
+            let next = vectors::put(got, 0, 0);
+            stage_words::put_model(got, next, model)
+        }
+        Err(r) => vectors::put(got, 0, u64::from(u32::from(r))),
     }
-    let model = m.model;
-    stage_words::put_model(got, next, model)
 }
 
 // 1 for a mark, 0 for none.
@@ -39,21 +41,21 @@ fn put_marks(got: &mut [u64], at: usize, m: Marked) -> usize {
 }
 
 // 0, the colour and its marks, or the refusal's number, from a place on.
-fn put_correction(got: &mut [u64], at: usize, c: Correction) -> usize {
+fn put_correction(got: &mut [u64], at: usize, c: Result<Marked, Refusal>) -> usize {
     match c {
-        Correction::Corrected(m) => {
+        Ok(m) => {
             let to_colour = vectors::put(got, at, 0);
             let to_marks = stage_words::put_linear(got, to_colour, m.colour);
             put_marks(got, to_marks, m)
         }
-        Correction::Refused(n) => vectors::put(got, at, n as u64),
+        Err(r) => vectors::put(got, at, u64::from(u32::from(r))),
     }
 }
 
 // ---- each function: from the inputs in a row to the answers in another, and how many these are
 
 // One call of `correct`, of the five words at a place.
-fn correct_at(model: IlluminationModel, row: &[u64], at: usize) -> Correction {
+fn correct_at(model: IlluminationModel, row: &[u64], at: usize) -> Result<Marked, Refusal> {
     illum::correct(
         model,
         stage_words::single(row, at, 0),
@@ -77,7 +79,13 @@ fn correct(row: &[u64], got: &mut [u64]) -> usize {
 }
 
 // The call that a record's floats and count make, with room for the marks of up to 256 references.
-fn fit_of(flat: &[f32], n: usize, side: usize, version: u8, scratch: &mut [f32]) -> Modelled {
+fn fit_of(
+    flat: &[f32],
+    n: usize,
+    side: usize,
+    version: u8,
+    scratch: &mut [f32],
+) -> Result<IlluminationModel, Refusal> {
     let mut kept = [0u8; 256];
     if 16384 < n {
         return fit::fit_counted(flat, n, side, version, &mut kept, scratch);

@@ -2,17 +2,16 @@
 // behind, every bit.
 #![tactic(auto)]
 
-use math::Solving;
-use order::Sigma;
+use answers::Refusal;
 use std::io;
 use vectors::{Compared, Tally};
 
 // An answer as a list has it: 0 solved, FFFF no solution, else the refusal's number.
-fn number(o: Solving) -> u64 {
+fn number(o: Result<bool, Refusal>) -> u64 {
     match o {
-        Solving::Solved => 0,
-        Solving::NoSolution => 0xFFFF,
-        Solving::Refused(n) => n as u64,
+        Ok(true) => 0,
+        Ok(false) => 0xFFFF,
+        Err(r) => u64::from(u32::from(r)),
     }
 }
 
@@ -169,13 +168,13 @@ fn median(row: &[u64], got: &mut [u64]) -> usize {
 }
 
 // Puts a deviation into a row: 0 and its value, or the refusal's number.
-fn put_sigma(s: Sigma, got: &mut [u64]) -> usize {
+fn put_sigma(s: Result<f32, Refusal>, got: &mut [u64]) -> usize {
     match s {
-        Sigma::Value(v) => {
+        Ok(v) => {
             let to_value = vectors::put(got, 0, 0);
             vectors::put(got, to_value, vectors::word_of_f32(v))
         }
-        Sigma::Refused(n) => vectors::put(got, 0, n as u64),
+        Err(r) => vectors::put(got, 0, u64::from(u32::from(r))),
     }
 }
 

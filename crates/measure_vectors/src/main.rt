@@ -7,20 +7,21 @@
 // is above 16,384, and `measure::measure_counted` is called with it.
 #![tactic(auto)]
 
+use answers::Refusal;
 use illum::IlluminationModel;
-use measure::Measured;
+use measure::Measurement;
 use std::io;
 use vectors::{Compared, Tally};
 
 // 0, the noise record and the count of marked references, or the refusal's number.
-fn put_measured(got: &mut [u64], m: Measured) -> usize {
+fn put_measured(got: &mut [u64], m: Result<Measurement, Refusal>) -> usize {
     match m {
-        Measured::Record(r) => {
+        Ok(r) => {
             let to_record = vectors::put(got, 0, 0);
             let to_held = stage_words::put_noise(got, to_record, r.noise);
             vectors::put(got, to_held, r.held as u64)
         }
-        Measured::Refused(number) => vectors::put(got, 0, number as u64),
+        Err(r) => vectors::put(got, 0, u64::from(u32::from(r))),
     }
 }
 
@@ -33,7 +34,7 @@ fn measure_of(
     palette: &[f32],
     hues: usize,
     scratch: &mut [f32],
-) -> Measured {
+) -> Result<Measurement, Refusal> {
     if 16384 < n {
         return measure::measure_counted(flat, n, side, model, palette, hues, scratch);
     }

@@ -2,7 +2,7 @@
 // every bit.
 #![tactic(auto)]
 
-use answers::{Number, outcome_number};
+use answers::{Refusal, outcome_number};
 use layout::Layout;
 use modulate::Cell;
 use std::io;
@@ -25,13 +25,13 @@ fn byte(row: &[u64], at: usize) -> u8 {
 // ---- answers: words put into a row, and how many these are
 
 // 0 and the number, or the refusal's number alone.
-fn put_number(got: &mut [u64], n: Number) -> usize {
+fn put_number(got: &mut [u64], n: Result<usize, Refusal>) -> usize {
     match n {
-        Number::Is(v) => {
+        Ok(v) => {
             let second = vectors::put(got, 0, 0);
             vectors::put(got, second, v as u64)
         }
-        Number::Refused(r) => vectors::put(got, 0, r as u64),
+        Err(r) => vectors::put(got, 0, u64::from(u32::from(r))),
     }
 }
 

@@ -5,7 +5,7 @@
 ghost use Rattle.std.specs.Prelude.{◌≤◌};
 ghost use Rattle.vectors.specs.Slices.{Fills};
 
-use answers::Number;
+use answers::Refusal;
 use near::Query;
 use std::io;
 use vectors::{Compared, Tally};
@@ -58,13 +58,13 @@ fn store_places(places: &[u32], got: &mut [u64], at: usize) -> usize {
 // ---- answers: words put into a row
 
 // 0 and the count, or the refusal's number.
-fn put_number(got: &mut [u64], n: Number) -> usize {
+fn put_number(got: &mut [u64], n: Result<usize, Refusal>) -> usize {
     match n {
-        Number::Is(count) => {
+        Ok(count) => {
             let to_count = vectors::put(got, 0, 0);
             vectors::put(got, to_count, count as u64)
         }
-        Number::Refused(number) => vectors::put(got, 0, number as u64),
+        Err(r) => vectors::put(got, 0, u64::from(u32::from(r))),
     }
 }
 

@@ -7,11 +7,12 @@
 ghost use Rattle.std.specs.Prelude.{◌≡◌, ◌≤◌, take};
 ghost use Rattle.fit.specs.Fit as fitting;
 ghost use Rattle.measure.specs.Measure as measuring;
-ghost use Rattle.measure.specs.Measure.{measured_said};
+ghost use Rattle.answers.specs.Answers.{said};
 ghost use Rattle.records.specs.Records.{flattened};
 
-use illum::{IlluminationModel, Modelled};
-use measure::Measured;
+use answers::Refusal;
+use illum::IlluminationModel;
+use measure::Measurement;
 use records::Reference;
 use std::io;
 use vectors::{Compared, Tally};
@@ -26,7 +27,7 @@ fn fit_first(
     version: u8,
     kept: &mut [u8],
     scratch: &mut [f32],
-) -> Modelled
+) -> Result<IlluminationModel, Refusal>
     requires { n ≤ 64 }
     ensures { fitting.final result kept.new scratch.new ≡ fitting.fit_of (fitting.flat_request (flattened (take n rs)) side version kept.old scratch.old) }
 {
@@ -42,9 +43,9 @@ fn measure_first(
     palette: &[f32],
     hues: usize,
     scratch: &mut [f32],
-) -> Measured
+) -> Result<Measurement, Refusal>
     requires { n ≤ 64 }
-    ensures { measuring.final (measured_said result) scratch.new ≡ measuring.measure_of (measuring.flat_request (flattened (take n rs)) side model palette.now hues scratch.old) }
+    ensures { measuring.final (said result) scratch.new ≡ measuring.measure_of (measuring.flat_request (flattened (take n rs)) side model palette.now hues scratch.old) }
 {
     records::measure(&rs[..n], side, model, palette, hues, scratch)
 }
@@ -86,24 +87,25 @@ fn references(row: &[u64]) -> [Reference; 64] {
 // ---- answers: words put into a row
 
 // 0 and the model, or the refusal's number.
-fn put_modelled(got: &mut [u64], m: Modelled) -> usize {
-    let next = vectors::put(got, 0, m.number as u64);
-    if m.number != 0 {
-        return next;
+fn put_modelled(got: &mut [u64], fitted: Result<IlluminationModel, Refusal>) -> usize {
+    match fitted {
+        Ok(model) => {
+            let next = vectors::put(got, 0, 0);
+            stage_words::put_model(got, next, model)
+        }
+        Err(r) => vectors::put(got, 0, u64::from(u32::from(r))),
     }
-    let model = m.model;
-    stage_words::put_model(got, next, model)
 }
 
 // 0, the noise record and the count of marked references, or the refusal's number.
-fn put_measured(got: &mut [u64], m: Measured) -> usize {
+fn put_measured(got: &mut [u64], m: Result<Measurement, Refusal>) -> usize {
     match m {
-        Measured::Record(r) => {
+        Ok(r) => {
             let to_record = vectors::put(got, 0, 0);
             let to_held = stage_words::put_noise(got, to_record, r.noise);
             vectors::put(got, to_held, r.held as u64)
         }
-        Measured::Refused(number) => vectors::put(got, 0, number as u64),
+        Err(r) => vectors::put(got, 0, u64::from(u32::from(r))),
     }
 }
 

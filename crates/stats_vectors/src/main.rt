@@ -2,52 +2,52 @@
 // too, every bit.
 #![tactic(auto)]
 
-use answers::outcome_number;
-use margin::{Threshold, Verdict};
-use stats::{ChannelStats, Figure, Noise};
+use answers::{Refusal, outcome_number};
+use margin::Threshold;
+use stats::ChannelStats;
 use std::io;
 use vectors::{Compared, Tally};
 
 // ---- answers: words put into a row
 
 // One of several figures that one record gives: its pattern at the next place; a refusal as the only word.
-fn put_figure(got: &mut [u64], at: usize, f: Figure) -> usize {
+fn put_figure(got: &mut [u64], at: usize, f: Result<f32, Refusal>) -> usize {
     match f {
-        Figure::Value(v) => stage_words::put_single(got, at, v),
-        Figure::Refused(n) => vectors::put(got, 0, n as u64),
+        Ok(v) => stage_words::put_single(got, at, v),
+        Err(r) => vectors::put(got, 0, u64::from(u32::from(r))),
     }
 }
 
 // 0 and the record, or the refusal's number.
-fn put_nominal(got: &mut [u64], n: Noise) -> usize {
+fn put_nominal(got: &mut [u64], n: Result<ChannelStats, Refusal>) -> usize {
     match n {
-        Noise::Record(r) => {
+        Ok(r) => {
             let to_record = vectors::put(got, 0, 0);
             stage_words::put_noise(got, to_record, r)
         }
-        Noise::Refused(number) => vectors::put(got, 0, number as u64),
+        Err(r) => vectors::put(got, 0, u64::from(u32::from(r))),
     }
 }
 
 // 0 and 1 for yes, 0 and 0 for no, or the refusal's number.
-fn put_verdict(got: &mut [u64], v: Verdict) -> usize {
+fn put_verdict(got: &mut [u64], v: Result<bool, Refusal>) -> usize {
     match v {
-        Verdict::Yes => {
+        Ok(true) => {
             let to_yes = vectors::put(got, 0, 0);
             vectors::put(got, to_yes, 1)
         }
-        Verdict::No => {
+        Ok(false) => {
             let to_yes = vectors::put(got, 0, 0);
             vectors::put(got, to_yes, 0)
         }
-        Verdict::Refused(n) => vectors::put(got, 0, n as u64),
+        Err(r) => vectors::put(got, 0, u64::from(u32::from(r))),
     }
 }
 
 // ---- each function: from the inputs in a row to the answers in another, and how many these are
 
 // The figure that function 1 or 2 gives of a sample's L.
-fn figure_at(function: usize, noise: ChannelStats, l: f32) -> Figure {
+fn figure_at(function: usize, noise: ChannelStats, l: f32) -> Result<f32, Refusal> {
     if function == 1 {
         return noise.sigma_ab_at(l);
     }

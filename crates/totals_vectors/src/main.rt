@@ -1,8 +1,9 @@
 // Replays the stored answers of the crate `totals`: cards and batches added, and means, refused calls too.
 #![tactic(auto)]
 
+use answers::Refusal;
 use std::io;
-use totals::{Average, Sums, Totals};
+use totals::{Ratio, Totals};
 use vectors::{Compared, Tally};
 
 // ---- words of a row, and answers put into one
@@ -19,9 +20,9 @@ fn totals_at(row: &[u64], at: usize) -> Totals {
 }
 
 // 0 and the totals, or the refusal's number.
-fn put_sums(got: &mut [u64], s: Sums) -> usize {
+fn put_sums(got: &mut [u64], s: Result<Totals, Refusal>) -> usize {
     match s {
-        Sums::Are(t) => {
+        Ok(t) => {
             let to_cards = vectors::put(got, 0, 0);
             let to_modules = vectors::put(got, to_cards, t.cards);
             let to_undecided = vectors::put(got, to_modules, t.modules);
@@ -29,19 +30,19 @@ fn put_sums(got: &mut [u64], s: Sums) -> usize {
             let to_sum = vectors::put(got, to_under, t.under);
             vectors::put(got, to_sum, t.sum)
         }
-        Sums::Refused(n) => vectors::put(got, 0, n as u64),
+        Err(r) => vectors::put(got, 0, u64::from(u32::from(r))),
     }
 }
 
 // 0, the numerator and the denominator, or the refusal's number.
-fn put_average(got: &mut [u64], a: Average) -> usize {
+fn put_average(got: &mut [u64], a: Result<Ratio, Refusal>) -> usize {
     match a {
-        Average::Is(q) => {
+        Ok(q) => {
             let to_numerator = vectors::put(got, 0, 0);
             let to_denominator = vectors::put(got, to_numerator, q.numerator);
             vectors::put(got, to_denominator, q.denominator)
         }
-        Average::Refused(n) => vectors::put(got, 0, n as u64),
+        Err(r) => vectors::put(got, 0, u64::from(u32::from(r))),
     }
 }
 

@@ -3,8 +3,8 @@
 // modules and cells have a mark.
 #![tactic(auto)]
 
-use answers::outcome_number;
-use demod::{ScoreReport, Scored};
+use answers::Refusal;
+use demod::ScoreReport;
 use illum::IlluminationModel;
 use layout::Layout;
 use stage_words::count;
@@ -48,11 +48,11 @@ fn refined(
     palette: &[f32],
     luma: &mut [f32],
     colours: &[f32],
-) -> Scored {
+) -> Result<ScoreReport, Refusal> {
     let layout = card.layout;
     let noise = card.noise;
     let mut scratch = [0.0f32; 2048];
-    let n = outcome_number(refine::add_local_luma(
+    refine::add_local_luma(
         luma,
         layout.side,
         layout.hues,
@@ -63,11 +63,8 @@ fn refined(
         palette,
         noise,
         &mut scratch,
-    ));
-    if n != 0 {
-        return Scored::Refused(n);
-    }
-    Scored::Done(report)
+    )?;
+    Ok(report)
 }
 
 // Scores and refines a card, and answers scoring's report, or the number of the first call refused.
@@ -83,25 +80,22 @@ fn demodulate(
     luma: &mut [f32],
     colours: &mut [f32],
     chroma: &mut [f32],
-) -> Scored {
+) -> Result<ScoreReport, Refusal> {
     let layout = card.layout;
     let model = card.model;
     let noise = card.noise;
-    match demod::score(
+    let report = demod::score(
         layout, xs, ys, raw, cxs, cys, craw, palette, model, noise, luma, colours, chroma,
-    ) {
-        Scored::Refused(n) => Scored::Refused(n),
-        Scored::Done(report) => refined(card, report, xs, ys, palette, luma, colours),
-    }
+    )?;
+    refined(card, report, xs, ys, palette, luma, colours)
 }
 
 // Reads scores, and puts their bits or the refusal's number.
 fn put_read(got: &mut [u64], at: usize, scores: &[f32], bits: &mut [u8]) -> usize {
-    let n = outcome_number(reading::read_list(scores, bits));
-    if n != 0 {
-        return vectors::put(got, at, n as u64);
+    match reading::read_list(scores, bits) {
+        Ok(()) => vectors::store_u8(bits, got, at),
+        Err(r) => vectors::put(got, at, u64::from(u32::from(r))),
     }
-    vectors::store_u8(bits, got, at)
 }
 
 // The same with as much of `bits` as there are scores.
@@ -124,16 +118,8 @@ fn put_card_bits(
     chroma: &[f32],
 ) -> usize {
     let layout = card.layout;
-    let n = outcome_number(modulate::unmask_luma(
-        luma,
-        layout.side,
-        xs,
-        ys,
-        layout.grid,
-        card.mask,
-    ));
-    if n != 0 {
-        return vectors::put(got, at, n as u64);
+    if let Err(r) = modulate::unmask_luma(luma, layout.side, xs, ys, layout.grid, card.mask) {
+        return vectors::put(got, at, u64::from(u32::from(r)));
     }
     let mut bits = [0u8; 2048];
     let to_chroma = put_bits(got, at, luma, &mut bits);
@@ -178,8 +164,8 @@ fn whole_in(
     match demodulate(
         card, xs, ys, raw, cxs, cys, craw, palette, luma, colours, chroma,
     ) {
-        Scored::Refused(n) => vectors::put(got, 0, n as u64),
-        Scored::Done(report) => put_card(got, card, report, xs, ys, luma, colours, chroma),
+        Err(r) => vectors::put(got, 0, u64::from(u32::from(r))),
+        Ok(report) => put_card(got, card, report, xs, ys, luma, colours, chroma),
     }
 }
 

@@ -2,7 +2,7 @@
 // a slice and the same words of a scratch as every replay: the expected output is the report of them.
 #![tactic(auto)]
 
-use order::Sigma;
+use answers::Refusal;
 use std::io;
 use vectors::{Compared, Tally};
 
@@ -22,11 +22,8 @@ fn median(row: &[u64], got: &mut [u64]) -> usize {
 }
 
 // A deviation, and 0 where the call was refused.
-fn value_of(s: Sigma) -> f32 {
-    match s {
-        Sigma::Value(v) => v,
-        Sigma::Refused(_) => 0.0,
-    }
+fn value_of(s: Result<f32, Refusal>) -> f32 {
+    s.unwrap_or(0.0)
 }
 
 // Where a call is to be wrong, writes over the last element of a slice.
