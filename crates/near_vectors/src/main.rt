@@ -131,14 +131,14 @@ fn fit_in(row: &[u64], at: usize, flat: &[f32], marks: &mut [u8], got: &mut [u64
     let mut scratch = [0.0f32; 256];
     let side = stage_words::count(row, at, 0);
     let version = vectors::u8_of(vectors::word_at(row, at, 1));
-    let fitted = fit::fit_flat(flat, side, version, marks, &mut scratch);
-    let next = vectors::put(got, 0, fitted.number as u64);
-    if fitted.number != 0 {
-        return vectors::store_u8(marks, got, next);
-    }
-    let model = fitted.model;
-    let to_kept = vectors::put(got, next, model.rejected as u64);
-    let to_marks = vectors::put(got, to_kept, model.kept as u64);
+    let to_marks = match fit::fit_flat(flat, side, version, marks, &mut scratch) {
+        Ok(model) => {
+            let to_rejected = vectors::put(got, 0, 0);
+            let to_kept = vectors::put(got, to_rejected, u64::from(model.rejected));
+            vectors::put(got, to_kept, u64::from(model.kept))
+        }
+        Err(r) => vectors::put(got, 0, u64::from(u32::from(r))),
+    };
     vectors::store_u8(marks, got, to_marks)
 }
 
