@@ -9,3 +9,4 @@ pub mod Accepted
 pub mod Lengths
 pub mod Worked
 mod Ready
+mod Front

@@ -12,6 +12,7 @@ use Rattle.answers.specs.Answers.{outcome_number}
 use Rattle.symbols.specs.Gray.{chroma_symbol_to_hue}
 use Rattle.symbols.specs.Mask.{luma_mask, chroma_mask_apply}
 use Rattle.lists.specs.Lists.{replaced}
+use Rattle.modulate.specs.declared.Source.{Source}
 use Rattle.modulate.specs.Score.{coordinate}
 
 -- ---- one element
@@ -99,6 +100,10 @@ pub record Card : Type 0 where
 abbrev pub card : List ℕ → Layout → List ℤ → List ℤ → List ℕ → List ℕ → ℕ → List ℕ → List ℕ → Card
 card bits layout xs ys cxs cys mask levels drawn =
     record { bits = bits; layout = layout; xs = xs; ys = ys; cxs = cxs; cys = cys; mask = mask; levels = levels; drawn = drawn }
+
+-- the same of what the code draws it from, into these levels and hues
+abbrev pub card_of : Source → List ℕ → List ℕ → Card
+card_of s levels drawn = card s.bits.now s.layout s.xs.now s.ys.now s.cxs.now s.cys.now s.mask levels drawn
 
 -- 5, of m modules and c cells: fewer bits than one a module and those of the chroma list; with chroma on, fewer hues than one a place of the chroma list
 unfoldable pub short_bits : ℕ → Layout → ℕ → ℕ → Bool

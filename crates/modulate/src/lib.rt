@@ -37,22 +37,25 @@ struct Best {
 }
 
 impl Best {
+    #[tactic(auto, unfolding(crate::specs::Score::bettered))]
     fn bettered(self, bit: usize, ll: f32) -> Best
         ensures { result ≡ scores.bettered bit ll self }
     {
         if bit == 0 {
-            return Best {
+            Best {
                 zero: float::max(self.zero, ll),
-                one: self.one,
-            };
-        }
-        Best {
-            zero: self.zero,
-            one: float::max(self.one, ll),
+                ..self
+            }
+        } else {
+            Best {
+                one: float::max(self.one, ll),
+                ..self
+            }
         }
     }
 }
 
+#[tactic(auto, unfolding(crate::specs::Score::unmasked_hue))]
 fn unmasked_hue(cell: Cell, hues: usize, h: usize) -> usize
     requires { HueCount hues }
     ensures { result ≡ scores.unmasked_hue cell hues h }
@@ -64,6 +67,7 @@ fn unmasked_hue(cell: Cell, hues: usize, h: usize) -> usize
 }
 
 // Bit b, from the high end, of the symbol of `bits` bits behind hue h.
+#[tactic(auto, unfolding(crate::specs::Score::bit_of_hue, crate::specs::Score::symbol_bit))]
 fn bit_of_hue(cell: Cell, hues: usize, bits: usize, b: usize, h: usize) -> usize
     requires { HueCount hues × (bits ≡ log2 hues) × (bits ≤ 4) × (b < bits) }
     ensures { result ≡ scores.bit_of_hue cell hues b h }
@@ -77,13 +81,12 @@ fn bit_llr(ll: &[f32], cell: Cell, hues: usize, bits: usize, b: usize) -> f32
     requires { HueCount hues × (bits ≡ log2 hues) × (bits ≤ 4) × (b < bits) × (hues ≤ length ll.now) }
     ensures { result ≡ scores.bit_llr ll.now cell hues b }
 {
-    let lowest = -1.0f32 / 0.0f32;
     let mut best = Best {
-        zero: lowest,
-        one: lowest,
+        zero: f32::NEG_INFINITY,
+        one: f32::NEG_INFINITY,
     };
-    for h in 0..hues {
-        best = best.bettered(bit_of_hue(cell, hues, bits, b, h), ll[h]);
+    for (h, &likelihood) in ll[..hues].iter().enumerate() {
+        best = best.bettered(bit_of_hue(cell, hues, bits, b, h), likelihood);
     }
     best.zero - best.one
 }
@@ -94,11 +97,12 @@ pub fn bit_llrs(ll: &[f32], cell: Cell, hues: usize, out: &mut [f32])
     ensures { out.new ≡ scores.chroma_bit_llrs ll.now cell hues out.old }
 {
     let bits = limits::log2(hues);
-    for b in 0..bits {
-        out[b] = bit_llr(ll, cell, hues, bits, b);
+    for (b, score) in out[..bits].iter_mut().enumerate() {
+        *score = bit_llr(ll, cell, hues, bits, b);
     }
 }
 
+#[tactic(auto, unfolding(crate::specs::Score::bad_cell_of))]
 fn bad_cell_of(cell: Cell) -> bool
     ensures { result ≡ scores.bad_cell_of cell }
 {
@@ -108,13 +112,11 @@ fn bad_cell_of(cell: Cell) -> bool
     }
 }
 
+#[tactic(auto, unfolding(crate::specs::Score::bad_score_lengths))]
 fn bad_score_lengths(hues: usize, ll: &[f32], out: &[f32]) -> bool
     ensures { result ≡ scores.bad_score_lengths hues (length ll.now) (length out.now) }
 {
-    if ll.len() < hues {
-        return true;
-    }
-    out.len() < limits::log2(hues)
+    ll.len() < hues || out.len() < limits::log2(hues)
 }
 
 // Whether likelihoods, their cell and the room for their scores pass. Refused: 3, 5, 7.
@@ -157,32 +159,24 @@ fn masked_at(mask: u8, side: usize, xs: &[i32], ys: &[i32], grid: usize, i: usiz
     symbols::luma_mask(mask, x, y)
 }
 
-fn unmask_at(mask: u8, side: usize, xs: &[i32], ys: &[i32], grid: usize, i: usize, luma: &mut [f32])
-    requires { PositionAt side grid xs.now ys.now i × (i < grid) × (i < length luma.old) }
-    ensures { luma.new ≡ replace_at nan (scores.unmask_at mask xs.now ys.now) i luma.old }
-{
-    if masked_at(mask, side, xs, ys, grid, i) {
-        luma[i] = -luma[i];
-    }
-}
-
+// Turns the sign of the score of every grid module that the mask turns.
 fn unmask_grid(mask: u8, side: usize, xs: &[i32], ys: &[i32], grid: usize, luma: &mut [f32])
     requires { Positions side grid xs.now ys.now × (grid ≤ length xs.now) × (length xs.now ≤ length luma.old) }
     ensures { luma.new ≡ scores.unmasked mask xs.now ys.now grid luma.old }
 {
-    for i in 0..grid {
-        unmask_at(mask, side, xs, ys, grid, i, luma);
+    for (i, score) in luma[..grid].iter_mut().enumerate() {
+        if masked_at(mask, side, xs, ys, grid, i) {
+            *score = -*score;
+        }
     }
 }
 
 // Sentence 5.
+#[tactic(auto, unfolding(crate::specs::Score::bad_luma_lengths))]
 fn bad_luma_lengths(xs: &[i32], ys: &[i32], luma: &[f32]) -> bool
     ensures { result ≡ scores.bad_luma_lengths (length xs.now) (length ys.now) (length luma.now) }
 {
-    if xs.len() != ys.len() {
-        return true;
-    }
-    luma.len() < xs.len()
+    xs.len() != ys.len() || luma.len() < xs.len()
 }
 
 // Whether luma scores and their modules pass. Refused: 2, 5, and 6, 7 by the modules' group.
@@ -225,6 +219,7 @@ pub fn unmask_luma(
 // ---- drawing: one element
 
 // Whether a byte stands for the bit 1.
+#[tactic(auto, unfolding(crate::specs::Draw::is_set))]
 fn is_one(bit: u8) -> bool
     ensures { result ≡ drawing.is_set bit }
 {
@@ -233,51 +228,31 @@ fn is_one(bit: u8) -> bool
 
 // The level of a grid module, 1 for light: its bit, other than 0 for 1, turned where the mask turns it. Refuses
 // nothing.
+#[tactic(auto, unfolding(crate::specs::Draw::grid_level, crate::specs::Draw::bit_of))]
 pub fn grid_level(bit: u8, mask: u8, x: u16, y: u16) -> u8
     ensures { result ≡ drawing.grid_level bit mask x y }
 {
-    let turned = symbols::luma_mask(mask, x, y);
-    if is_one(bit) {
-        if turned {
-            return 0;
-        }
-        return 1;
-    }
-    if turned {
-        return 1;
-    }
-    0
+    u8::from(is_one(bit) != symbols::luma_mask(mask, x, y))
 }
 
 // The level of a ring module, 1 for light: its bit, other than 0 for 1. Refuses nothing.
+#[tactic(auto, unfolding(crate::specs::Draw::ring_level, crate::specs::Draw::bit_of))]
 pub fn ring_level(bit: u8) -> u8
     ensures { result ≡ drawing.ring_level bit }
 {
-    if is_one(bit) {
-        return 1;
-    }
-    0
+    u8::from(is_one(bit))
 }
 
-fn push_bit(bits: &[u8], from: usize, b: usize, s: usize) -> usize
-    requires { (from + b < length bits.now) × (s < 16) }
-    ensures { (result ≡ drawing.push_bit bits.now from b s) × (result < s * 2 + 2) }
-{
-    if is_one(bits[from + b]) {
-        return s * 2 + 1;
-    }
-    s * 2
-}
-
+// The symbol of `count` bits from place `from` on, high bit first.
 fn symbol_at(bits: &[u8], from: usize, count: usize) -> usize
     requires { (from + count ≤ length bits.now) × (count ≤ 4) }
     ensures { result ≡ drawing.symbol_at bits.now from count }
 {
-    let mut s: usize = 0;
-    for b in 0..count {
-        s = push_bit(bits, from, b, s);
+    let mut symbol = 0;
+    for &bit in &bits[from..from + count] {
+        symbol = symbol * 2 + usize::from(is_one(bit));
     }
-    s
+    symbol
 }
 
 // Whether a hue count and the bits of one symbol pass. Refused: 3, 5.
@@ -311,6 +286,7 @@ pub fn cell_hue(symbol: usize, cx: u16, cy: u16, hues: usize) -> Result<usize, R
 }
 
 // The hue that a ring module is drawn in for its symbol: no mask lies on it. Refused: 3.
+#[tactic(auto, unfolding(crate::specs::Draw::ring_hue))]
 pub fn ring_hue(symbol: usize, hues: usize) -> Result<usize, Refusal>
     ensures { said result ≡ answered (hues_only hues) (drawing.ring_hue symbol hues) }
 {
@@ -319,152 +295,135 @@ pub fn ring_hue(symbol: usize, hues: usize) -> Result<usize, Refusal>
 
 // ---- drawing: the whole list
 
-fn level_at(bits: &[u8], side: usize, xs: &[i32], ys: &[i32], grid: usize, mask: u8, i: usize) -> u8
-    requires { PositionAt side grid xs.now ys.now i × (i < length bits.now) }
-    ensures { result ≡ drawing.level_at bits.now xs.now ys.now grid mask i }
-{
-    let bit = bits[i];
-    if i < grid {
-        let x = places::coordinate_at(side, xs, i);
-        let y = places::coordinate_at(side, ys, i);
-        return grid_level(bit, mask, x, y);
-    }
-    ring_level(bit)
-}
-
-fn draw_levels(
-    bits: &[u8],
-    side: usize,
-    xs: &[i32],
-    ys: &[i32],
-    grid: usize,
+// What a card is drawn from: its bits, and where its modules and cells stand.
+#[derive(Clone, Copy)]
+struct Source<'a> {
+    bits: &'a [u8],
+    layout: Layout,
+    xs: &'a [i32],
+    ys: &'a [i32],
+    cxs: &'a [u16],
+    cys: &'a [u16],
     mask: u8,
-    levels: &mut [u8],
-)
-    requires { Positions side grid xs.now ys.now × (length xs.now ≤ length bits.now) × (length xs.now ≤ length levels.old) }
-    ensures { levels.new ≡ drawing.drawn_levels bits.now xs.now ys.now grid mask levels.old }
-{
-    for i in 0..xs.len() {
-        levels[i] = level_at(bits, side, xs, ys, grid, mask, i);
-    }
 }
 
-fn hue_at(bits: &[u8], hues: usize, modules: usize, cxs: &[u16], cys: &[u16], j: usize) -> usize
-    requires { HueCount hues × (symbol_bits hues ≤ 4) × (modules + symbol_bits hues * j + symbol_bits hues ≤ length bits.now) × (length cxs.now ≡ length cys.now) }
-    ensures { result ≡ drawing.hue_at bits.now hues modules cxs.now cys.now j }
-{
-    let q = limits::symbol_bits(hues);
-    let hue = symbols::symbol_hue(symbol_at(bits, modules + q * j, q), hues);
-    if j < cxs.len() {
-        return symbols::apply(hue, cxs[j], cys[j], hues);
+impl Source<'_> {
+    // The level of listed module i, one of the first `grid` or a ring module.
+    fn level_at(&self, i: usize) -> u8
+        requires { PositionAt self.now.layout.side self.now.layout.grid self.now.xs.now self.now.ys.now i × (i < length self.now.bits.now) }
+        ensures { result ≡ drawing.level_at self.now.bits.now self.now.xs.now self.now.ys.now self.now.layout.grid self.now.mask i }
+    {
+        if i < self.layout.grid {
+            let x = places::coordinate_at(self.layout.side, self.xs, i);
+            let y = places::coordinate_at(self.layout.side, self.ys, i);
+            grid_level(self.bits[i], self.mask, x, y)
+        } else {
+            ring_level(self.bits[i])
+        }
     }
-    hue
-}
 
-fn draw_entries(
-    bits: &[u8],
-    hues: usize,
-    modules: usize,
-    cxs: &[u16],
-    cys: &[u16],
-    count: usize,
-    drawn: &mut [usize],
-)
-    requires { HueCount hues × (symbol_bits hues ≤ 4) × (modules + symbol_bits hues * count ≤ length bits.now) × (length cxs.now ≡ length cys.now) × (count ≤ length drawn.old) }
-    ensures { drawn.new ≡ replaced 0 count (drawing.hue_at_of bits.now hues modules cxs.now cys.now) drawn.old }
-{
-    for j in 0..count {
-        drawn[j] = hue_at(bits, hues, modules, cxs, cys, j);
+    // Writes the level of every listed module.
+    fn draw_levels(&self, levels: &mut [u8])
+        requires { Positions self.now.layout.side self.now.layout.grid self.now.xs.now self.now.ys.now × (length self.now.xs.now ≤ length self.now.bits.now) × (length self.now.xs.now ≤ length levels.old) }
+        ensures { levels.new ≡ drawing.drawn_levels self.now.bits.now self.now.xs.now self.now.ys.now self.now.layout.grid self.now.mask levels.old }
+    {
+        for (i, level) in levels[..self.xs.len()].iter_mut().enumerate() {
+            *level = self.level_at(i);
+        }
     }
-}
 
-fn draw_hues(
-    bits: &[u8],
-    layout: Layout,
-    modules: usize,
-    cxs: &[u16],
-    cys: &[u16],
-    drawn: &mut [usize],
-)
-    requires { Shaped layout × (modules ≤ 1048576) × (length cxs.now ≤ 1048576) × (length cxs.now ≡ length cys.now) × (drawing.short_bits (length bits.now) layout modules (length cxs.now) ≡ false) × (drawing.short_hues (length drawn.old) layout modules (length cxs.now) ≡ false) }
-    ensures { drawn.new ≡ drawing.drawn_hues bits.now layout modules cxs.now cys.now drawn.old }
-{
-    if limits::chroma_on(layout.hues) {
+    // The hue at place j of the chroma list: that of a cell, or past the cells of a ring module.
+    #[tactic(auto, unfolding(crate::specs::Draw::hue_at, crate::specs::Draw::cell_hue, crate::specs::Draw::ring_hue))]
+    fn hue_at(&self, j: usize) -> usize
+        requires { HueCount self.now.layout.hues × (symbol_bits self.now.layout.hues ≤ 4) × (length self.now.xs.now + symbol_bits self.now.layout.hues * j + symbol_bits self.now.layout.hues ≤ length self.now.bits.now) × (length self.now.cxs.now ≡ length self.now.cys.now) }
+        ensures { result ≡ drawing.hue_at self.now.bits.now self.now.layout.hues (length self.now.xs.now) self.now.cxs.now self.now.cys.now j }
+    {
+        let hues = self.layout.hues;
+        let q = limits::symbol_bits(hues);
+        let symbol = symbol_at(self.bits, self.xs.len() + q * j, q);
+        let hue = symbols::symbol_hue(symbol, hues);
+        if j < self.cxs.len() {
+            symbols::apply(hue, self.cxs[j], self.cys[j], hues)
+        } else {
+            hue
+        }
+    }
+
+    // How many places the chroma list has.
+    fn entries(&self) -> usize
+        requires { (length self.now.xs.now ≤ 1048576) × (length self.now.cxs.now ≤ 1048576) }
+        ensures { result ≡ drawing.entries_of self.now.layout (length self.now.xs.now) (length self.now.cxs.now) }
+    {
+        let ring = limits::ring_modules(self.xs.len(), self.layout.grid);
+        limits::chroma_entries(self.cxs.len(), ring, self.layout.size)
+    }
+
+    // Writes the hue at every place of the chroma list; with chroma off nothing.
+    fn draw_hues(&self, drawn: &mut [usize])
+        requires { Shaped self.now.layout × (length self.now.xs.now ≤ 1048576) × (length self.now.cxs.now ≤ 1048576) × (length self.now.cxs.now ≡ length self.now.cys.now) × (drawing.short_bits (length self.now.bits.now) self.now.layout (length self.now.xs.now) (length self.now.cxs.now) ≡ false) × (drawing.short_hues (length drawn.old) self.now.layout (length self.now.xs.now) (length self.now.cxs.now) ≡ false) }
+        ensures { drawn.new ≡ drawing.drawn_hues self.now.bits.now self.now.layout (length self.now.xs.now) self.now.cxs.now self.now.cys.now drawn.old }
+    {
+        if !limits::chroma_on(self.layout.hues) {
+            return;
+        }
+        let count = self.entries();
+        for (j, hue) in drawn[..count].iter_mut().enumerate() {
+            *hue = self.hue_at(j);
+        }
+    }
+
+    // Sentence 5, of the bits.
+    #[tactic(auto, unfolding(crate::specs::Draw::short_bits))]
+    fn short_bits(&self) -> bool
+        ensures { result ≡ drawing.short_bits (length self.now.bits.now) self.now.layout (length self.now.xs.now) (length self.now.cxs.now) }
+    {
+        let layout = self.layout;
+        let modules = self.xs.len();
         let ring = limits::ring_modules(modules, layout.grid);
-        let count = limits::chroma_entries(cxs.len(), ring, layout.size);
-        draw_entries(bits, layout.hues, modules, cxs, cys, count, drawn);
+        self.bits.len() < modules
+            || limits::below_chroma(
+                self.bits.len() - modules,
+                layout.hues,
+                self.cxs.len(),
+                ring,
+                layout.size,
+            )
     }
-}
 
-// Sentence 5, of the bits.
-fn short_bits(bits: usize, layout: Layout, modules: usize, cells: usize) -> bool
-    ensures { result ≡ drawing.short_bits bits layout modules cells }
-{
-    if bits < modules {
-        return true;
+    // Sentence 5, of the hues.
+    #[tactic(auto, unfolding(crate::specs::Draw::short_hues))]
+    fn short_hues(&self, drawn: &[usize]) -> bool
+        ensures { result ≡ drawing.short_hues (length drawn.now) self.now.layout (length self.now.xs.now) (length self.now.cxs.now) }
+    {
+        let layout = self.layout;
+        let ring = limits::ring_modules(self.xs.len(), layout.grid);
+        limits::chroma_on(layout.hues)
+            && limits::below_entries(drawn.len(), self.cxs.len(), ring, layout.size)
     }
-    let ring = limits::ring_modules(modules, layout.grid);
-    limits::below_chroma(bits - modules, layout.hues, cells, ring, layout.size)
-}
 
-// Sentence 5, of the hues.
-fn short_hues(drawn: usize, layout: Layout, modules: usize, cells: usize) -> bool
-    ensures { result ≡ drawing.short_hues drawn layout modules cells }
-{
-    if limits::chroma_on(layout.hues) {
-        let ring = limits::ring_modules(modules, layout.grid);
-        return limits::below_entries(drawn, cells, ring, layout.size);
+    // Sentence 5.
+    #[tactic(auto, unfolding(crate::specs::Draw::bad_draw_lengths))]
+    fn bad_lengths(&self, levels: &[u8], drawn: &[usize]) -> bool
+        ensures { result ≡ drawing.bad_draw_lengths self.now.bits.now self.now.layout self.now.xs.now self.now.ys.now self.now.cxs.now self.now.cys.now levels.now drawn.now }
+    {
+        self.xs.len() != self.ys.len()
+            || self.cxs.len() != self.cys.len()
+            || self.short_bits()
+            || levels.len() < self.xs.len()
+            || self.short_hues(drawn)
     }
-    false
-}
 
-// Sentence 5.
-fn bad_draw_lengths(
-    bits: &[u8],
-    layout: Layout,
-    xs: &[i32],
-    ys: &[i32],
-    cxs: &[u16],
-    cys: &[u16],
-    levels: &[u8],
-    drawn: &[usize],
-) -> bool
-    ensures { result ≡ drawing.bad_draw_lengths bits.now layout xs.now ys.now cxs.now cys.now levels.now drawn.now }
-{
-    if xs.len() != ys.len() {
-        return true;
+    // Whether the card can be drawn into these levels and hues. Refused: 2, 3, 4 by the layout's group, 5, and 6, 7 by
+    // that of what is placed on it.
+    fn check(&self, levels: &[u8], drawn: &[usize]) -> Result<(), Refusal>
+        ensures { outcome_number result ≡ refusal (drawing.draw_sentences (drawing.card_of self.now levels.now drawn.now)) }
+    {
+        layout::check_shape(self.layout)?;
+        if self.bad_lengths(levels, drawn) {
+            return Err(Refusal::Length);
+        }
+        layout::check_placement(self.layout, self.xs, self.ys, self.cxs, self.cys)
     }
-    if cxs.len() != cys.len() {
-        return true;
-    }
-    if short_bits(bits.len(), layout, xs.len(), cxs.len()) {
-        return true;
-    }
-    if levels.len() < xs.len() {
-        return true;
-    }
-    short_hues(drawn.len(), layout, xs.len(), cxs.len())
-}
-
-// Whether a card passes that is drawn. Refused: 2, 3, 4 by the layout's group, 5, and 6, 7 by that of what is placed on it.
-fn check_draw(
-    bits: &[u8],
-    layout: Layout,
-    xs: &[i32],
-    ys: &[i32],
-    cxs: &[u16],
-    cys: &[u16],
-    mask: u8,
-    levels: &[u8],
-    drawn: &[usize],
-) -> Result<(), Refusal>
-    ensures { outcome_number result ≡ refusal (drawing.draw_sentences (drawing.card bits.now layout xs.now ys.now cxs.now cys.now mask levels.now drawn.now)) }
-{
-    layout::check_shape(layout)?;
-    if bad_draw_lengths(bits, layout, xs, ys, cxs, cys, levels, drawn) {
-        return Err(Refusal::Length);
-    }
-    layout::check_placement(layout, xs, ys, cxs, cys)
 }
 
 // Draws a card: the level of each listed module, 1 for light, and, with chroma on, the hue of each cell and, at cell size
@@ -483,8 +442,17 @@ pub fn draw(
 ) -> Result<(), Refusal>
     ensures { drawing.drawn result levels.new drawn.new ≡ drawing.draw_of (drawing.card bits.now layout xs.now ys.now cxs.now cys.now mask levels.old drawn.old) }
 {
-    check_draw(bits, layout, xs, ys, cxs, cys, mask, levels, drawn)?;
-    draw_levels(bits, layout.side, xs, ys, layout.grid, mask, levels);
-    draw_hues(bits, layout, xs.len(), cxs, cys, drawn);
+    let card = Source {
+        bits,
+        layout,
+        xs,
+        ys,
+        cxs,
+        cys,
+        mask,
+    };
+    card.check(levels, drawn)?;
+    card.draw_levels(levels);
+    card.draw_hues(drawn);
     Ok(())
 }

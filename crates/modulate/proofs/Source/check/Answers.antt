@@ -1,4 +1,4 @@
--- `modulate::check_draw` meets its contract: each sentence that fails is passed, and what the last group asks was shown by the tests before it. Assumes nothing.
+-- `modulate::Source::check` meets its contract: each sentence that fails is passed, and what the last group asks was shown by the tests before it. Assumes nothing.
 use mathlib.Core.Path.{◌≡◌, refl, sym, ◌∙◌}
 use mathlib.Core.Bool.{Bool, false}
 use mathlib.Core.List.{List}
@@ -11,7 +11,7 @@ use Rattle.answers.proofs.Answers.{ahead_on}
 use Rattle.layout.proofs.Laws.{shape-sound, shaped, layouts}
 use Rattle.modulate.specs.Draw.{bad_draw_lengths, draw_sentences}
 use Rattle.modulate.proofs.Lengths.{draw_lengths}
-use Rattle.modulate.proofs.check_draw.Goals as goal
+use Rattle.modulate.proofs.Source.check.Goals as goal
 
 paired : (bits : List ℕ) (l : Layout) (xs ys : List ℤ) (cxs cys levels hues : List ℕ) (r : Bool) → r ≡ bad_draw_lengths bits l xs ys cxs cys levels hues → r ≡ false → Paired xs ys cxs cys
 paired bits l xs ys cxs cys levels hues r e f = (draw_lengths bits l xs ys cxs cys levels hues (sym e ∙ f)).pairs
@@ -23,9 +23,9 @@ pub returns-in_err-check_shape : goal.returns-in_err-check_shape
 unfolding draw_sentences
 returns-in_err-check_shape c = search (ahead_on, shape-sound, c.in_err-check_shape.ensures)
 
-pub returns-then-bad_draw_lengths : goal.returns-then-bad_draw_lengths
+pub returns-then-bad_lengths : goal.returns-then-bad_lengths
 unfolding draw_sentences
-returns-then-bad_draw_lengths c = search (sentences, layouts, c.in_ok-check_shape.ensures) depth 5
+returns-then-bad_lengths c = search (sentences, layouts, c.in_ok-check_shape.ensures) depth 5
 
 pub returns : goal.returns
 unfolding draw_sentences
