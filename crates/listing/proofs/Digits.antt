@@ -1,14 +1,12 @@
 -- Digits, the last one taken off: a number of two digits or more has the digits of its tenth, then its last one. Assumes nothing.
-use mathlib.Core.Path.{◌≡◌, refl, sym, ap, ◌∙◌}
+use mathlib.Core.Path.{◌≡◌, refl, sym, ap}
 use mathlib.Core.Bool.{Bool, true, false, cond}
 use mathlib.Core.List.{List, [], ◌∷◌, ◌++◌}
 use Prim.Native.Nat.{ℕ, zero, suc, ◌+◌, ◌-◌, ◌/◌, ◌%◌, ◌≤◌, ◌<◌}
 use native.Mathlib.Omega.{arith}
 use borrow.Author.Tests.{lt-ltb, le-ltb, ltb-false}
 use lib.Dec.{ltb}
-use Rattle.listing.specs.Text.{Text, written}
-use Rattle.listing.specs.Listing.{digits, decimal, hex_digit, hex}
-use Rattle.listing.proofs.Write.{after}
+use Rattle.listing.specs.Listing.{digits, decimal, hex_digit}
 
 if_not : {A : Type 0} (b c : Bool) (x y z : A) → b ≡ c → (c ≡ false → y ≡ z) → cond b x y ≡ cond b x z
 if_not true c x y z e h = refl
@@ -32,26 +30,7 @@ unfolding decimal digits
 more-digits_are n h =
     rw (le-ltb n 10 h) (ap (λ (l : List ℕ). l ++ ((48 + n % 10) ∷ [])) (enough n (suc (n / 10)) (n / 10) (omega arith) (omega arith)))
 
-pub one_digit : (n : ℕ) (t v : Text) → n < 10 → v ≡ written ((48 + n) ∷ []) t → v ≡ written (decimal n) t
-one_digit n t v h e = rw (one_digit_is n h) e
-
-pub more-digits : (n : ℕ) (t u v : Text) → 10 ≤ n → u ≡ written (decimal (n / 10)) t → v ≡ written ((48 + n % 10) ∷ []) u → v ≡ written (decimal n) t
-more-digits n t u v h e f = rw (more-digits_are n h) (after (decimal (n / 10)) ((48 + n % 10) ∷ []) t u v e f)
-
 -- ---- hexadecimal
-
-pub no_hex : (k n : ℕ) (t : Text) → k ≡ 0 → t ≡ written (hex k n) t
-unfolding hex written
-no_hex k n t e = rw e
-
-pub more-hex : (k n d : ℕ) (t u v : Text) → (k ≡ 0 → ⊥) → u ≡ written (hex (k - 1) (n / 16)) t → d ≡ hex_digit (n % 16) → v ≡ written (d ∷ []) u → v ≡ written (hex k n) t
-unfolding hex
-more-hex zero n d t u v h e g f = absurd (h refl)
-more-hex (suc k) n d t u v h e g f =
-    let q : suc k - 1 ≡ k = omega arith in
-    after (hex k (n / 16)) (hex_digit (n % 16) ∷ []) t u v
-    (e ∙ ap (λ (j : ℕ). written (hex j (n / 16)) t) q)
-    (f ∙ ap (λ (x : ℕ). written (x ∷ []) u) g)
 
 pub digit_low : (d : ℕ) → d < 10 → 48 + d ≡ hex_digit d
 unfolding hex_digit

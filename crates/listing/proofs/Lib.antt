@@ -1,6 +1,5 @@
 pub mod Write
 pub mod Digits
-pub mod Sign
 pub mod Room
 pub mod Meaning
 pub mod Within

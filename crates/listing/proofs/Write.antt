@@ -1,13 +1,15 @@
 -- What is written piece by piece is written as a whole: a list of bytes is written one byte after the other, so two lists one after the other are their sum. Assumes nothing.
 use mathlib.Core.Path.{◌≡◌, refl, sym, ap, ◌∙◌}
-use mathlib.Core.List.{List, [], ◌∷◌, ◌++◌}
-use Prim.Native.Nat.{ℕ, zero, suc, ◌+◌, ◌-◌, ◌≤◌, ◌<◌}
-use native.Mathlib.Nat.{sub-zero}
+use mathlib.Core.List.{List, [], ◌∷◌, ◌++◌, append_assoc, append-nil}
+use Prim.Native.Nat.{ℕ, zero, suc, ◌+◌, ◌≤◌, ◌<◌}
+use native.Mathlib.Omega.{arith}
+use native.Mathlib.Numerals.{add-one}
+use native.Mathlib.Nat.{add-zero, zero-add}
 use borrow.Author.Tests.{lt-ltb, le-ltb}
 use lib.ListN.{length, set}
-use Rattle.loops.specs.Loops.{turns, for_up}
-use Rattle.loops.proofs.Laws.{Left}
+use Rattle.listing.specs.declared.Cursor.{Cursor}
 use Rattle.listing.specs.Text.{Text, text, byte, written, row, rows, lines_below}
+use Rattle.listing.specs.Writes.{text_of, Writes}
 
 -- one byte, where there is room and where not
 module _ (at : ℕ) (out : List ℕ) (b : ℕ) where
@@ -25,36 +27,41 @@ unfolding written
 both [] b t = refl
 both (x ∷ a) b t = both a b (byte x t)
 
-pub after : (a b : List ℕ) (t u v : Text) → u ≡ written a t → v ≡ written b u → v ≡ written (a ++ b) t
-after a b t u v e f = f ∙ ap (written b) e ∙ sym (both a b t)
+pub nothing : (x : Cursor) → Writes [] x x
+unfolding written
+nothing x = record { same_slice = refl; text_is = refl }
 
--- a byte, and two, before others
-pub byte-then : (a b : ℕ) (t u v : Text) → u ≡ written (a ∷ []) t → v ≡ written (b ∷ []) u → v ≡ written (a ∷ b ∷ []) t
-byte-then a b = after (a ∷ []) (b ∷ [])
-
-pub two_then : (a b c d : ℕ) (t u v : Text) → u ≡ written (a ∷ b ∷ []) t → v ≡ written (c ∷ d ∷ []) u → v ≡ written (a ∷ b ∷ c ∷ d ∷ []) t
-two_then a b c d = after (a ∷ b ∷ []) (c ∷ d ∷ [])
+pub after : (a b : List ℕ) (x y z : Cursor) → Writes a x y → Writes b y z → Writes (a ++ b) x z
+after a b x y z e f =
+    record { same_slice = f.same_slice ∙ e.same_slice; text_is = f.text_is ∙ ap (written b) e.text_is ∙ sym (both a b (text x.at x.out.now)) }
 
 -- the pieces of a line
-pub piece : (p : List ℕ) (ps : List (List ℕ)) (t u v : Text) → u ≡ written p t → v ≡ written (row ps) u → v ≡ written (row (p ∷ ps)) t
+pub piece : (p : List ℕ) (ps : List (List ℕ)) (x y z : Cursor) → Writes p x y → Writes (row ps) y z → Writes (row (p ∷ ps)) x z
 unfolding row
-piece p ps t u v e f = after p (row ps) t u v e f
+piece p ps x y z e f = after p (row ps) x y z e f
 
-pub no_piece : (t : Text) → t ≡ written (row []) t
-unfolding row written
-no_piece t = refl
+pub no_piece : (x : Cursor) → Writes (row []) x x
+unfolding row
+no_piece x = nothing x
 
 pub ruleset pieces = (piece, no_piece)
 
--- the lines of a list: a loop that writes one line a turn writes them all
-abbrev pub line_at : (ℕ → List ℕ) → ℕ → Text → Text
-line_at f i t = written (f i) t
+-- the lines of a list, one more of them at its end
+more_rows : (f : ℕ → List ℕ) (k i : ℕ) → rows f (suc k) i ≡ rows f k i ++ f (i + k)
+unfolding rows
+more_rows f zero i = append-nil (f i) ∙ ap f (sym (add-zero i))
+more_rows f (suc k) i =
+    ap (λ (l : List ℕ). f i ++ l) (more_rows f k (suc i) ∙ ap (λ (n : ℕ). rows f k (suc i) ++ f n) (let e : suc i + k ≡ i + suc k = omega arith in e))
+    ∙ sym (append_assoc (f i) (rows f k (suc i)) (f (i + suc k)))
 
-turns_are : (f : ℕ → List ℕ) (k i : ℕ) (t : Text) → turns k i (line_at f) t ≡ written (rows f k i) t
-unfolding turns rows written
-turns_are f zero i t = refl
-turns_are f (suc k) i t = turns_are f k (suc i) (written (f i) t) ∙ sym (both (f i) (rows f k (suc i)) t)
+pub no_lines : (f : ℕ → List ℕ) (x : Cursor) → Writes (lines_below f 0) x x
+unfolding rows
+no_lines f x = nothing x
 
-pub begin_lines : (f : ℕ → List ℕ) (n : ℕ) (t : Text) → Left (line_at f) n 0 t (written (lines_below f n) t)
-unfolding for_up
-begin_lines f n t = record { same = turns_are f (n - 0) 0 t ∙ ap (λ (k : ℕ). written (rows f k 0) t) (sub-zero n) }
+pub next_line : (f : ℕ → List ℕ) (i : ℕ) (x y z : Cursor) → Writes (lines_below f i) x y → Writes (f i) y z → Writes (lines_below f (i + 1)) x z
+next_line f i x y z e g =
+    rw (add-one i, more_rows f i 0) (after (rows f i 0) (f (0 + i)) x y z e (rw (zero-add i) g))
+
+-- a slice that was lent to a cursor ends as the cursor left it
+pub ended : (bs : List ℕ) (x y : Cursor) (left : List ℕ) → Writes bs x y → (x.out.ghost_name ≡ y.out.ghost_name → left ≡ y.out.now) → text y.at left ≡ written bs (text_of x)
+ended bs x y left w h = ap (text y.at) (h (sym w.same_slice)) ∙ w.text_is

@@ -15,10 +15,6 @@ digits (suc k) n = cond (ltb n 10) ((48 + n) ∷ []) (digits k (n / 10) ++ ((48 
 unfoldable pub decimal : ℕ → List ℕ
 decimal n = digits (suc n) n
 
-unfoldable pub size_of : ℤ → ℕ
-size_of (pos n) = n
-size_of (negsuc n) = suc n
-
 -- signed decimal: 45 is '-'
 unfoldable pub signed : ℤ → List ℕ
 signed (pos n) = decimal n
@@ -79,4 +75,4 @@ listing terms kept rejected modules xs ys luma bits places chroma symbols =
 
 -- `refused N`
 unfoldable pub refused_line : ℕ → List ℕ
-refused_line number = row ((114 ∷ 101 ∷ 102 ∷ 117 ∷ []) ∷ (115 ∷ 101 ∷ 100 ∷ 32 ∷ []) ∷ decimal number ∷ line_feed ∷ [])
+refused_line number = row ((114 ∷ 101 ∷ 102 ∷ 117 ∷ 115 ∷ 101 ∷ 100 ∷ 32 ∷ []) ∷ decimal number ∷ line_feed ∷ [])

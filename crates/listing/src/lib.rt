@@ -2,8 +2,9 @@
 // module, `C i HHHHHHHH b` for each place of the chroma score list, or the one line `refused N`. Every line ends in one
 // line feed.
 //
-// Every function writes at `at` and answers the place after what it wrote. A byte that has no room is left out and the
-// place stays; in a slice of LISTING_ROOM bytes that happens to no card file (proofs/Room.antt).
+// A cursor writes at its place and moves it on. A byte that has no room is left out and the place stays; in a slice of
+// LISTING_ROOM bytes that happens to no card file (proofs/Room.antt). (`fmt::Write` would print the numbers by `write!`,
+// but its contract says nothing of a write that fails, so not that none does.)
 #![tactic(auto)]
 
 ghost use Rattle.std.specs.Prelude.{◌≡◌, [], ◌∷◌, ◌≤◌, ◌<◌, length};
@@ -11,184 +12,143 @@ ghost use Rattle.std.specs.Float.{binary32};
 ghost use Rattle.std.specs.Float.Ieee.{to_bits};
 ghost use Rattle.listing.specs.Text.{text, written};
 ghost use Rattle.listing.specs.Listing as lines;
+ghost use Rattle.listing.specs.Writes.{Writes};
+
+use std::num::f32_to_bits_with_nan;
 
 // Room for the listing of every card file. A file of 16,384 bytes has room for 1,020 modules and cells of 16 bytes, so
 // there are at most 1,020 L lines of 27 bytes and 4 × 1,020 C lines of 18, after a `fit` line of at most 67.
 pub const LISTING_ROOM: usize = 101047;
 
-// ---- bytes
+// The hexadecimal digits, each at its value.
+const HEX_DIGITS: [u8; 16] = *b"0123456789ABCDEF";
 
-// One byte.
-fn put(out: &mut [u8], at: usize, b: u8) -> usize
-    ensures { text result out.new ≡ written (b ∷ []) (text at out.old) }
-{
-    if at < out.len() {
-        out[at] = b;
-        return at + 1;
-    }
-    at
-}
-
-// Two bytes.
-fn put2(out: &mut [u8], at: usize, a: u8, b: u8) -> usize
-    ensures { text result out.new ≡ written (a ∷ b ∷ []) (text at out.old) }
-{
-    let next = put(out, at, a);
-    put(out, next, b)
-}
-
-// Four bytes.
-fn put4(out: &mut [u8], at: usize, a: u8, b: u8, c: u8, d: u8) -> usize
-    ensures { text result out.new ≡ written (a ∷ b ∷ c ∷ d ∷ []) (text at out.old) }
-{
-    let next = put2(out, at, a, b);
-    put2(out, next, c, d)
-}
-
-// ---- numbers
-
-// n in decimal digits: those of a tenth of it, then the last one.
-fn decimal(out: &mut [u8], at: usize, n: usize) -> usize
-    ensures { text result out.new ≡ written (lines.decimal n) (text at out.old) }
-{
-    if n < 10 {
-        return put(out, at, b'0' + (n as u8));
-    }
-    let next = decimal(out, at, n / 10);
-    put(out, next, b'0' + ((n % 10) as u8))
-}
-
-// A number without its sign.
-fn size(v: i32) -> usize
-    ensures { result ≡ lines.size_of v }
-{
-    if v < 0 {
-        let w = 0 - (v as i64);
-        return w as usize;
-    }
-    v as usize
-}
-
-// v in decimal digits, a minus sign before a negative one.
-fn signed(out: &mut [u8], at: usize, v: i32) -> usize
-    ensures { text result out.new ≡ written (lines.signed v) (text at out.old) }
-{
-    let n = size(v);
-    if v < 0 {
-        let next = put(out, at, b'-');
-        return decimal(out, next, n);
-    }
-    decimal(out, at, n)
-}
-
-// The hexadecimal digit of d, in upper case.
-fn hex_digit(d: u8) -> u8
-    requires { d < 16 }
-    ensures { result ≡ lines.hex_digit d }
-{
-    if d < 10 {
-        return b'0' + d;
-    }
-    b'A' + (d - 10)
-}
-
-// The last `digits` hexadecimal digits of n: those of a sixteenth of it, then the last one.
-fn hex(out: &mut [u8], at: usize, n: u32, digits: usize) -> usize
-    ensures { text result out.new ≡ written (lines.hex digits n) (text at out.old) }
-{
-    if digits == 0 {
-        return at;
-    }
-    let next = hex(out, at, n / 16, digits - 1);
-    put(out, next, hex_digit((n % 16) as u8))
-}
-
-// A score's bit pattern; 7FC00000 for a NaN.
-fn score_bits(score: f32) -> u32
-    ensures { result ≡ to_bits binary32 score }
-{
-    if score != score {
-        return 0x7fc0_0000;
-    }
-    f32::to_bits(score)
-}
-
-// ---- lines
-
-// The end of a line: a score and the bit read from it.
-fn score_end(out: &mut [u8], at: usize, score: f32, bit: u8) -> usize
-    ensures { text result out.new ≡ written (lines.score_end score bit) (text at out.old) }
-{
-    let a = put(out, at, b' ');
-    let b = hex(out, a, score_bits(score), 8);
-    let c = put(out, b, b' ');
-    let d = decimal(out, c, bit as usize);
-    put(out, d, b'\n')
-}
-
-// fit T K R: the model's terms, and how many references were kept and rejected.
-fn fit_line(out: &mut [u8], at: usize, terms: usize, kept: usize, rejected: usize) -> usize
-    ensures { text result out.new ≡ written (lines.fit_line terms kept rejected) (text at out.old) }
-{
-    let a = put4(out, at, b'f', b'i', b't', b' ');
-    let b = decimal(out, a, terms);
-    let c = put(out, b, b' ');
-    let d = decimal(out, c, kept);
-    let e = put(out, d, b' ');
-    let f = decimal(out, e, rejected);
-    put(out, f, b'\n')
-}
-
-// L x y HHHHHHHH b: a module, its score and its bit.
-fn luma_line(out: &mut [u8], at: usize, x: i32, y: i32, score: f32, bit: u8) -> usize
-    ensures { text result out.new ≡ written (lines.luma_line x y score bit) (text at out.old) }
-{
-    let a = put2(out, at, b'L', b' ');
-    let b = signed(out, a, x);
-    let c = put(out, b, b' ');
-    let d = signed(out, c, y);
-    score_end(out, d, score, bit)
-}
-
-// C i HHHHHHHH b: a place of the chroma score list, counted from 0, its score and its bit.
-fn chroma_line(out: &mut [u8], at: usize, place: usize, score: f32, bit: u8) -> usize
-    ensures { text result out.new ≡ written (lines.chroma_line place score bit) (text at out.old) }
-{
-    let a = put2(out, at, b'C', b' ');
-    let b = decimal(out, a, place);
-    score_end(out, b, score, bit)
-}
-
-// The L lines of all modules, in list order.
-fn luma_lines(
-    out: &mut [u8],
+// A slice of bytes, and the place where the next byte goes.
+#[derive(Drop)]
+struct Cursor<'a> {
+    out: &'a mut [u8],
     at: usize,
-    modules: usize,
-    xs: &[i32],
-    ys: &[i32],
-    scores: &[f32],
-    bits: &[u8],
-) -> usize
-    requires { (modules ≤ length xs.now) × (modules ≤ length ys.now) × (modules ≤ length scores.now) × (modules ≤ length bits.now) }
-    ensures { text result out.new ≡ written (lines.luma_lines modules xs.now ys.now scores.now bits.now) (text at out.old) }
-{
-    let mut next = at;
-    for i in 0..modules {
-        next = luma_line(out, next, xs[i], ys[i], scores[i], bits[i]);
-    }
-    next
 }
 
-// The C lines of all places of the chroma score list.
-fn chroma_lines(out: &mut [u8], at: usize, places: usize, scores: &[f32], bits: &[u8]) -> usize
-    requires { (places ≤ length scores.now) × (places ≤ length bits.now) }
-    ensures { text result out.new ≡ written (lines.chroma_lines places scores.now bits.now) (text at out.old) }
-{
-    let mut next = at;
-    for i in 0..places {
-        next = chroma_line(out, next, i, scores[i], bits[i]);
+impl Cursor<'_> {
+    // ---- bytes
+
+    // One byte.
+    fn put(&mut self, b: u8)
+        ensures { Writes (b ∷ []) self.old self.new }
+    {
+        if self.at < self.out.len() {
+            self.out[self.at] = b;
+            self.at += 1;
+        }
     }
-    next
+
+    // One byte after the other.
+    fn put_all(&mut self, bytes: &[u8])
+        ensures { Writes bytes.now self.old self.new }
+    {
+        for &b in bytes {
+            self.put(b);
+        }
+    }
+
+    // ---- numbers
+
+    // n in decimal digits: those of a tenth of it, then the last one.
+    fn decimal(&mut self, n: usize)
+        ensures { Writes (lines.decimal n) self.old self.new }
+    {
+        if 10 <= n {
+            self.decimal(n / 10);
+        }
+        self.put(b'0' + (n % 10) as u8);
+    }
+
+    // v in decimal digits, a minus sign before a negative one.
+    fn signed(&mut self, v: i32)
+        ensures { Writes (lines.signed v) self.old self.new }
+    {
+        if v < 0 {
+            self.put(b'-');
+        }
+        self.decimal(v.unsigned_abs() as usize);
+    }
+
+    // n in eight hexadecimal digits, in upper case.
+    fn hex(&mut self, n: u32)
+        ensures { Writes (lines.hex 8 n) self.old self.new }
+    {
+        for byte in n.to_be_bytes() {
+            self.put(HEX_DIGITS[usize::from(byte / 16)]);
+            self.put(HEX_DIGITS[usize::from(byte % 16)]);
+        }
+    }
+
+    // ---- lines
+
+    // The end of a line: a score's bit pattern, 7FC00000 for a NaN, and the bit read from it.
+    fn score_end(&mut self, score: f32, bit: u8)
+        ensures { Writes (lines.score_end score bit) self.old self.new }
+    {
+        self.put(b' ');
+        self.hex(f32_to_bits_with_nan(score));
+        self.put(b' ');
+        self.decimal(usize::from(bit));
+        self.put(b'\n');
+    }
+
+    // fit T K R: the model's terms, and how many references were kept and rejected.
+    fn fit_line(&mut self, terms: usize, kept: usize, rejected: usize)
+        ensures { Writes (lines.fit_line terms kept rejected) self.old self.new }
+    {
+        self.put_all(b"fit ");
+        self.decimal(terms);
+        self.put(b' ');
+        self.decimal(kept);
+        self.put(b' ');
+        self.decimal(rejected);
+        self.put(b'\n');
+    }
+
+    // L x y HHHHHHHH b: a module, its score and its bit.
+    fn luma_line(&mut self, x: i32, y: i32, score: f32, bit: u8)
+        ensures { Writes (lines.luma_line x y score bit) self.old self.new }
+    {
+        self.put_all(b"L ");
+        self.signed(x);
+        self.put(b' ');
+        self.signed(y);
+        self.score_end(score, bit);
+    }
+
+    // C i HHHHHHHH b: a place of the chroma score list, counted from 0, its score and its bit.
+    fn chroma_line(&mut self, place: usize, score: f32, bit: u8)
+        ensures { Writes (lines.chroma_line place score bit) self.old self.new }
+    {
+        self.put_all(b"C ");
+        self.decimal(place);
+        self.score_end(score, bit);
+    }
+
+    // The L lines of all modules, in list order.
+    fn luma_lines(&mut self, modules: usize, xs: &[i32], ys: &[i32], scores: &[f32], bits: &[u8])
+        requires { (modules ≤ length xs.now) × (modules ≤ length ys.now) × (modules ≤ length scores.now) × (modules ≤ length bits.now) }
+        ensures { Writes (lines.luma_lines modules xs.now ys.now scores.now bits.now) self.old self.new }
+    {
+        for i in 0..modules {
+            self.luma_line(xs[i], ys[i], scores[i], bits[i]);
+        }
+    }
+
+    // The C lines of all places of the chroma score list.
+    fn chroma_lines(&mut self, places: usize, scores: &[f32], bits: &[u8])
+        requires { (places ≤ length scores.now) × (places ≤ length bits.now) }
+        ensures { Writes (lines.chroma_lines places scores.now bits.now) self.old self.new }
+    {
+        for i in 0..places {
+            self.chroma_line(i, scores[i], bits[i]);
+        }
+    }
 }
 
 // ---- the listing
@@ -212,17 +172,20 @@ pub fn listing(
     requires { (modules ≤ length xs.now) × (modules ≤ length ys.now) × (modules ≤ length luma.now) × (modules ≤ length bits.now) × (places ≤ length chroma.now) × (places ≤ length symbols.now) }
     ensures { text result out.new ≡ written (lines.listing terms kept rejected modules xs.now ys.now luma.now bits.now places chroma.now symbols.now) (text 0 out.old) }
 {
-    let a = fit_line(out, 0, terms, kept, rejected);
-    let b = luma_lines(out, a, modules, xs, ys, luma, bits);
-    chroma_lines(out, b, places, chroma, symbols)
+    let mut text = Cursor { out, at: 0 };
+    text.fit_line(terms, kept, rejected);
+    text.luma_lines(modules, xs, ys, luma, bits);
+    text.chroma_lines(places, chroma, symbols);
+    text.at
 }
 
 // Core: the one line of a card that was refused by this number, and its length.
 pub fn refused_line(out: &mut [u8], number: u32) -> usize
     ensures { text result out.new ≡ written (lines.refused_line number) (text 0 out.old) }
 {
-    let a = put4(out, 0, b'r', b'e', b'f', b'u');
-    let b = put4(out, a, b's', b'e', b'd', b' ');
-    let c = decimal(out, b, number as usize);
-    put(out, c, b'\n')
+    let mut text = Cursor { out, at: 0 };
+    text.put_all(b"refused ");
+    text.decimal(number as usize);
+    text.put(b'\n');
+    text.at
 }
