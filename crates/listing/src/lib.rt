@@ -135,8 +135,8 @@ impl Cursor<'_> {
         requires { (modules ≤ length xs.now) × (modules ≤ length ys.now) × (modules ≤ length scores.now) × (modules ≤ length bits.now) }
         ensures { Writes (lines.luma_lines modules xs.now ys.now scores.now bits.now) self.old self.new }
     {
-        for i in 0..modules {
-            self.luma_line(xs[i], ys[i], scores[i], bits[i]);
+        for (i, &x) in xs[..modules].iter().enumerate() {
+            self.luma_line(x, ys[i], scores[i], bits[i]);
         }
     }
 
@@ -145,8 +145,8 @@ impl Cursor<'_> {
         requires { (places ≤ length scores.now) × (places ≤ length bits.now) }
         ensures { Writes (lines.chroma_lines places scores.now bits.now) self.old self.new }
     {
-        for i in 0..places {
-            self.chroma_line(i, scores[i], bits[i]);
+        for (place, &score) in scores[..places].iter().enumerate() {
+            self.chroma_line(place, score, bits[place]);
         }
     }
 }

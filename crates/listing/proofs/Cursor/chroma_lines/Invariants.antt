@@ -4,5 +4,5 @@ use Rattle.listing.specs.Listing.{chroma_line_at}
 use Rattle.listing.specs.Writes.{Writes}
 use Rattle.listing.proofs.Cursor.chroma_lines.Given as goal
 
-abbrev pub invariant-loop-i : goal.invariant-loop-i
-invariant-loop-i l = Writes (lines_below (chroma_line_at l.scores l.bits) l.i) l.initial.self l.self
+abbrev pub invariant-loop-place : goal.invariant-loop-place
+invariant-loop-place l = Writes (lines_below (chroma_line_at l.scores l.bits) l.place) l.initial.self l.self
