@@ -50,6 +50,10 @@ is_empty hues = answered (hues_only hues) false
 
 -- ---- sentence 8, of numbers
 
+-- v is not finite, or its magnitude is above the limit
+unfoldable pub beyond : Float → Float → Bool
+beyond limit v = not (le v limit && le (neg limit) v)
+
 -- v is not finite, or its magnitude is above 1,048,576
 unfoldable pub wild : Float → Bool
 wild v = not (le v (whole 1048576) && le (neg (whole 1048576)) v)

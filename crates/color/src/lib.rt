@@ -148,6 +148,8 @@ fn in_range(v: f32) -> bool
     -1e-4 <= v && v <= 1.0 + 1e-4
 }
 
+// Conversions are functions, not `From`: a name such as `linear_to_lab` says both spaces, and none is exact.
+
 // The linear light of an sRGB colour, from the table of the 256 bytes.
 #[tactic(auto, unfolding(crate::specs::Color::srgb8_to_linear))]
 pub fn srgb8_to_linear(c: Srgb8) -> Linear

@@ -1,6 +1,7 @@
 // The palette of a card with k hues, one flat slice of 2 + 8k f32: the lightness of the two levels, a and b of each hue,
 // then the Lab of each colour, dark by hue and then light by hue. Here is where each number stands, and what
 // document 01's sentence 8 says of numbers and of a palette.
+// A palette is passed as that slice and its hue count: the C interface lends it so.
 ghost use Rattle.std.specs.Prelude.{◌≡◌, ◌+◌, ◌*◌, ◌<◌, ◌≤◌, length};
 ghost use Rattle.answers.specs.Answers.{said};
 ghost use Rattle.color.specs.Palette as spec;
@@ -17,6 +18,7 @@ pub struct Ab {
 }
 
 // How many colours a palette has: two levels of each hue. Refused: 3.
+#[tactic(auto, unfolding(sentences::specs::Sentences::refusal, sentences::specs::Sentences::decided, limits::specs::Limits::bad_hues))]
 pub fn len(hues: usize) -> Result<usize, Refusal>
     ensures { said result ≡ spec.len hues }
 {
@@ -27,6 +29,7 @@ pub fn len(hues: usize) -> Result<usize, Refusal>
 }
 
 // Whether a palette has no colour, which it never is. Refused: 3.
+#[tactic(auto, unfolding(sentences::specs::Sentences::refusal, sentences::specs::Sentences::decided))]
 pub fn is_empty(hues: usize) -> Result<bool, Refusal>
     ensures { said result ≡ spec.is_empty hues }
 {
@@ -37,6 +40,7 @@ pub fn is_empty(hues: usize) -> Result<bool, Refusal>
 }
 
 // The place of a colour by its level and its hue, any hue being taken by its remainder. Refused: 3.
+#[tactic(auto, unfolding(sentences::specs::Sentences::refusal, sentences::specs::Sentences::decided, limits::specs::Limits::bad_hues))]
 pub fn index(l: bool, h: usize, hues: usize) -> Result<usize, Refusal>
     ensures { said result ≡ spec.index l h hues }
 {
@@ -103,12 +107,20 @@ pub fn linear_at(colours: &[f32], i: usize) -> Linear
     }
 }
 
+// Core: whether v is not finite or has a magnitude above the limit.
+#[tactic(auto, unfolding(crate::specs::Palette::beyond))]
+pub fn beyond(limit: f32, v: f32) -> bool
+    ensures { result ≡ spec.beyond limit v }
+{
+    !(v <= limit && -limit <= v)
+}
+
 // Core: whether v is not finite or has a magnitude above 1,048,576, as sentence 8 has it.
-#[tactic(auto, using(crate::proofs::Literals::literals), unfolding(crate::specs::Palette::wild))]
+#[tactic(auto, using(crate::proofs::Literals::literals), unfolding(crate::specs::Palette::wild, crate::specs::Palette::beyond))]
 pub fn wild(v: f32) -> bool
     ensures { result ≡ spec.wild v }
 {
-    !(v <= 1048576.0 && -1048576.0 <= v)
+    beyond(1048576.0, v)
 }
 
 // Core: the same of a component of a colour, as sentences 8 and 12 have it.
