@@ -59,6 +59,10 @@ unfoldable pub palette_sentences : List Float → ℕ → List Sentence
 palette_sentences palette hues =
     (3 when bad_hues hues) ∷ (5 when short_palette palette hues) ∷ (8 when wild_palette palette hues) ∷ []
 
+-- the last two of the calls below, and of the colour counts
+abbrev pub figure_sentences : ChannelStats → List Float → ℕ → List Sentence
+figure_sentences n palette hues = (8 when bad_numbers n palette hues) ∷ (9 when bad_sigmas n) ∷ []
+
 -- `reliability`, and the margin check
 unfoldable pub sentences_of : ChannelStats → List Float → ℕ → List Sentence
 sentences_of n palette hues =

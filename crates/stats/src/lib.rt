@@ -14,7 +14,7 @@ ghost use Rattle.stats.specs.Ready.{ColourAt, HueAt};
 
 use answers::Refusal;
 use color::Lab;
-use color::palette::{hue_ab, level_l, palette_lab, wild_palette};
+use color::palette::{beyond, hue_ab, level_l, palette_lab, wild_palette};
 
 // What was measured of the channel: the observed L of the dark and the light level, the luma noise, the
 // chroma noise pooled over both levels and that of each level (0 where it was not measured), and the
@@ -87,11 +87,12 @@ impl ChannelStats {
         sigma: F,
     ) -> f32
         requires long { palette_len hues ≤ length palette.now }
-        requires callable { (i : ℕ) → i < 2 * hues → F.pre sigma i (spec.lightness_at palette.now hues i) }
-        requires sigmas { (i : ℕ) (s : Float) → i < 2 * hues → F.post sigma i (spec.lightness_at palette.now hues i) s → s ≡ spec.sigma_ab_at self (spec.lightness_at palette.now hues i) }
+        requires callable { (i : ℕ) → ColourAt palette.now hues i → F.pre sigma i (spec.lightness_at palette.now hues i) }
+        requires sigmas { (i : ℕ) (s : Float) → ColourAt palette.now hues i → F.post sigma i (spec.lightness_at palette.now hues i) s → s ≡ spec.sigma_ab_at self (spec.lightness_at palette.now hues i) }
         ensures { result ≡ spec.nearest self sample palette.now hues }
     {
         let mut best = f32::INFINITY;
+        // over places: a colour is three numbers of the flat palette, and no element
         for i in 0..2 * hues {
             let c = palette_lab(palette, hues, i);
             best = float::min(best, self.distance(sample, c, sigma(i, c.l)));
@@ -193,15 +194,16 @@ fn likelihood(sample: Lab, denom: f32, palette: &[f32], hues: usize, h: usize) -
 pub fn short_palette(palette: &[f32], hues: usize) -> bool
     ensures { result ≡ call.short_palette palette.now hues }
 {
+    // divided, since 8 × hues may not fit
     palette.len() < 2 || (palette.len() - 2) / 8 < hues
 }
 
 // Whether a figure of a noise record is not finite or above 2^40 in magnitude.
-#[tactic(auto, using(crate::proofs::Literals::literals), unfolding(crate::specs::Calls::wild_figure))]
+#[tactic(auto, using(crate::proofs::Literals::literals), unfolding(crate::specs::Calls::wild_figure, color::specs::Palette::beyond))]
 fn wild_figure(v: f32) -> bool
     ensures { result ≡ call.wild_figure v }
 {
-    !(v <= 1099511627776.0 && -1099511627776.0 <= v)
+    beyond(1099511627776.0, v)
 }
 
 // Core: sentence 8, of a noise record.
@@ -246,6 +248,7 @@ pub fn bad_numbers(noise: ChannelStats, palette: &[f32], hues: usize) -> bool
 }
 
 // Whether a noise record passes. Refused: 8, 9.
+#[tactic(auto, unfolding(crate::specs::Calls::record_sentences, sentences::specs::Sentences::refusal))]
 fn check_record(noise: ChannelStats) -> Result<(), Refusal>
     ensures { outcome_number result ≡ refusal (call.record_sentences noise) }
 {
@@ -259,6 +262,7 @@ fn check_record(noise: ChannelStats) -> Result<(), Refusal>
 }
 
 // Whether a palette passes. Refused: 3, 5, 8.
+#[tactic(auto, unfolding(crate::specs::Calls::palette_sentences, crate::specs::Calls::short_palette, sentences::specs::Sentences::refusal))]
 fn check_palette(palette: &[f32], hues: usize) -> Result<(), Refusal>
     ensures { outcome_number result ≡ refusal (call.palette_sentences palette.now hues) }
 {
@@ -274,7 +278,23 @@ fn check_palette(palette: &[f32], hues: usize) -> Result<(), Refusal>
     Ok(())
 }
 
+// Core: whether the numbers of a palette that is long enough and of a noise record pass. Refused: 8, 9.
+#[tactic(auto, unfolding(sentences::specs::Sentences::refusal))]
+pub fn check_figures(noise: ChannelStats, palette: &[f32], hues: usize) -> Result<(), Refusal>
+    requires { palette_len hues ≤ length palette.now }
+    ensures { outcome_number result ≡ refusal (call.figure_sentences noise palette.now hues) }
+{
+    if bad_numbers(noise, palette, hues) {
+        return Err(Refusal::Number);
+    }
+    if bad_sigmas(noise) {
+        return Err(Refusal::Sigma);
+    }
+    Ok(())
+}
+
 // Core: whether a noise record and a palette pass. Refused: 3, 5, 8, 9.
+#[tactic(auto, unfolding(crate::specs::Calls::sentences_of, crate::specs::Calls::short_palette, sentences::specs::Sentences::refusal))]
 pub fn check(noise: ChannelStats, palette: &[f32], hues: usize) -> Result<(), Refusal>
     ensures { outcome_number result ≡ refusal (call.sentences_of noise palette.now hues) }
 {
@@ -284,13 +304,7 @@ pub fn check(noise: ChannelStats, palette: &[f32], hues: usize) -> Result<(), Re
     if short_palette(palette, hues) {
         return Err(Refusal::Length);
     }
-    if bad_numbers(noise, palette, hues) {
-        return Err(Refusal::Number);
-    }
-    if bad_sigmas(noise) {
-        return Err(Refusal::Sigma);
-    }
-    Ok(())
+    check_figures(noise, palette, hues)
 }
 
 // Sentence 5, of the likelihoods: the palette or the room for one a hue is too short.
@@ -302,6 +316,7 @@ fn short_likelihoods(palette: &[f32], hues: usize, out: &[f32]) -> bool
 }
 
 // Whether a noise record, a palette and the room for a likelihood a hue pass. Refused: 3, 5, 8, 9.
+#[tactic(auto, unfolding(crate::specs::Calls::likelihood_sentences, crate::specs::Calls::short_likelihoods, crate::specs::Calls::short_palette, sentences::specs::Sentences::refusal))]
 fn check_likelihoods(
     noise: ChannelStats,
     palette: &[f32],
@@ -316,13 +331,7 @@ fn check_likelihoods(
     if short_likelihoods(palette, hues, out) {
         return Err(Refusal::Length);
     }
-    if bad_numbers(noise, palette, hues) {
-        return Err(Refusal::Number);
-    }
-    if bad_sigmas(noise) {
-        return Err(Refusal::Sigma);
-    }
-    Ok(())
+    check_figures(noise, palette, hues)
 }
 
 // ---- the public calls
