@@ -43,27 +43,11 @@ fn sample_at(i: usize) -> Lab
 // ---- the hue
 
 // Whether likelihood x ranks above y: a NaN ranks below every other.
+#[tactic(auto, unfolding(crate::specs::Counts::beats))]
 fn beats(x: f32, y: f32) -> bool
     ensures { result ≡ spec.beats x y }
 {
-    if x != x {
-        return false;
-    }
-    if y != y {
-        return true;
-    }
-    y < x
-}
-
-// Hue h where its likelihood beats that of the best so far, else that.
-fn better(likelihoods: &[f32], h: usize, best: usize) -> usize
-    requires { (h < length likelihoods.now) × (best < length likelihoods.now) }
-    ensures { result ≡ spec.better likelihoods.now h best }
-{
-    if beats(likelihoods[h], likelihoods[best]) {
-        return h;
-    }
-    best
+    !x.is_nan() && (y.is_nan() || y < x)
 }
 
 // The hue of the highest likelihood, the lowest on equality.
@@ -71,71 +55,73 @@ fn highest(likelihoods: &[f32], hues: usize) -> usize
     requires { (0 < hues) × (hues ≤ length likelihoods.now) }
     ensures { (result ≡ spec.highest_of likelihoods.now hues) × spec.Highest likelihoods.now hues result }
 {
+    // over places and not elements: the best so far is a place
     let mut best = 0;
     for h in 1..hues {
-        best = better(likelihoods, h, best);
+        if beats(likelihoods[h], likelihoods[best]) {
+            best = h;
+        }
     }
     best
 }
 
-// ---- the class
+// ---- the class and the counts
 
-// The hue class of a sample: its likeliest hue, and 0 with chroma off.
-fn hue_class(noise: ChannelStats, palette: &[f32], hues: usize, sample: Lab) -> usize
-    requires { (bad_hues hues ≡ false) × (palette_len hues ≤ length palette.now) }
-    ensures { result ≡ spec.hue_class noise palette.now hues sample }
-{
-    if !limits::chroma_on(hues) {
-        return 0;
-    }
-    let mut likelihoods = [0.0f32; 16];
-    noise.hue_log_likelihoods_of(sample, palette, hues, &mut likelihoods);
-    highest(&likelihoods, hues)
+// What tells colours apart: a noise record, and a palette of one of the five hue counts that has the numbers of its hues.
+#[derive(Clone, Copy)]
+struct Channel<'a> {
+    noise: ChannelStats,
+    palette: &'a [f32],
+    hues: usize,
+    ghost hue_count: { bad_hues hues ≡ false },
+    ghost long: { palette_len hues ≤ length palette.now },
 }
 
-// The class of a sample: dark by hue, then light by hue, then the last.
-fn class_of(noise: ChannelStats, palette: &[f32], hues: usize, sample: Lab) -> usize
-    requires { (bad_hues hues ≡ false) × (palette_len hues ≤ length palette.now) }
-    ensures { (result ≡ spec.class_of noise palette.now hues sample) × spec.Class noise hues sample result }
-{
-    let v = noise.luma_llr_of(sample.l);
-    if 0.0 < v {
-        return hue_class(noise, palette, hues, sample);
+impl Channel<'_> {
+    // The hue class of a sample: its likeliest hue, and 0 with chroma off.
+    fn hue_class(&self, sample: Lab) -> usize
+        ensures { result ≡ spec.hue_class self.now.noise self.now.palette.now self.now.hues sample }
+    {
+        if !limits::chroma_on(self.hues) {
+            return 0;
+        }
+        let mut likelihoods = [0.0f32; 16];
+        self.noise
+            .hue_log_likelihoods_of(sample, self.palette, self.hues, &mut likelihoods);
+        highest(&likelihoods, self.hues)
     }
-    if v < 0.0 {
-        return limits::hue_classes(hues) + hue_class(noise, palette, hues, sample);
+
+    // The class of a sample: dark by hue, then light by hue, then the last.
+    fn class_of(&self, sample: Lab) -> usize
+        ensures { (result ≡ spec.class_of self.now.noise self.now.palette.now self.now.hues sample) × spec.Class self.now.noise self.now.hues sample result }
+    {
+        let v = self.noise.luma_llr_of(sample.l);
+        if 0.0 < v {
+            return self.hue_class(sample);
+        }
+        if v < 0.0 {
+            return limits::hue_classes(self.hues) + self.hue_class(sample);
+        }
+        2 * limits::hue_classes(self.hues)
     }
-    2 * limits::hue_classes(hues)
-}
 
-// ---- the counts
-
-// Counts colour i in its class.
-fn count_one(noise: ChannelStats, palette: &[f32], hues: usize, i: usize, out: &mut [u32])
-    requires { (i < 32768) × (bad_hues hues ≡ false) × (palette_len hues ≤ length palette.now) × spec.Sums (spec.classes hues) i out.old }
-    ensures { (out.new ≡ spec.count_at noise palette.now hues i out.old) × spec.Sums (spec.classes hues) (i + 1) out.new }
-{
-    let c = class_of(noise, palette, hues, sample_at(i));
-    out[c] = out[c] + 1;
-}
-
-// Counts every colour.
-fn count_all(noise: ChannelStats, palette: &[f32], hues: usize, out: &mut [u32])
-    requires { (bad_hues hues ≡ false) × (palette_len hues ≤ length palette.now) × spec.Sums (spec.classes hues) 0 out.old }
-    ensures { (out.new ≡ spec.count_all noise palette.now hues out.old) × spec.Sums (spec.classes hues) 32768 out.new }
-{
-    for i in 0..32768 {
-        count_one(noise, palette, hues, i, out);
+    // Counts colour i in its class.
+    fn count_one(&self, i: usize, out: &mut [u32])
+        requires { (i < 32768) × spec.Sums (spec.classes self.now.hues) i out.old }
+        ensures { (out.new ≡ spec.count_at self.now.noise self.now.palette.now self.now.hues i out.old) × spec.Sums (spec.classes self.now.hues) (i + 1) out.new }
+    {
+        let class = self.class_of(sample_at(i));
+        out[class] += 1;
     }
-}
 
-// Writes 0 to the first n entries.
-fn clear(n: usize, out: &mut [u32])
-    requires { n ≤ length out.old }
-    ensures { (out.new ≡ spec.cleared n out.old) × spec.Sums n 0 out.new }
-{
-    for i in 0..n {
-        out[i] = 0;
+    // Counts every colour.
+    fn count_all(&self, out: &mut [u32])
+        requires { spec.Sums (spec.classes self.now.hues) 0 out.old }
+        ensures { (out.new ≡ spec.count_all self.now.noise self.now.palette.now self.now.hues out.old) × spec.Sums (spec.classes self.now.hues) 32768 out.new }
+    {
+        for i in 0..32768 {
+            self.count_one(i, out);
+        }
     }
 }
 
@@ -150,17 +136,16 @@ fn classes(hues: usize) -> usize
 }
 
 // Sentence 5: the palette, or the room for the counts, is too short.
+#[tactic(auto, unfolding(crate::specs::Calls::short))]
 fn short(palette: &[f32], hues: usize, out: &[u32]) -> bool
     requires { bad_hues hues ≡ false }
     ensures { result ≡ call.short palette.now hues out.now }
 {
-    if stats::short_palette(palette, hues) {
-        return true;
-    }
-    out.len() < classes(hues)
+    stats::short_palette(palette, hues) || out.len() < classes(hues)
 }
 
 // Whether the call passes. Refused: 3, 5, 8, 9.
+#[tactic(auto, unfolding(crate::specs::Calls::sentences_of, crate::specs::Calls::short, stats::specs::Calls::short_palette, sentences::specs::Sentences::refusal))]
 fn check(noise: ChannelStats, palette: &[f32], hues: usize, out: &[u32]) -> Result<(), Refusal>
     ensures { outcome_number result ≡ refusal (call.sentences_of noise palette.now hues out.now) }
 {
@@ -170,13 +155,7 @@ fn check(noise: ChannelStats, palette: &[f32], hues: usize, out: &[u32]) -> Resu
     if short(palette, hues, out) {
         return Err(Refusal::Length);
     }
-    if stats::bad_numbers(noise, palette, hues) {
-        return Err(Refusal::Number);
-    }
-    if stats::bad_sigmas(noise) {
-        return Err(Refusal::Sigma);
-    }
-    Ok(())
+    stats::check_figures(noise, palette, hues)
 }
 
 // Core: the counts, of a palette and room that are long enough.
@@ -184,8 +163,13 @@ pub fn counts_of(noise: ChannelStats, palette: &[f32], hues: usize, out: &mut [u
     requires { (bad_hues hues ≡ false) × (palette_len hues ≤ length palette.now) × (spec.classes hues ≤ length out.old) }
     ensures { (out.new ≡ spec.counted noise palette.now hues out.old) × spec.Divides noise palette.now hues out.old out.new }
 {
-    clear(classes(hues), out);
-    count_all(noise, palette, hues, out);
+    out[..classes(hues)].fill(0);
+    let channel = Channel {
+        noise,
+        palette,
+        hues,
+    };
+    channel.count_all(out);
 }
 
 // Counts how the 32,768 sRGB colours whose bytes are multiples of 8 divide among the palette's levels and hues, under the
