@@ -2,7 +2,7 @@
 use mathlib.Core.Path.{◌≡◌, refl, sym, ap, ◌∙◌}
 use mathlib.Core.Bool.{Bool, true, false, ◌||◌}
 use mathlib.Core.List.{List}
-use Prim.Native.Nat.{ℕ, ◌*◌, ◌≤◌}
+use Prim.Native.Nat.{ℕ, ◌*◌, ◌≤◌, ◌<◌}
 use native.Mathlib.Nat.{mul-le-mul}
 use native.Mathlib.Omega.{arith}
 use borrow.Author.Tests.{ltb-false}
@@ -43,6 +43,10 @@ module _ (s t : Bool) (e : 0 ≡ numbered s t) where
   pub sized : (n : ℕ) → t ≡ bad_size n → n ≤ 18
   unfolding bad_size
   sized n h = ltb-false 18 n (neither (ltb n 1) (ltb 18 n) (sym h ∙ (neither-holds s t e).1)).1
+
+  pub some-size : (n : ℕ) → t ≡ bad_size n → 0 < n
+  unfolding bad_size
+  some-size n h = ltb-false n 1 (neither (ltb n 1) (ltb 18 n) (sym h ∙ (neither-holds s t e).1)).0
 
   module _ (n a b x : ℕ) (h : s ≡ short_system n a b x) where
     tests : (ltb a (n * n) ≡ false) × (ltb b n || ltb x n ≡ false)

@@ -2,7 +2,9 @@
 // the normal equations, in f64. Every float is taken, NaN included. Each function is its definition of specs/,
 // bit for bit and in the order of the Rust's operations.
 //
-// Matrices are row by row: row r and column k of an n by n matrix stand at r * n + k.
+// Matrices are row by row: row r and column k of an n by n matrix stand at r * n + k. A matrix and its right-hand side are
+// parameters, and no struct: one that held the two slices would have to promise in each contract that they are still the
+// same ones. Loops go over rows and columns, which are not the places of the slice.
 #![tactic(auto)]
 
 ghost use Rattle.std.specs.Prelude.{◌≡◌, ◌*◌, ◌<◌, ◌≤◌, ltb, length};
@@ -41,21 +43,20 @@ fn put(a: &mut [f64], n: usize, r: usize, k: usize, v: f64)
 fn magnitude(x: f64) -> f64
     ensures { Alike result (abs x) }
 {
-    if x < 0.0 {
-        return -x;
-    }
-    x
+    if x < 0.0 { -x } else { x }
 }
 
 // The row of the larger magnitude in column `col`, of rows p and r: p where they are equal.
+#[tactic(auto, unfolding(crate::specs::Gauss::larger))]
 fn larger(a: &[f64], n: usize, col: usize, r: usize, p: usize) -> usize
     requires { Cell n a.now r col × (p < n) }
     ensures { (result ≡ spec.larger n a.now col r p) × (result < n) }
 {
     if magnitude(at(a, n, r, col)) > magnitude(at(a, n, p, col)) {
-        return r;
+        r
+    } else {
+        p
     }
-    p
 }
 
 // The row at or below `col` of the largest magnitude in column `col`.
@@ -70,32 +71,14 @@ fn pivot_row(a: &[f64], n: usize, col: usize) -> usize
     pivot
 }
 
-fn swap_at(a: &mut [f64], n: usize, r: usize, q: usize, k: usize)
-    requires { Cell n a.old r k × (q < n) }
-    ensures { a.new ≡ spec.swap_at n r q k a.old }
-{
-    let u = at(a, n, r, k);
-    let v = at(a, n, q, k);
-    put(a, n, r, k, v);
-    put(a, n, q, k, u);
-}
-
+// Exchanges rows r and q.
 fn swap_rows(a: &mut [f64], n: usize, r: usize, q: usize)
     requires { (r < n) × (q < n) × (n * n ≤ length a.old) }
     ensures { a.new ≡ spec.swap_rows n r q a.old }
 {
     for k in 0..n {
-        swap_at(a, n, r, q, k);
+        a.swap(r * n + k, q * n + k);
     }
-}
-
-fn swap(b: &mut [f64], r: usize, q: usize)
-    requires { (r < length b.old) × (q < length b.old) }
-    ensures { b.new ≡ spec.swap b.old r q }
-{
-    let u = b[r];
-    b[r] = b[q];
-    b[q] = u;
 }
 
 // Exchanges rows p and `col` of the system.
@@ -103,22 +86,13 @@ fn bring_up(a: &mut [f64], b: &mut [f64], n: usize, col: usize, p: usize)
     requires { Equations n a.old b.old × (col < n) × (p < n) }
     ensures { system a.new b.new ≡ spec.bring_up n col p (system a.old b.old) }
 {
-    if p == col {
-        return;
+    if p != col {
+        swap_rows(a, n, col, p);
+        b.swap(col, p);
     }
-    swap_rows(a, n, col, p);
-    swap(b, col, p);
 }
 
 // ---- elimination
-
-fn subtract_at(a: &mut [f64], n: usize, col: usize, r: usize, f: f64, k: usize)
-    requires { Cell n a.old r k × (col < n) }
-    ensures { a.new ≡ spec.subtract_at n col r f k a.old }
-{
-    let v = at(a, n, r, k) - f * at(a, n, col, k);
-    put(a, n, r, k, v);
-}
 
 // Takes f times row `col` from row r, from column `col` on.
 fn subtract_row(a: &mut [f64], n: usize, col: usize, r: usize, f: f64)
@@ -126,7 +100,8 @@ fn subtract_row(a: &mut [f64], n: usize, col: usize, r: usize, f: f64)
     ensures { a.new ≡ spec.subtract_row n col r f a.old }
 {
     for k in col..n {
-        subtract_at(a, n, col, r, f, k);
+        let v = at(a, n, r, k) - f * at(a, n, col, k);
+        put(a, n, r, k, v);
     }
 }
 
@@ -136,11 +111,10 @@ fn eliminate_row(a: &mut [f64], b: &mut [f64], n: usize, col: usize, d: f64, r: 
     ensures { system a.new b.new ≡ spec.eliminate_row n col d r (system a.old b.old) }
 {
     let f = at(a, n, r, col) / d;
-    if f == 0.0 {
-        return;
+    if f != 0.0 {
+        subtract_row(a, n, col, r, f);
+        b[r] -= f * b[col];
     }
-    subtract_row(a, n, col, r, f);
-    b[r] = b[r] - f * b[col];
 }
 
 fn eliminate_below(a: &mut [f64], b: &mut [f64], n: usize, col: usize)
@@ -189,7 +163,7 @@ fn residual(a: &[f64], b: &[f64], x: &[f64], n: usize, r: usize) -> f64
 {
     let mut s = b[r];
     for k in r + 1..n {
-        s = s - at(a, n, r, k) * x[k];
+        s -= at(a, n, r, k) * x[k];
     }
     s
 }
@@ -199,11 +173,8 @@ fn back_substitute(a: &[f64], b: &[f64], x: &mut [f64], n: usize)
     requires { Equations n a.now b.now × (n ≤ length x.old) }
     ensures { x.new ≡ spec.back_substitute n a.now b.now x.old }
 {
-    let mut r = n;
-    while 0 < r {
-        r -= 1;
-        let s = residual(a, b, x, n, r);
-        x[r] = s / at(a, n, r, r);
+    for r in (0..n).rev() {
+        x[r] = residual(a, b, x, n, r) / at(a, n, r, r);
     }
 }
 
@@ -214,11 +185,11 @@ pub fn solve_core(a: &mut [f64], b: &mut [f64], x: &mut [f64], n: usize) -> bool
     requires { (n * n ≤ length a.old) × (n ≤ length b.old) × (n ≤ length x.old) }
     ensures { settled result a.new b.new x.new ≡ spec.gauss n a.old b.old x.old }
 {
-    if !eliminate(a, b, n) {
-        return false;
+    let found = eliminate(a, b, n);
+    if found {
+        back_substitute(a, b, x, n);
     }
-    back_substitute(a, b, x, n);
-    true
+    found
 }
 
 // ---- the sentences
@@ -227,56 +198,43 @@ pub fn solve_core(a: &mut [f64], b: &mut [f64], x: &mut [f64], n: usize) -> bool
 fn below_product(len: usize, p: usize, q: usize) -> bool
     ensures { result ≡ ltb len (p * q) }
 {
-    if q == 0 {
-        return false;
-    }
-    len / q < p
+    q != 0 && len / q < p
 }
 
 // 5: a matrix, a right-hand side or a slice for the unknowns is too short.
+#[tactic(auto, unfolding(crate::specs::Gauss::short_system))]
 fn short_system(n: usize, a: usize, b: usize, x: usize) -> bool
     ensures { result ≡ spec.short_system n a b x }
 {
-    if below_product(a, n, n) {
-        return true;
-    }
-    if b < n {
-        return true;
-    }
-    x < n
+    below_product(a, n, n) || b < n || x < n
 }
 
 // 5: one of two slices of a number for each term is too short.
+#[tactic(auto, unfolding(crate::specs::Normal::short_pair))]
 fn short_pair(terms: usize, p: usize, q: usize) -> bool
     ensures { result ≡ normal.short_pair terms p q }
 {
-    if p < terms {
-        return true;
-    }
-    q < terms
+    p < terms || q < terms
 }
 
 // 5: the rows, or the slice for the unknowns, are too short.
+#[tactic(auto, unfolding(crate::specs::Normal::short_rows))]
 fn short_rows(terms: usize, rows: usize, targets: usize, x: usize) -> bool
     ensures { result ≡ normal.short_rows terms rows targets x }
 {
-    if below_product(rows, targets, terms) {
-        return true;
-    }
-    x < terms
+    below_product(rows, targets, terms) || x < terms
 }
 
 // 6: a matrix size or term count outside 1 to 18.
+#[tactic(auto, unfolding(crate::specs::Gauss::bad_size))]
 fn bad_size(n: usize) -> bool
     ensures { result ≡ spec.bad_size n }
 {
-    if n < 1 {
-        return true;
-    }
-    18 < n
+    n < 1 || 18 < n
 }
 
 // The first of the two sentences that holds.
+#[tactic(auto, unfolding(sentences::specs::Sentences::refusal))]
 fn check(short: bool, bad: bool) -> Result<(), Refusal>
     ensures { outcome_number result ≡ spec.numbered short bad }
 {
@@ -303,20 +261,14 @@ pub fn solve(a: &mut [f64], b: &mut [f64], x: &mut [f64], n: usize) -> Result<bo
 
 // ---- the normal equations
 
-fn add_product(ata: &mut [f64], row: &[f64], terms: usize, i: usize, j: usize)
-    requires { Cell terms ata.old i j × (terms ≤ length row.now) }
-    ensures { ata.new ≡ normal.add_product terms row.now i j ata.old }
-{
-    let v = at(ata, terms, i, j) + row[i] * row[j];
-    put(ata, terms, i, j, v);
-}
-
+// Row i of the matrix gains the products of row[i] with the whole row.
 fn add_products(ata: &mut [f64], row: &[f64], terms: usize, i: usize)
     requires { (i < terms) × (terms * terms ≤ length ata.old) × (terms ≤ length row.now) }
     ensures { ata.new ≡ normal.add_products terms row.now i ata.old }
 {
     for j in 0..terms {
-        add_product(ata, row, terms, i, j);
+        let v = at(ata, terms, i, j) + row[i] * row[j];
+        put(ata, terms, i, j, v);
     }
 }
 
@@ -325,7 +277,7 @@ fn add_line(ata: &mut [f64], atb: &mut [f64], row: &[f64], target: f64, terms: u
     requires { Equations terms ata.old atb.old × (i < terms) × (terms ≤ length row.now) }
     ensures { system ata.new atb.new ≡ normal.add_line terms row.now target i (system ata.old atb.old) }
 {
-    atb[i] = atb[i] + row[i] * target;
+    atb[i] += row[i] * target;
     add_products(ata, row, terms, i);
 }
 
@@ -363,21 +315,14 @@ pub fn add_row(
     Ok(())
 }
 
-fn nudge_at(ata: &mut [f64], terms: usize, i: usize)
-    requires { Cell terms ata.old i i }
-    ensures { ata.new ≡ normal.nudge_at terms i ata.old }
-{
-    let v = at(ata, terms, i, i) + 1e-9;
-    put(ata, terms, i, i, v);
-}
-
 // 1e-9 on the diagonal, which keeps rows that leave a term open from giving a wild solution.
 fn nudge(ata: &mut [f64], terms: usize)
     requires { terms * terms ≤ length ata.old }
     ensures { ata.new ≡ normal.nudged terms ata.old }
 {
     for i in 0..terms {
-        nudge_at(ata, terms, i);
+        let v = at(ata, terms, i, i) + 1e-9;
+        put(ata, terms, i, i, v);
     }
 }
 
@@ -406,29 +351,14 @@ pub fn finish(
 
 // ---- least squares
 
-fn add_row_at(
-    ata: &mut [f64; 324],
-    atb: &mut [f64],
-    rows: &[f64],
-    targets: &[f64],
-    terms: usize,
-    k: usize,
-)
-    requires { (terms ≤ 18) × (terms ≤ length atb.old) × (k < length targets.now) × (length targets.now * terms ≤ length rows.now) }
-    ensures { system ata.new atb.new ≡ normal.add_row_at terms rows.now targets.now k (system ata.old atb.old) }
-{
-    let from = k * terms;
-    let to = from + terms;
-    add_row_core(ata, atb, &rows[from..to], targets[k], terms);
-}
-
 // Every row, one for each target.
 fn add_rows(ata: &mut [f64; 324], atb: &mut [f64], rows: &[f64], targets: &[f64], terms: usize)
-    requires { (terms ≤ 18) × (terms ≤ length atb.old) × (length targets.now * terms ≤ length rows.now) }
+    requires size { (0 < terms) × (terms ≤ 18) }
+    requires long { (terms ≤ length atb.old) × (length targets.now * terms ≤ length rows.now) }
     ensures { system ata.new atb.new ≡ normal.add_rows terms rows.now targets.now (system ata.old atb.old) }
 {
-    for k in 0..targets.len() {
-        add_row_at(ata, atb, rows, targets, terms, k);
+    for (row, &target) in rows.chunks_exact(terms).zip(targets) {
+        add_row_core(ata, atb, row, target, terms);
     }
 }
 

@@ -15,7 +15,7 @@ use Rattle.answers.specs.Answers.{number_of, refused_by, gives, said}
 use Rattle.answers.proofs.Answers.{passed_on}
 use Rattle.math.specs.Gauss.{numbered, bad_size, System, system, settled}
 use Rattle.math.specs.Normal.{short_rows, finish, equations_of, fitted, fitted_of, least_squares, least_squares_of}
-use Rattle.math.proofs.Accepted.{sent-away, taken, sized, rows_fit, answers-fit}
+use Rattle.math.proofs.Accepted.{sent-away, taken, sized, some-size, rows_fit, answers-fit}
 use Rattle.math.proofs.least_squares.Goals as goal
 
 module _ (n : ℕ) (s t : Bool) (rows targets x : List Float) (hs : s ≡ short_rows n (length rows) (length targets) (length x)) (ht : t ≡ bad_size n) where
@@ -48,7 +48,9 @@ pub returns-then-targets-terms : goal.returns-then-targets-terms
 returns-then-targets-terms c = search (few, c.in_ok-check.ensures)
 
 pub add_rows-requires : goal.add_rows-requires
-add_rows-requires c = let e = c.in_ok-check.ensures in (search (sized, e), search (sized, e), search (rows_fit, e))
+add_rows-requires c =
+    let e = c.in_ok-check.ensures in
+    record { size = (search (some-size, e), search (sized, e)); long = (search (sized, e), search (rows_fit, e)) }
 
 pub finish_core-requires : goal.finish_core-requires
 finish_core-requires c = let e = c.in_ok-check.ensures in (search (sized, e), search (eighteen, rules, e), search (answers-fit, e))

