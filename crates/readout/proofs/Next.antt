@@ -12,32 +12,27 @@ use Rattle.sentences.proofs.Laws.{refuses, accepts}
 use Rattle.card.specs.declared.Settings.{Settings}
 use Rattle.listing.specs.Text.{Text, written}
 use Rattle.listing.specs.Listing.{listing, refused_line}
-use Rattle.answers.specs.declared.Outcome.{Outcome}
-use Rattle.answers.specs.Answers.{Ended, ended}
+use Rattle.std.specs.Prelude.{Result, Ok, Err, ⊤}
+use Rattle.answers.specs.declared.refusal.Refusal.{Refusal}
+use Rattle.answers.specs.Answers.{number_of, said, Ended, ended}
 use Rattle.modulate.specs.Score.{unmask_luma_of}
 use Rattle.modulate.proofs.Written.{unmask-luma-long, unmask-luma-twice}
 use Rattle.layout.specs.declared.Layout.{Layout}
 use Rattle.illum.specs.declared.IlluminationModel.{IlluminationModel}
 use Rattle.stats.specs.declared.ChannelStats.{ChannelStats}
 use Rattle.demod.specs.declared.ScoreReport.{ScoreReport}
-use Rattle.demod.specs.declared.Scored.{Scored}
-use Rattle.demod.specs.declared.Scored.TheVariants.{Refused, Done}
-use Rattle.demod.specs.Call.{scored_said}
 use Rattle.refine.specs.Refine.{squares}
 use Rattle.guarantee.specs.Card.{Setting, Card, modules, scored_card, refined_card, unmasked_card}
 use Rattle.guarantee.proofs.Known.{read-long}
 use Rattle.bits.specs.Reading.{Left, setting, card, left, read_of}
-use Rattle.bits.proofs.Calls.{refused-above}
+use Rattle.answers.proofs.Answers.{numbered}
 use Rattle.bits.proofs.Joined.{all_accepted, all_done}
 use Rattle.bits.proofs.Never.{facts}
 use Rattle.readout.specs.Sheet.{sheet}
 use Rattle.readout.specs.Reading.{listing_of, Listable, text_of, zeros, no_bits_read, places_of, layout_of, score_text}
 
-abbrev number-said : Scored → ℕ
-number-said r = (scored_said r).number
-
 -- a listing of scores that were unmasked
-pub relisted : (o : Outcome) (l : List Float) (e : Ended Float) (t u : Text) (terms kept rejected n : ℕ) (xs ys : List ℤ) (bits : List ℕ) (k : ℕ) (chroma : List Float) (symbols : List ℕ) → ended o l ≡ e →
+pub relisted : (o : Result ⊤ Refusal) (l : List Float) (e : Ended Float) (t u : Text) (terms kept rejected n : ℕ) (xs ys : List ℤ) (bits : List ℕ) (k : ℕ) (chroma : List Float) (symbols : List ℕ) → ended o l ≡ e →
     u ≡ written (listing terms kept rejected n xs ys l bits k chroma symbols) t → u ≡ written (listing terms kept rejected n xs ys e.list bits k chroma symbols) t
 relisted o l e t u terms kept rejected n xs ys bits k chroma symbols p h = rw (← p) h
 
@@ -50,8 +45,8 @@ module _ (s : Setting) (c : Card) (f : Left) (p : f ≡ read_of s c) (t u : Text
   unfolding text_of
   is_text k l e q h = h ∙ ap (λ (x : List ℕ). written x t) (q ∙ ap text_by (sym e ∙ ap (λ (g : Left). g.number) p))
 
-  refused : (k : ℕ) → f.answer ≡ Refused k → f.number ≡ k → u ≡ written (refused_line k) t → u ≡ written (text_of s c) t
-  refused k r e h = is_text k (refused_line k) e (refuses refused_line (listing_of s c) k k (refused-above s c k (ap (λ (g : Left). g.answer) (sym p) ∙ r)) refl) h
+  refused : (k : ℕ) → (k ≡ 0 → ⊥) → f.number ≡ k → u ≡ written (refused_line k) t → u ≡ written (text_of s c) t
+  refused k z e h = is_text k (refused_line k) e (refuses refused_line (listing_of s c) k k z refl) h
 
   listed : f.number ≡ 0 →
       u ≡ written (listing s.model.terms s.model.kept s.model.rejected (modules s) s.xs s.ys (unmask_luma_of f.lent.luma s.layout.side s.xs s.ys s.layout.grid s.mask).list f.lent.bits (length f.lent.chroma) f.lent.chroma f.lent.symbols) t →
@@ -63,7 +58,7 @@ module _ (s : Setting) (c : Card) (f : Left) (p : f ≡ read_of s c) (t u : Text
 
 -- the same over plain names
 module _ (q : Layout) (xs ys : List ℤ) (raw : List Float) (cxs cys : List ℕ) (craw palette : List Float) (mask : ℕ) (m : IlluminationModel) (n : ChannelStats)
-    (luma colours chroma scratch : List Float) (bits symbols : List ℕ) (o : Scored) (l d h k : List Float) (b y : List ℕ)
+    (luma colours chroma scratch : List Float) (bits symbols : List ℕ) (o : Result ScoreReport Refusal) (l d h k : List Float) (b y : List ℕ)
     (p : left o l d h k b y ≡ read_of (setting q xs ys cxs cys palette mask m n) (card raw craw luma colours chroma scratch bits symbols)) where
   abbrev s : Setting
   s = setting q xs ys cxs cys palette mask m n
@@ -71,17 +66,17 @@ module _ (q : Layout) (xs ys : List ℤ) (raw : List Float) (cxs cys : List ℕ)
   abbrev c : Card
   c = card raw craw luma colours chroma scratch bits symbols
 
-  pub not-read : (t u : Text) (j : ℕ) → o ≡ Refused j → u ≡ written (refused_line j) t → u ≡ written (text_of (setting q xs ys cxs cys palette mask m n) (card raw craw luma colours chroma scratch bits symbols)) t
-  not-read t u j r = refused s c (left o l d h k b y) p t u j r (ap number-said r)
+  pub not-read : (t u : Text) (j : Refusal) (i : ℕ) → i ≡ number_of j → o ≡ Err j → u ≡ written (refused_line i) t → u ≡ written (text_of (setting q xs ys cxs cys palette mask m n) (card raw craw luma colours chroma scratch bits symbols)) t
+  not-read t u j i e r f = refused s c (left o l d h k b y) p t u (number_of j) (numbered j) (ap (λ x. (said x).number) r) (f ∙ ap (λ (n : ℕ). written (refused_line n) t) e)
 
-  pub is_read : (t u : Text) (report : ScoreReport) → o ≡ Done report →
+  pub is_read : (t u : Text) (report : ScoreReport) → o ≡ Ok report →
       u ≡ written (listing m.terms m.kept m.rejected (length xs) xs ys (unmask_luma_of l q.side xs ys q.grid mask).list b (length h) h y) t →
       u ≡ written (text_of (setting q xs ys cxs cys palette mask m n) (card raw craw luma colours chroma scratch bits symbols)) t
-  is_read t u report r = listed s c (left o l d h k b y) p t u (ap number-said r)
+  is_read t u report r = listed s c (left o l d h k b y) p t u (ap (λ x. (said x).number) r)
 
-  pub listable : (report : ScoreReport) → o ≡ Done report → Listable xs ys l h b y
+  pub listable : (report : ScoreReport) → o ≡ Ok report → Listable xs ys l h b y
   listable report r =
-      let z = ap (λ (g : Left). g.number) (sym p) ∙ ap number-said r in
+      let z = ap (λ (g : Left). g.number) (sym p) ∙ ap (λ x. (said x).number) r in
       let a = all_accepted s c z in
       let e = p ∙ all_done s c z in
       let scores = unmask-luma-long (refined_card s c).luma q.side xs ys q.grid mask a.unmasking in

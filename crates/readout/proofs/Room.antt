@@ -20,8 +20,7 @@ use Rattle.limits.proofs.Laws.{symbol_bits_few}
 use Rattle.layout.specs.Groups.{shape, placement, module_placement}
 use Rattle.listing.specs.Listing.{refused_line}
 use Rattle.listing.proofs.Room.{listing-length, refused-length}
-use Rattle.answers.specs.declared.Outcome.TheVariants as outcome
-use Rattle.answers.specs.Answers.{ended, written_or}
+use Rattle.answers.specs.Answers.{Ended, written_or}
 use Rattle.lists.specs.Lists.{replace_at}
 use Rattle.modulate.specs.Score.{unmask_sentences, unmask_luma_of}
 use Rattle.reading.specs.Read.{reads, read_score_at, read_list, read_sentences, read_list_of}
@@ -65,8 +64,8 @@ number_small number r d zero a b h = omega arith
 number_small number r d (suc k) a b h = omega (arith, a (suc k))
 
 ended-small : {A : Type 0} (ss : List Sentence) (before after : List A) → tiny ss ≡ true → (written_or ss before after).number < 100
-ended-small ss before after h =
-    number_small (λ e. e.number) (λ n. ended (outcome.Refused n) before) (ended outcome.Done after) (refusal ss) (λ n. refl) refl (refusal-small ss h)
+ended-small {A} ss before after h =
+    number_small {A = Ended A} (λ e. e.number) (λ n. record { number = n; list = before }) (record { number = 0; list = after }) (refusal ss) (λ n. refl) refl (refusal-small ss h)
 
 read_small : (scores : List Float) (bits : List ℕ) → (read_list_of scores bits).number < 100
 unfolding read_list_of read_sentences tiny
@@ -130,7 +129,7 @@ list_bits scores bits p =
     for_up_to (λ n l. Bits l) (replace_at 0 (read_score_at scores)) (length scores) 0 bits (omega arith) p
     (λ j a b l q. set-bit l j (reads (get_or scores j nan)) (reads-most (get_or scores j nan)) q)
 
-ended_bits : (k : ℕ) (before after : List ℕ) → Bits before → Bits after → Bits (decided k (λ n. ended (outcome.Refused n) before) (ended outcome.Done after)).list
+ended_bits : (k : ℕ) (before after : List ℕ) → Bits before → Bits after → Bits (decided {A = Ended ℕ} k (λ n. record { number = n; list = before }) (record { number = 0; list = after })).list
 unfolding decided
 ended_bits zero before after p q = q
 ended_bits (suc k) before after p q = p

@@ -16,7 +16,6 @@ ghost use Rattle.readout.specs.Reading.{Listable};
 ghost use Rattle.readout.specs.Reading as spec;
 
 use card::Settings;
-use demod::Scored;
 use illum::IlluminationModel;
 use layout::Layout;
 use stats::ChannelStats;
@@ -38,7 +37,7 @@ fn list_read(
     requires { Listable xs.now ys.now luma.old chroma.now bits.now symbols.now }
     ensures { text result out.new ≡ written (lines.listing model.terms model.kept model.rejected (length xs.now) xs.now ys.now (unmask_luma_of luma.old layout.side xs.now ys.now layout.grid mask).list bits.now (length chroma.now) chroma.now symbols.now) (text 0 out.old) }
 {
-    modulate::unmask_luma(luma, layout.side, xs, ys, layout.grid, mask);
+    let _ = modulate::unmask_luma(luma, layout.side, xs, ys, layout.grid, mask);
     listing::listing(
         out,
         model.terms,
@@ -82,8 +81,8 @@ fn list_card(
         layout, xs, ys, raw, cxs, cys, craw, palette, mask, model, noise, luma, colours, chroma,
         scratch, bits, symbols,
     ) {
-        Scored::Refused(n) => listing::refused_line(out, n),
-        Scored::Done(_) => list_read(
+        Err(refusal) => listing::refused_line(out, u32::from(refusal)),
+        Ok(_) => list_read(
             layout, xs, ys, mask, model, luma, chroma, bits, symbols, out,
         ),
     }

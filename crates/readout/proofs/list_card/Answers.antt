@@ -4,10 +4,10 @@ use Rattle.readout.proofs.list_card.Goals as goal
 
 pub list_read-requires : goal.list_read-requires
 list_read-requires c =
-    listable _ _ _ _ _ _ _ _ _ _ _ _ _ _ _ _ _ _ _ _ _ _ _ _ c.read_bits.ensures.0 c.in-Done.field-0 c.in-Done.is
+    listable _ _ _ _ _ _ _ _ _ _ _ _ _ _ _ _ _ _ _ _ _ _ _ _ c.read_bits.ensures.0 c.in-Ok.field-0 c.in-Ok.is
 
-pub returns-in-Refused : goal.returns-in-Refused
-returns-in-Refused c = search (not-read)
+pub returns-in-Err : goal.returns-in-Err
+returns-in-Err c = search (not-read)
 
-pub returns-in-Done : goal.returns-in-Done
-returns-in-Done c = search (is_read)
+pub returns-in-Ok : goal.returns-in-Ok
+returns-in-Ok c = search (is_read)
