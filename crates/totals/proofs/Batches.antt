@@ -174,9 +174,3 @@ module _ (luma : List Float) (s₀ s : Totals) (i : ℕ) where
 pub card-summed : (t s : Totals) (luma : List Float) (i : ℕ) → s ≡ after (totals (t.cards + 1) t.modules t.undecided t.under t.sum) (take i luma) → length luma ≤ i → s ≡ plus t (of_card luma)
 unfolding of_card
 card-summed t s luma i e h = e ∙ ap (after (totals (t.cards + 1) t.modules t.undecided t.under t.sum)) (take_all i luma h)
-
--- u, w and p are what the code counted of v
-pub scored : (t : Totals) (v : Float) (a b : Bool) (u w p : ℕ) → a ≡ undecided v → b ≡ under v → u ≡ one a → w ≡ one b → p ≡ parts_of v
-    → totals t.cards (t.modules + 1) (t.undecided + u) (t.under + w) (t.sum + p) ≡ add_score v t
-unfolding add_score
-scored t v a b u w p e f g h k = rw (g, h, k, e, f)

@@ -1,12 +1,10 @@
 -- What sentence 18 leaves: totals in their limits, which sums of few enough cards keep, since each limit is so much a card or a module. Assumes nothing.
-use mathlib.Core.Path.{◌≡◌, sym, ◌∙◌}
-use mathlib.Core.Bool.{Bool, false}
-use mathlib.Core.List.{List, ◌∷◌}
-use Prim.Native.Nat.{ℕ, ◌+◌, ◌*◌, ◌≤◌, ◌<◌}
+use mathlib.Core.Path.{◌≡◌}
+use mathlib.Core.Bool.{false}
+use Prim.Native.Nat.{◌+◌, ◌*◌, ◌≤◌}
 use native.Mathlib.Omega.{arith}
-use borrow.Author.Tests.{ltb-false, lt-ltb, le-ltb}
+use borrow.Author.Tests.{ltb-false, le-ltb}
 use lib.Dec.{ltb}
-use Rattle.sentences.specs.Sentences.{Sentence, ◌when◌, refusal}
 use Rattle.sentences.proofs.Laws.{neither}
 use Rattle.totals.specs.declared.Totals.{Totals}
 use Rattle.totals.specs.Batch.{nothing, plus, bad_totals, Good}
@@ -38,10 +36,6 @@ not-bad t g =
       le-ltb (1310720 * t.modules) t.sum g.sum,
     )
 
--- r is what the code's test gave
-pub good-cards : (t : Totals) (r : Bool) → r ≡ bad_totals t → r ≡ false → t.cards ≤ 65535
-good-cards t r e h = (good t (sym e ∙ h)).cards
-
 -- ---- two batches
 
 pub both-good : (a b : Totals) → too_many a b ≡ false → Good a × Good b × (a.cards + b.cards ≤ 65535)
@@ -57,14 +51,3 @@ plus-good a b p q h =
 
 pub nothing-good : Good nothing
 nothing-good = record { cards = omega arith; modules = omega arith; undecided = omega arith; under = omega arith; sum = omega arith }
-
--- ---- sentence 6, as the code's test has it
-
-module _ (n k : ℕ) (ss : List Sentence) (m l : ℕ) where
-  pub long : l < k → n ≡ refusal ((n when ltb l k) ∷ ss)
-  unfolding refusal
-  long h = rw (lt-ltb l k h)
-
-  pub not-long : k ≤ l → m ≡ refusal ss → m ≡ refusal ((n when ltb l k) ∷ ss)
-  unfolding refusal
-  not-long h e = rw (le-ltb l k h) e

@@ -20,7 +20,7 @@ use answers::Refusal;
 // What a batch adds up to: its cards, its modules, those of them that are undecided, those whose score's magnitude is
 // under 12, and the sum of the magnitudes in 65,536ths.
 #[repr(C)]
-#[derive(Clone, Copy)]
+#[derive(Clone, Copy, Debug, Default, PartialEq, Eq, Hash)]
 pub struct Totals {
     pub cards: u64,
     pub modules: u64,
@@ -31,28 +31,24 @@ pub struct Totals {
 
 // A fraction of two whole numbers.
 #[repr(C)]
-#[derive(Clone, Copy)]
+#[derive(Clone, Copy, Debug, PartialEq, Eq, Hash)]
 pub struct Ratio {
     pub numerator: u64,
     pub denominator: u64,
 }
 
 // The totals of no card, all zero. Refuses nothing.
+#[tactic(auto, unfolding(crate::specs::Batch::of_cards))]
 pub fn empty_totals() -> Totals
     ensures { result ≡ spec.of_cards [] }
 {
-    Totals {
-        cards: 0,
-        modules: 0,
-        undecided: 0,
-        under: 0,
-        sum: 0,
-    }
+    Totals::default()
 }
 
 // ---- one score
 
 // Sentence 19, of one score: a NaN, or above 20 in magnitude.
+#[tactic(auto, using(crate::proofs::Score::n20), unfolding(crate::specs::Score::unfit))]
 fn unfit(v: f32) -> bool
     ensures { result ≡ score.unfit v }
 {
@@ -60,6 +56,7 @@ fn unfit(v: f32) -> bool
 }
 
 // Whether a score is undecided: it reads as no bit, being a zero of either sign or a NaN.
+#[tactic(auto, unfolding(crate::specs::Score::undecided))]
 fn undecided(v: f32) -> bool
     ensures { result ≡ score.undecided v }
 {
@@ -67,6 +64,7 @@ fn undecided(v: f32) -> bool
 }
 
 // Whether a score is under 12 in magnitude.
+#[tactic(auto, using(crate::proofs::Score::n12), unfolding(crate::specs::Score::under))]
 fn under(v: f32) -> bool
     ensures { result ≡ score.under v }
 {
@@ -79,7 +77,7 @@ fn parts(v: f32) -> u64
     requires { score.unfit v ≡ false }
     ensures { (result ≡ score.parts_of v) × (result ≤ 1310720) × NearestWhole (score.size v) score.per_part result }
 {
-    let g = f32::to_bits(v) % 0x8000_0000;
+    let g = v.to_bits() % 0x8000_0000;
     let field = g / 0x80_0000;
     if field < 110 {
         return 0;
@@ -87,29 +85,33 @@ fn parts(v: f32) -> u64
     float::round_shift((g % 0x80_0000 + 0x80_0000) as u64, (134 - field) as u64)
 }
 
-// 1 where b holds.
-fn one(b: bool) -> u64
-    ensures { (result ≡ spec.one b) × (result ≤ 1) }
-{
-    if b { 1 } else { 0 }
-}
-
 // ---- a card
 
-// A module of score v more.
-fn add_score(t: Totals, v: f32) -> Totals
-    requires { (score.unfit v ≡ false) × spec.Room t }
-    ensures { result ≡ spec.add_score v t }
-{
-    let p = parts(v);
-    let u = one(undecided(v));
-    let w = one(under(v));
-    Totals {
-        cards: t.cards,
-        modules: t.modules + 1,
-        undecided: t.undecided + u,
-        under: t.under + w,
-        sum: t.sum + p,
+impl Totals {
+    // Counts a module more, of score v.
+    #[tactic(auto, unfolding(crate::specs::Batch::add_score))]
+    fn add_score(&mut self, v: f32)
+        requires { (score.unfit v ≡ false) × spec.Room self.old }
+        ensures { self.new ≡ spec.add_score v self.old }
+    {
+        self.modules += 1;
+        self.undecided += u64::from(undecided(v));
+        self.under += u64::from(under(v));
+        self.sum += parts(v);
+    }
+
+    // The sum of two, field by field.
+    fn plus(self, other: Totals) -> Totals
+        requires { spec.Good self × spec.Good other × (self.cards + other.cards ≤ 65535) }
+        ensures { result ≡ spec.plus self other }
+    {
+        Totals {
+            cards: self.cards + other.cards,
+            modules: self.modules + other.modules,
+            undecided: self.undecided + other.undecided,
+            under: self.under + other.under,
+            sum: self.sum + other.sum,
+        }
     }
 }
 
@@ -118,62 +120,46 @@ fn add_scores(t: Totals, luma: &[f32]) -> Totals
     requires { spec.Good t × (t.cards < 65535) × spec.FitCard luma.now }
     ensures { result ≡ spec.plus t (spec.of_card luma.now) }
 {
-    let mut s = Totals {
+    let mut sums = Totals {
         cards: t.cards + 1,
-        modules: t.modules,
-        undecided: t.undecided,
-        under: t.under,
-        sum: t.sum,
+        ..t
     };
-    for i in 0..luma.len() {
-        s = add_score(s, luma[i]);
+    for &v in luma {
+        sums.add_score(v);
     }
-    s
+    sums
 }
 
 // Sentence 18, of totals that are handed in: more than 65,535 cards, 1,048,576 modules a card, their modules in a count,
 // or 1,310,720 a module in the sum. In this order no product wraps.
+#[tactic(auto, unfolding(crate::specs::Batch::bad_totals))]
 fn bad_totals(t: Totals) -> bool
     ensures { result ≡ spec.bad_totals t }
 {
-    if 65535 < t.cards {
-        return true;
-    }
-    if 1048576 * t.cards < t.modules {
-        return true;
-    }
-    if t.modules < t.undecided {
-        return true;
-    }
-    if t.modules < t.under {
-        return true;
-    }
-    1310720 * t.modules < t.sum
+    65535 < t.cards
+        || 1048576 * t.cards < t.modules
+        || t.modules < t.undecided
+        || t.modules < t.under
+        || 1310720 * t.modules < t.sum
 }
 
 // Sentence 19, of all scores: one is a NaN, or above 20 in magnitude.
 fn bad_scores(luma: &[f32]) -> bool
     ensures { result ≡ spec.unfit_in luma.now }
 {
-    for i in 0..luma.len() {
-        if unfit(luma[i]) {
-            return true;
-        }
-    }
-    false
+    luma.iter().any(|&v| unfit(v))
 }
 
 // Sentence 18, of one card more.
+#[tactic(auto, unfolding(crate::specs::Calls::full, crate::specs::Batch::bad_totals))]
 fn full(t: Totals) -> bool
     ensures { result ≡ call.full t }
 {
-    if bad_totals(t) {
-        return true;
-    }
-    65535 < t.cards + 1
+    bad_totals(t) || 65535 < t.cards + 1
 }
 
 // Whether totals and a card pass. Refused: 6, 18, 19.
+#[tactic(auto, unfolding(crate::specs::Calls::card_sentences, sentences::specs::Sentences::refusal))]
 fn check_card(t: Totals, luma: &[f32]) -> Result<(), Refusal>
     ensures { outcome_number result ≡ refusal (call.card_sentences t luma.now) }
 {
@@ -201,30 +187,11 @@ pub fn add_card(t: Totals, luma: &[f32]) -> Result<Totals, Refusal>
 // ---- two batches
 
 // Sentence 18, of two batches.
+#[tactic(auto, unfolding(crate::specs::Calls::too_many, crate::specs::Batch::bad_totals))]
 fn too_many(a: Totals, b: Totals) -> bool
     ensures { result ≡ call.too_many a b }
 {
-    if bad_totals(a) {
-        return true;
-    }
-    if bad_totals(b) {
-        return true;
-    }
-    65535 < a.cards + b.cards
-}
-
-// Field by field.
-fn plus(a: Totals, b: Totals) -> Totals
-    requires { spec.Good a × spec.Good b × (a.cards + b.cards ≤ 65535) }
-    ensures { result ≡ spec.plus a b }
-{
-    Totals {
-        cards: a.cards + b.cards,
-        modules: a.modules + b.modules,
-        undecided: a.undecided + b.undecided,
-        under: a.under + b.under,
-        sum: a.sum + b.sum,
-    }
+    bad_totals(a) || bad_totals(b) || 65535 < a.cards + b.cards
 }
 
 // The totals of two batches added. What is answered can be handed in again, and where a and b are the totals of some
@@ -235,7 +202,7 @@ pub fn add_totals(a: Totals, b: Totals) -> Result<Totals, Refusal>
     if too_many(a, b) {
         return Err(Refusal::Totals);
     }
-    Ok(plus(a, b))
+    Ok(a.plus(b))
 }
 
 // ---- the mean
@@ -244,12 +211,9 @@ pub fn add_totals(a: Totals, b: Totals) -> Result<Totals, Refusal>
 fn gcd(a: u64, b: u64) -> u64
     ensures { result ≡ average.gcd a b }
 {
-    let mut x = a;
-    let mut y = b;
+    let (mut x, mut y) = (a, b);
     while y != 0 {
-        let r = x % y;
-        x = y;
-        y = r;
+        (x, y) = (y, x % y);
     }
     x
 }
