@@ -3,12 +3,11 @@
 -- their patterns. Assumes nothing.
 use Rattle.std.proofs.Common.{◌≡◌, ℕ, suc, ◌+◌, ◌-◌, ◌*◌, ◌/◌, ◌%◌, ◌^◌, ◌<◌, ◌≤◌, Bool, true, false, cond, not, T, ltb, leb, sym, refl, ap, ◌∙◌, subst, le_trans, le_of_eq, lt_of_lt_of_le, le_of_suc-le-suc, le-add_right, lt_of_le_of_lt, mod-lt, zero-lt-suc, mul_assoc, mul-le-mul, mul-le-mul_left, mul-lt-mul_of_pos_right, one-mul, pow-suc, div-add-mod', zero-add, add-one, arith, lit<, ltb→lt, nltb→le, pow_pos, pow_mono, pow-add, shl_lt, shl_exact, le-leb}
 use native.Mathlib.Nat.{pow-zero}
-use lib.Ieee.{Float, nan, inf, fin, binary32, odd, of_bits, to_bits, is_nan, fits, ne}
+use lib.Ieee.{Float, nan, inf, fin, binary32, odd, of_bits, to_bits, is_nan, fits}
 use borrow.Author.Tests.{lt-leb}
 use Rattle.float.specs.Root.{root_of_units, sqrt_of, cbrt_of}
 use Rattle.float.specs.Parts.{Split}
 use Rattle.floatlaws.specs.Whole.{pow_pow, root_lt}
-use Rattle.floatlaws.specs.Nan.{a_nan}
 use Rattle.floatlaws.specs.Bits.{value_of, by_value, by_zero, by_inf, made}
 use Rattle.float.proofs.Iroot.{rounded}
 
@@ -121,9 +120,9 @@ module _ (u m s t : ℕ) (P : Split u m s) (lo : t * t * t ≤ m * 2 ^ (1 + s % 
       exponent d = omega arith
 
 -- ---- the special values
-pub cbrt-nan : (x : Float) → ne x x ≡ true → x ≡ cbrt_of x
+pub cbrt-nan : (x : Float) → x ≡ nan → x ≡ cbrt_of x
 unfolding cbrt_of
-cbrt-nan x e = subst (λ (y : Float). y ≡ cbrt_of y) (sym (a_nan x e)) refl
+cbrt-nan x e = rw e
 
 pub cbrt-zero : (x : Float) → T (fits binary32 x) → to_bits binary32 x % 0x8000_0000 ≡ 0 → x ≡ cbrt_of x
 unfolding cbrt_of
@@ -140,17 +139,13 @@ cbrt-finite x F h k =
     let z = by_value binary32 x F h k in
     ap cbrt_of z.is ∙ ap (root_of_units 3 (leb 0x8000_0000 (to_bits binary32 x))) z.size
 
-pub sqrt-nan : (x : Float) → ne x x ≡ true → x ≡ sqrt_of x
+pub sqrt-nan : (x : Float) → x ≡ nan → x ≡ sqrt_of x
 unfolding sqrt_of
-sqrt-nan x e = subst (λ (y : Float). y ≡ sqrt_of y) (sym (a_nan x e)) refl
+sqrt-nan x e = rw e
 
 pub sqrt-zero : (x : Float) → T (fits binary32 x) → to_bits binary32 x % 0x8000_0000 ≡ 0 → x ≡ sqrt_of x
 unfolding sqrt_of
 sqrt-zero x F e = subst (λ (y : Float). y ≡ sqrt_of y) (sym (by_zero binary32 x F e)) refl
-
--- the sign's bit is clear
-pub clear : (b : ℕ) → b ≤ 0x8000_0000 → (b ≡ 0x8000_0000 → ⊥) → b < 0x8000_0000
-clear b h k = omega arith
 
 pub sqrt-inf : (x : Float) → T (fits binary32 x) → T (not (is_nan x)) → to_bits binary32 x < 0x8000_0000
     → 0x7f80_0000 ≤ to_bits binary32 x % 0x8000_0000 → x ≡ sqrt_of x

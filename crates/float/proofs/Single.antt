@@ -3,14 +3,13 @@
 -- keeps the order (`single_mono`), and no value of binary32 is nearer (`single-nearest`); `single-rounds` opens every law of `floatlaws` to it.
 -- Assumes nothing.
 use Rattle.std.proofs.Common.{◌≡◌, ℕ, ◌+◌, ◌-◌, ◌*◌, ◌/◌, ◌%◌, ◌^◌, ◌<◌, ◌≤◌, Bool, true, false, cond, not, T, leb, ◌⊎◌, ℤ, sym, refl, ap, ◌∙◌, subst, inl, inr, le_trans, le_of_eq, le_refl, lt_of_lt_of_le, add-zero, mul-le-mul_right, mul_assoc, eq-zero-or-pos, eq-or-lt_of_le, le-div_iff_mul-le, zero-mul, arith, lit<, lit≤, pow_pos, pow_mono, pow-add, shl_lt, shr_lt}
-use lib.Ieee.{Float, nan, inf, fin, binary32, binary64, up, down, odd, units, round, ne, div, fits, is_nan, of_fields, of_bits, nan_bits, to_bits}
+use lib.Ieee.{Float, nan, inf, fin, binary32, binary64, up, down, odd, units, round, fits, is_nan, of_fields, of_bits, nan_bits, to_bits}
 use lib.Ieee.Fits.{down_pos, nan-fits, inf-fits, round-fits}
 use lib.Ieee.Bits.{is_false, of_bits-to_bits, to_bits-lt}
 use lib.Ieee.Exact.{HasValue, odd_sign, round_exact}
 use lib.Ieee.Nearest.{closest}
 use lib.Ieee.Scale.{round_same}
 use Rattle.floatlaws.specs.Whole.{size_at, closest_is, closest-zero, closest_hi, closest_lo}
-use Rattle.floatlaws.specs.Nan.{a_nan, zero_by_zero}
 use Rattle.floatlaws.specs.Value.{big, mag, hi, lo, Num, shape, mag-shape, mag_is}
 use Rattle.floatlaws.specs.Order.{Le, widen-num, widen-sides}
 use Rattle.floatlaws.specs.Near.{Rounds, round-num}
@@ -217,9 +216,9 @@ module _ (x : Float) (h : T (fits binary64 x)) (r : ℕ) (n : Narrows (to_bits b
       let l : r ≤ 0x7f80_0000 = n.small in
       real-pattern binary32 (to_bits binary64 x / 0x8000_0000_0000_0000 * 0x8000_0000 + r) (omega arith)
 
-pub nan_is : (x : Float) → ne x x ≡ true → div binary32 (of_bits binary32 0) (of_bits binary32 0) ≡ to_single x
-unfolding to_single
-nan_is x e = zero_by_zero binary32 ∙ ap to_single (sym (a_nan x e))
+pub nan_is : (x : Float) → x ≡ nan → of_bits binary32 0x7fc0_0000 ≡ to_single x
+unfolding of_bits to_single
+nan_is x e = rw e
 
 -- ---- a value of binary32 is kept
 pub single_same : (x : Float) → T (fits binary32 x) → to_single x ≡ x

@@ -2,9 +2,16 @@
 // follow each other. Nothing is proved of their numbers. (A `match`, since it compiles to a table: a constant array is
 // built anew at each use.)
 
-// The parabola (r.0 * x + r.1) * x + r.2.
-#[derive(Clone, Copy)]
-pub struct Row(pub f64, pub f64, pub f64);
+// The parabola (self.0 * x + self.1) * x + self.2.
+#[derive(Clone, Copy, Debug)]
+pub struct Row(f64, f64, f64);
+
+impl Row {
+    // Core: its value at x.
+    pub fn at(self, x: f64) -> f64 {
+        (self.0 * x + self.1) * x + self.2
+    }
+}
 
 // Core: near k / √x to 2.5 parts in a million, where k ^ 3 = -1 / 2, for x from 2 ^ 48 to 2 ^ 50.
 pub fn inverse_sqrt(i: u32) -> Row {

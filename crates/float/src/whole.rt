@@ -4,24 +4,6 @@ ghost use Rattle.std.specs.Prelude.{◌≡◌, ◌+◌, ◌*◌, ◌^◌, ◌<�
 
 use super::rows;
 
-// The whole part of the square root of w, by halving an interval.
-fn isqrt_slow(w: u64) -> u64
-    requires { w < 2 ^ 50 }
-    ensures { (result * result ≤ w) × (w < (result + 1) * (result + 1)) }
-{
-    let mut lo = 0u64;
-    let mut hi = 33554432u64;
-    while lo + 1 < hi {
-        let mid = (lo + hi) / 2;
-        if mid * mid <= w {
-            lo = mid;
-        } else {
-            hi = mid;
-        }
-    }
-    lo
-}
-
 // The whole part of the cube root of a, by halving an interval.
 fn icbrt(a: u64) -> u64
     requires { a < 2 ^ 27 }
@@ -48,18 +30,16 @@ fn icbrt_slow(a: u64) -> u64
 {
     let mut q = icbrt(a);
     let mut r = a - q * q * q;
-    let mut i = 0u64;
-    while i < 16 {
+    for _ in 0..16u32 {
         let p = q + q;
         let step = 3 * (p * (p + 1)) + 1;
-        r = r * 8;
+        r *= 8;
         if step <= r {
-            r = r - step;
+            r -= step;
             q = p + 1;
         } else {
             q = p;
         }
-        i += 1;
     }
     q
 }
@@ -73,8 +53,7 @@ fn guess_sqrt(w: u64, i: u32) -> f64
     requires { w < 2 ^ 50 }
 {
     let x = f64::from_bits(0x4330_0000_0000_0000 + w) - 4503599627370496.0;
-    let r = rows::inverse_sqrt(i);
-    let z = (r.0 * x + r.1) * x + r.2;
+    let z = rows::inverse_sqrt(i).at(x);
     let v = x * z;
     v * (v * z - 1.889881574855) + 4503599627370495.5
 }
@@ -84,8 +63,7 @@ fn guess_cbrt(a: u64, i: u32) -> f64
     requires { a < 2 ^ 27 }
 {
     let x = f64::from_bits(0x4330_0000_0000_0000 + a) - 4503599627370496.0;
-    let r = rows::inverse_cbrt(i);
-    let z = (r.0 * x + r.1) * x + r.2;
+    let z = rows::inverse_cbrt(i).at(x);
     let v = x * z;
     (v * z) * (v * (z * z) + 1521.1540974745) + 4503599627370495.5
 }
@@ -100,35 +78,28 @@ fn is_icbrt(g: u64, a: u64) -> bool
     let high = s / 0x100_0000 * g;
     let low = s % 0x100_0000 * g;
     let units = a * 0x100_0000;
-    if high <= units {
-        let d = units - high;
-        if d < 0x1_0000_0000 {
-            let left = d * 0x100_0000;
-            if low <= left {
-                return left - low <= 3 * (s + g);
-            }
-        }
+    if units < high || 0x1_0000_0000 <= units - high {
+        return false;
     }
-    false
+    let left = (units - high) * 0x100_0000;
+    low <= left && left - low <= 3 * (s + g)
 }
 
-// Core: the whole part of the square root of w: the guess g, if what is left of w after g * g shows it to be that.
-// i is the row that it is guessed by, and may be any number.
+// Core: the whole part of the square root of w: the guess g, if what is left of w after g * g shows it to be that, which is
+// quicker than the library's way. i is the row that it is guessed by, and may be any number.
 pub fn isqrt(w: u64, i: u32) -> u64
     requires { w < 2 ^ 50 }
     ensures { (result * result ≤ w) × (w < (result + 1) * (result + 1)) }
 {
     let x = guess_sqrt(w, i);
-    if x == x {
-        let g = f64::to_bits(x) % 67108864;
+    if !x.is_nan() {
+        let g = x.to_bits() % 67108864;
         let s = g * g;
-        if s <= w {
-            if w - s <= 2 * g {
-                return g;
-            }
+        if s <= w && w - s <= 2 * g {
+            return g;
         }
     }
-    isqrt_slow(w)
+    w.isqrt()
 }
 
 // Core: the whole part of the cube root of a * 2 ^ 48, in the same way.
@@ -137,8 +108,8 @@ pub fn icbrt_long(a: u64, i: u32) -> u64
     ensures { (result * result * result ≤ a * 2 ^ 48) × (a * 2 ^ 48 < (result + 1) * (result + 1) * (result + 1)) }
 {
     let x = guess_cbrt(a, i);
-    if x == x {
-        let g = f64::to_bits(x) % 67108864;
+    if !x.is_nan() {
+        let g = x.to_bits() % 67108864;
         if is_icbrt(g, a) {
             return g;
         }

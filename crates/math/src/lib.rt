@@ -39,7 +39,8 @@ fn put(a: &mut [f64], n: usize, r: usize, k: usize, v: f64)
 
 // ---- the pivot
 
-// |x| for comparisons: a zero may have either sign, which no comparison sees.
+// |x| for comparisons: a zero may have either sign, which no comparison sees. (`f64::abs` tests for a zero too: a search for
+// a pivot takes a tenth longer with it.)
 fn magnitude(x: f64) -> f64
     ensures { Alike result (abs x) }
 {

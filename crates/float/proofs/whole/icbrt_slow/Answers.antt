@@ -14,35 +14,35 @@ overflow_mul-r c = record { fits = square-fits _ (omega arith) }
 pub overflow_mul-r-2 : goal.overflow_mul-r-2
 overflow_mul-r-2 c = record { fits = cube-fits _ (omega arith) }
 
-pub loop-i-init : goal.loop-i-init
-loop-i-init c = begin _ _ c.icbrt-q.ensures.0 c.icbrt-q.ensures.1.0 c.icbrt-q.ensures.1.1
+pub loop-init : goal.loop-init
+loop-init c = begin _ _ c.icbrt-q.ensures.0 c.icbrt-q.ensures.1.0 c.icbrt-q.ensures.1.1
 
 pub overflow_add-p : goal.overflow_add-p
-overflow_add-p c = omega (arith, short c.loop-i.q c.loop-i.i c.loop-i-test.true c.loop-i.invariant.1)
+overflow_add-p c = omega (arith, short c.loop.q c.loop.counter c.loop-test.true c.loop.invariant.1)
 
 pub overflow_add-step : goal.overflow_add-step
-overflow_add-step c = omega (arith, short c.loop-i.q c.loop-i.i c.loop-i-test.true c.loop-i.invariant.1)
+overflow_add-step c = omega (arith, short c.loop.q c.loop.counter c.loop-test.true c.loop.invariant.1)
 
 pub overflow_mul-step : goal.overflow_mul-step
-overflow_mul-step c = record { fits = pair_fits _ (short c.loop-i.q c.loop-i.i c.loop-i-test.true c.loop-i.invariant.1) }
+overflow_mul-step c = record { fits = pair_fits _ (short c.loop.q c.loop.counter c.loop-test.true c.loop.invariant.1) }
 
-pub overflow_mul-step-in-loop-i : goal.overflow_mul-step-in-loop-i
-overflow_mul-step-in-loop-i c = record { fits = pairs-fit _ (short c.loop-i.q c.loop-i.i c.loop-i-test.true c.loop-i.invariant.1) }
+pub overflow_mul-step-in-loop : goal.overflow_mul-step-in-loop
+overflow_mul-step-in-loop c = record { fits = pairs-fit _ (short c.loop.q c.loop.counter c.loop-test.true c.loop.invariant.1) }
 
-pub overflow_add-step-in-loop-i : goal.overflow_add-step-in-loop-i
-overflow_add-step-in-loop-i c = record { fits = step_fits _ (short c.loop-i.q c.loop-i.i c.loop-i-test.true c.loop-i.invariant.1) }
+pub overflow_add-step-in-loop : goal.overflow_add-step-in-loop
+overflow_add-step-in-loop c = record { fits = step_fits _ (short c.loop.q c.loop.counter c.loop-test.true c.loop.invariant.1) }
 
-pub overflow_mul-r-in-loop-i : goal.overflow_mul-r-in-loop-i
-overflow_mul-r-in-loop-i c = record { fits = rest-fits _ _ (short c.loop-i.q c.loop-i.i c.loop-i-test.true c.loop-i.invariant.1) c.loop-i.invariant.3 }
+pub overflow_mul-r-in-loop : goal.overflow_mul-r-in-loop
+overflow_mul-r-in-loop c = record { fits = rest-fits _ _ (short c.loop.q c.loop.counter c.loop-test.true c.loop.invariant.1) c.loop.invariant.3 }
 
 pub overflow_add-q : goal.overflow_add-q
-overflow_add-q c = omega (arith, short c.loop-i.q c.loop-i.i c.loop-i-test.true c.loop-i.invariant.1)
+overflow_add-q c = omega (arith, short c.loop.q c.loop.counter c.loop-test.true c.loop.invariant.1)
 
-pub loop-i-preserved : goal.loop-i-preserved
-loop-i-preserved c = elim c.if-step-r.branch [
-  | then-step-r w ↦ moved _ _ w.q-is w.r-is (one _ _ _ _ c.loop-i.invariant c.loop-i-test.true w.if-step-r.true)
-  | else-step-r w ↦ moved _ _ w.q-is w.r-is (none _ _ _ _ c.loop-i.invariant c.loop-i-test.true w.if-step-r.false)
+pub loop-preserved : goal.loop-preserved
+loop-preserved c = elim c.if-step-r.branch [
+  | then-step-r w ↦ moved _ _ w.q-is w.r-is (one _ _ _ _ c.loop.invariant c.loop-test.true w.if-step-r.true)
+  | else-step-r w ↦ moved _ _ w.q-is w.r-is (none _ _ _ _ c.loop.invariant c.loop-test.true w.if-step-r.false)
 ]
 
 pub returns : goal.returns
-returns c = done _ _ _ _ c.loop-i.invariant c.loop-i-test.false
+returns c = done _ _ _ _ c.loop.invariant c.loop-test.false

@@ -1,7 +1,7 @@
--- `float::norm` meets its contract, by `norm_field` of `proofs/Lead.antt`. Assumes nothing.
+-- `float::Parts::norm` meets its contract, by `norm_field` of `proofs/Lead.antt`. Assumes nothing.
 use Rattle.std.proofs.Common.{arith}
 use Rattle.float.proofs.Lead.{lead_le, norm_field}
-use Rattle.float.proofs.norm.Goals as goal
+use Rattle.float.proofs.Parts.norm.Goals as goal
 
 pub overflow_sub-z : goal.overflow_sub-z
 overflow_sub-z c = (lead_le c.args.m c.requires.0 c.requires.1.0).0
