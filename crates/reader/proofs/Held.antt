@@ -7,19 +7,20 @@ use lib.IntN.{ℤ}
 use lib.ListN.{length}
 use lib.Ieee.{Float}
 use Rattle.card.specs.declared.Card.{Card}
-use Rattle.card.specs.declared.Opened.{Opened}
-use Rattle.card.specs.declared.Opened.TheVariants.{Accepted}
-use Rattle.card.specs.File.{opened_said, opened}
+use Rattle.std.specs.Prelude.{Result, Ok}
+use Rattle.answers.specs.declared.refusal.Refusal.{Refusal}
+use Rattle.answers.specs.Answers.{said}
+use Rattle.card.specs.File.{opened}
 use Rattle.card.specs.Sections.{float_at, position_of, coordinate_at}
 use Rattle.card.proofs.Accepted.{Held, accepted}
 use Rattle.readout.specs.Sheet.{Few}
 use Rattle.reader.specs.File.{sheet_of, floats_of, Modules, Cells, Fits}
 use Rattle.reader.proofs.Lists.{list_length}
 
-held : (s : List ℕ) (o : Opened) (c : Card) → opened_said o ≡ opened 5 s → o ≡ Accepted c → Held s c
-held s o c p e = accepted s c (ap opened_said (sym e) ∙ p)
+held : (s : List ℕ) (o : Result Card Refusal) (c : Card) → said o ≡ opened 5 s → o ≡ Ok c → Held s c
+held s o c p e = accepted s c (ap said (sym e) ∙ p)
 
-pub fits : (s : List ℕ) (o : Opened) (c : Card) → opened_said o ≡ opened 5 s → o ≡ Accepted c → Fits c
+pub fits : (s : List ℕ) (o : Result Card Refusal) (c : Card) → said o ≡ opened 5 s → o ≡ Ok c → Fits c
 fits s o c p e =
     let h = held s o c p e in
     record { side = h.side; palette = omega arith; references = omega arith; modules = omega arith; cells = omega arith; whole = omega arith }

@@ -11,18 +11,18 @@ use lib.Ieee.{Float}
 use lib.ListN.{length, take, drop}
 use lib.Seq.{take-append_seam, drop-append_seam}
 use Rattle.sentences.specs.Sentences.{refusal, decided}
-use Rattle.answers.specs.Answers.{Said, refused_by, gives}
+use Rattle.answers.specs.Answers.{Said, refused_by, gives, said, number_of}
 use Rattle.card.specs.declared.Card.{Card}
-use Rattle.card.specs.declared.Opened.{Opened}
-use Rattle.card.specs.declared.Opened.TheVariants as opening
-use Rattle.card.specs.File.{card_of, opened_said, file_sentences, opened}
+use Rattle.std.specs.Prelude.{Result, Ok, Err}
+use Rattle.answers.specs.declared.refusal.Refusal.{Refusal}
+use Rattle.card.specs.File.{card_of, file_sentences, opened}
 use Rattle.card.specs.Sections.{position_of}
 use Rattle.card.proofs.Signed.{position-small}
 use Rattle.listing.specs.Text.{Text, text, written}
 use Rattle.listing.specs.Listing.{refused_line}
 use Rattle.listing.proofs.Room.{in_full}
 use Rattle.illum.specs.declared.IlluminationModel.{IlluminationModel}
-use Rattle.illum.specs.declared.Modelled.{Modelled}
+use Rattle.illum.specs.Refusals.{Modelled}
 use Rattle.stats.specs.declared.ChannelStats.{ChannelStats}
 use Rattle.measure.specs.declared.Measurement.{Measurement}
 use Rattle.references.specs.References.{reference_placement}
@@ -84,14 +84,14 @@ opened-small pairs s =
     number_small (λ e. e.number) refused_by (gives (card_of pairs s)) (refusal (file_sentences pairs s)) (λ n. refl) refl
     (refusal-small (file_sentences pairs s) refl)
 
-module _ (s : List ℕ) (o : Opened) (p : opened_said o ≡ opened 5 s) where
-  pub refused_in : (n : ℕ) → o ≡ opening.Refused n → length (card_text s) ≤ listing_room
+module _ (s : List ℕ) (o : Result Card Refusal) (p : said o ≡ opened 5 s) where
+  pub refused_in : (r : Refusal) → o ≡ Err r → length (card_text s) ≤ listing_room
   unfolding card_text after_opening
-  refused_in n e =
-      let q : refused_by n ≡ opened 5 s = ap opened_said (sym e) ∙ p in
-      rw (← q) (line_in n (omega (arith, opened-small 5 s, ap (λ (a : Said Card). a.number) q)))
+  refused_in r e =
+      let q : refused_by (number_of r) ≡ opened 5 s = ap said (sym e) ∙ p in
+      rw (← q) (line_in (number_of r) (omega (arith, opened-small 5 s, ap (λ (a : Said Card). a.number) q)))
 
-  pub opened_in : (c : Card) → o ≡ opening.Accepted c → length (fit_text (sheet_of s c) (references_of s c)) ≤ listing_room → length (card_text s) ≤ listing_room
+  pub opened_in : (c : Card) → o ≡ Ok c → length (fit_text (sheet_of s c) (references_of s c)) ≤ listing_room → length (card_text s) ≤ listing_room
   unfolding card_text after_opening
   opened_in c e h = rw (← p, e) h
 

@@ -5,7 +5,7 @@ use Rattle.sentences.specs.Sentences.{decided}
 use Rattle.listing.specs.Text.{text, written}
 use Rattle.listing.specs.Listing.{refused_line}
 use Rattle.illum.specs.declared.IlluminationModel.{IlluminationModel}
-use Rattle.illum.specs.declared.Modelled.{Modelled}
+use Rattle.illum.specs.Refusals.{Modelled}
 use Rattle.fit.specs.Fit as fitting
 use Rattle.fit.specs.Fit.{fit_of}
 use Rattle.measure.specs.declared.Measurement.{Measurement}
@@ -47,6 +47,12 @@ pub record Typed (r : Modelled) : Type 0 where
   pub terms : r.model.terms < 2 ^ 64
   pub kept : r.model.kept < 2 ^ 32
   pub rejected : r.model.rejected < 2 ^ 32
+
+-- the numbers of a model are
+pub record TypedModel (m : IlluminationModel) : Type 0 where
+  pub terms : m.terms < 2 ^ 64
+  pub kept : m.kept < 2 ^ 32
+  pub rejected : m.rejected < 2 ^ 32
 
 unfoldable pub after_fitting : Sheet → List Float → Modelled → List ℕ
 after_fitting c references r = decided r.number refused_line (measure_text c references r.model)

@@ -17,9 +17,8 @@ ghost use Rattle.reader.specs.File.{floats_of, Modules, Cells, sheet_of, referen
 ghost use Rattle.reader.specs.Fitting as spec;
 ghost use Rattle.reader.specs.Text.{card_text, listing_room};
 
-use card::{Card, Opened, Settings};
+use card::{Card, Settings};
 use illum::IlluminationModel;
-use measure::Measured;
 
 // ---- the fit and the noise record
 
@@ -38,7 +37,8 @@ fn measure_card(
     out: &mut [u8],
 ) -> usize
     requires { (Few settings (length xs.now) (length cxs.now)) × (length ys.now ≡ length xs.now) × (length references.now ≤ 4080) }
-    ensures { text result out.new ≡ written (spec.measure_text (sheet settings palette.now xs.now ys.now raw.now cxs.now cys.now craw.now) references.now model) (text 0 out.old) }
+    ensures listed { text result out.new ≡ written (spec.measure_text (sheet settings palette.now xs.now ys.now raw.now cxs.now cys.now craw.now) references.now model) (text 0 out.old) }
+    ensures typed { spec.TypedModel model }
 {
     let mut scratch = [0.0f32; 2040];
     let n = references.len() / 8;
@@ -50,8 +50,8 @@ fn measure_card(
         settings.hues,
         &mut scratch[..4 * n],
     ) {
-        Measured::Refused(n) => listing::refused_line(out, n),
-        Measured::Record(m) => readout::read_raw(
+        Err(refusal) => listing::refused_line(out, u32::from(refusal)),
+        Ok(m) => readout::read_raw(
             settings, palette, xs, ys, raw, cxs, cys, craw, model, m.noise, out,
         ),
     }
@@ -76,20 +76,18 @@ fn fit_card(
     let mut kept = [0u8; 510];
     let mut scratch = [0.0f32; 2040];
     let n = references.len() / 8;
-    let fitted = fit::fit_flat(
+    match fit::fit_flat(
         references,
         settings.side,
         settings.version,
         &mut kept[..n],
         &mut scratch[..4 * n],
-    );
-    if fitted.number != 0 {
-        return listing::refused_line(out, fitted.number);
+    ) {
+        Err(unfit) => listing::refused_line(out, u32::from(unfit)),
+        Ok(model) => measure_card(
+            settings, palette, references, xs, ys, raw, cxs, cys, craw, model, out,
+        ),
     }
-    let model = fitted.model;
-    measure_card(
-        settings, palette, references, xs, ys, raw, cxs, cys, craw, model, out,
-    )
 }
 
 // ---- the file
@@ -197,7 +195,7 @@ pub fn read_card(file: &[u8], out: &mut [u8]) -> usize
     ensures { (text result out.new ≡ written (card_text file.now) (text 0 out.old)) × (length (card_text file.now) ≤ listing_room) }
 {
     match card::open(file) {
-        Opened::Refused(n) => listing::refused_line(out, n),
-        Opened::Accepted(card) => read_opened(file, card, out),
+        Err(refusal) => listing::refused_line(out, u32::from(refusal)),
+        Ok(card) => read_opened(file, card, out),
     }
 }

@@ -8,8 +8,8 @@ use Rattle.reader.proofs.measure_card.Goals as goal
 pub slice_bounds-measure_flat-end : goal.slice_bounds-measure_flat-end
 slice_bounds-measure_flat-end c = same_long _ 2040 _ (search rules)
 
-pub returns-in-Refused : goal.returns-in-Refused
-returns-in-Refused c = search (not-measured, scratch_first)
+pub returns-in-Err-clause-listed : goal.returns-in-Err-clause-listed
+returns-in-Err-clause-listed c = search (not-measured, scratch_first)
 
-pub returns-in-Record : goal.returns-in-Record
-returns-in-Record c = search (measured, scratch_first)
+pub returns-in-Ok-clause-listed : goal.returns-in-Ok-clause-listed
+returns-in-Ok-clause-listed c = search (measured, scratch_first)

@@ -7,8 +7,8 @@ use Rattle.reader.proofs.read_card.Goals as goal
 pub read_opened-requires : goal.read_opened-requires
 read_opened-requires c = search (fits)
 
-pub returns-in-Refused : goal.returns-in-Refused
-returns-in-Refused c = (search (not_opened), search (refused_in))
+pub returns-in-Err : goal.returns-in-Err
+returns-in-Err c = (search (not_opened), search (refused_in))
 
-pub returns-in-Accepted : goal.returns-in-Accepted
-returns-in-Accepted c = (search (opens), search (opened_in))
+pub returns-in-Ok : goal.returns-in-Ok
+returns-in-Ok c = (search (opens), search (opened_in))
