@@ -97,12 +97,12 @@ impl Channel<'_> {
     {
         let v = self.noise.luma_llr_of(sample.l);
         if 0.0 < v {
-            return self.hue_class(sample);
+            self.hue_class(sample)
+        } else if v < 0.0 {
+            limits::hue_classes(self.hues) + self.hue_class(sample)
+        } else {
+            2 * limits::hue_classes(self.hues)
         }
-        if v < 0.0 {
-            return limits::hue_classes(self.hues) + self.hue_class(sample);
-        }
-        2 * limits::hue_classes(self.hues)
     }
 
     // Counts colour i in its class.

@@ -14,5 +14,5 @@ returns-then-v-2 c = (search (light_class), search (light-says))
 pub overflow_mul-result : goal.overflow_mul-result
 overflow_mul-result c = search (last_fits)
 
-pub returns : goal.returns
-returns c = (search (last_class), search (last_says))
+pub returns-else-v-2 : goal.returns-else-v-2
+returns-else-v-2 c = (search (last_class), search (last_says))
