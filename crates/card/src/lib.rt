@@ -19,7 +19,7 @@ use std::num::f32_from_bits_with_nan;
 const PAIRS: usize = 5;
 
 // What a card file says of the card as a whole; of the mask, the low three bits.
-#[derive(Clone, Copy)]
+#[derive(Clone, Copy, Debug, PartialEq, Eq)]
 pub struct Settings {
     pub side: usize,
     pub version: u8,
@@ -30,14 +30,14 @@ pub struct Settings {
 }
 
 // Where a section's records start, and how many they are.
-#[derive(Clone, Copy)]
+#[derive(Clone, Copy, Debug, PartialEq, Eq)]
 pub struct Section {
     pub at: usize,
     pub count: usize,
 }
 
 // What a card file holds: its settings, where its palette starts, and its lists.
-#[derive(Clone, Copy)]
+#[derive(Clone, Copy, Debug, PartialEq, Eq)]
 pub struct Card {
     pub settings: Settings,
     pub palette: usize,
@@ -260,8 +260,8 @@ fn put_each<T: Copy, F: Fn(usize) -> T>(count: usize, out: &mut [T], number_at: 
     ensures written { (i : ℕ) (d : T) → i < count → F.post number_at i (slice_index_or out.new i d) }
     ensures kept { (i : ℕ) (d : T) → count ≤ i → slice_index_or out.new i d ≡ slice_index_or out.old i d }
 {
-    for i in 0..count {
-        out[i] = number_at(i);
+    for (i, x) in out[..count].iter_mut().enumerate() {
+        *x = number_at(i);
     }
 }
 

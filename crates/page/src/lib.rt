@@ -118,6 +118,7 @@ impl Sheet<'_> {
         requires { step.RoomFor self.now.side out.old × (length self.now.xs.now ≡ length self.now.ys.now) × (length self.now.xs.now ≤ length self.now.luma.now) }
         ensures { out.new ≡ step.show_all (call.modules_on self.now) out.old }
     {
+        // By index: `places` reads the two coordinates of module i from their slices.
         for i in 0..self.xs.len() {
             self.show_at(i, out);
         }
