@@ -3,6 +3,7 @@ use Rattle.std.specs.Prelude.{List, ℕ, Float}
 use Rattle.answers.specs.Answers.{Ended}
 use Rattle.bits.specs.Reading as bits
 use Rattle.demod.specs.Call as demod
+use Rattle.fit.specs.Fit as fit
 use Rattle.math.specs.Gauss as gauss
 use Rattle.math.specs.Normal as normal
 use Rattle.measure.specs.Measure as measure
@@ -12,10 +13,11 @@ use Rattle.order.specs.Deviation as deviation
 use Rattle.refine.specs.Calls as refine
 use Rattle.exports.specs.declared.replies.SolveAnswer.{SolveAnswer}
 use Rattle.exports.specs.declared.replies.NumberAnswer.{NumberAnswer}
+use Rattle.exports.specs.declared.replies.ModelAnswer.{ModelAnswer}
 use Rattle.exports.specs.declared.replies.MeasureAnswer.{MeasureAnswer}
 use Rattle.exports.specs.declared.replies.ScoreAnswer.{ScoreAnswer}
 use Rattle.exports.specs.declared.replies.FloatAnswer.{FloatAnswer}
-use Rattle.exports.specs.Replies.{solve_answer, number_answer, measure_answer, score_answer, float_answer}
+use Rattle.exports.specs.Replies.{solve_answer, number_answer, model_answer, measure_answer, score_answer, float_answer}
 
 -- an answer, and one, two or three lent slices
 pub record Exit1 (R A : Type 0) : Type 0 where
@@ -46,13 +48,17 @@ exit3 r a b c = record { answer = r; first = a; second = b; third = c }
 unfoldable pub solve_exit : gauss.Final → Exit3 SolveAnswer Float Float Float
 solve_exit f = exit3 (solve_answer f.said) f.a f.b f.x
 
+-- `fit`, `fit_flat`
+unfoldable pub fit_exit : fit.Final → Exit2 ModelAnswer ℕ Float
+fit_exit f = exit2 (model_answer f.answer) f.kept f.scratch
+
 -- `measure`, `measure_flat`
 unfoldable pub measure_exit : measure.Final → Exit1 MeasureAnswer Float
 measure_exit f = exit1 (measure_answer f.said) f.scratch
 
 -- `score`
 unfoldable pub score_exit : demod.Final → Exit3 ScoreAnswer Float Float Float
-score_exit f = exit3 (score_answer (demod.scored_said f.answer)) f.luma f.colours f.chroma
+score_exit f = exit3 (score_answer f.answer) f.luma f.colours f.chroma
 
 abbrev pub scored : demod.Request → Exit3 ScoreAnswer Float Float Float
 scored q = score_exit (demod.scored_of q)
@@ -66,7 +72,7 @@ abbrev pub exit6 : ScoreAnswer → List Float → List Float → List Float → 
 exit6 r luma colours chroma scratch b y = record { answer = r; lent = bits.lent luma colours chroma scratch b y }
 
 unfoldable pub read_exit : bits.Left → Exit6
-read_exit f = record { answer = score_answer (demod.scored_said f.answer); lent = f.lent }
+read_exit f = record { answer = score_answer f.answer; lent = f.lent }
 
 -- `add_local_luma`
 unfoldable pub refine_exit : refine.Final → Exit2 ℕ Float Float

@@ -1,5 +1,5 @@
--- Each answer that is an enum as a struct for C: document 01's number, 0 where the call is accepted, and the values, which are
--- zeros where there are none. Definitions only.
+-- Each answer as a struct for C: document 01's number, 0 where the call is accepted, and the values, which are zeros where there
+-- are none. Definitions only.
 use Rattle.std.specs.Prelude.{Bool, true, false, ℕ, Float}
 use Rattle.std.proofs.Math.Option.{get_or}
 use Rattle.std.specs.Float.{binary32}
@@ -7,7 +7,9 @@ use Rattle.std.specs.Float.Ieee.{of_bits}
 use Rattle.answers.specs.Answers.{Said}
 use Rattle.color.specs.declared.Linear.{Linear}
 use Rattle.demod.specs.declared.ScoreReport.{ScoreReport}
+use Rattle.illum.specs.declared.IlluminationModel.{IlluminationModel}
 use Rattle.illum.specs.declared.Marked.{Marked}
+use Rattle.illum.specs.Refusals as illum
 use Rattle.measure.specs.declared.Measurement.{Measurement}
 use Rattle.modulate.specs.declared.Cell.{Cell}
 use Rattle.modulate.specs.declared.Cell.TheVariants as cell
@@ -19,6 +21,7 @@ use Rattle.exports.specs.declared.replies.NumberAnswer.{NumberAnswer}
 use Rattle.exports.specs.declared.replies.FlagAnswer.{FlagAnswer}
 use Rattle.exports.specs.declared.replies.FloatAnswer.{FloatAnswer}
 use Rattle.exports.specs.declared.replies.LinearAnswer.{LinearAnswer}
+use Rattle.exports.specs.declared.replies.ModelAnswer.{ModelAnswer}
 use Rattle.exports.specs.declared.replies.NoiseAnswer.{NoiseAnswer}
 use Rattle.totals.specs.declared.Totals.{Totals}
 use Rattle.totals.specs.declared.Ratio.{Ratio}
@@ -66,6 +69,9 @@ valued n v = record { number = n; value = v }
 abbrev pub corrected : ℕ → Marked → LinearAnswer
 corrected n c = record { number = n; colour = c.colour; held_r = c.held_r; held_g = c.held_g; held_b = c.held_b }
 
+abbrev pub fitted : ℕ → IlluminationModel → ModelAnswer
+fitted n m = record { number = n; model = m }
+
 abbrev pub noted : ℕ → ChannelStats → NoiseAnswer
 noted n c = record { number = n; noise = c }
 
@@ -94,6 +100,10 @@ solve_answer s = struct_of solution false s
 -- `correct`
 abbrev pub linear_answer : Said Marked → LinearAnswer
 linear_answer s = struct_of corrected no_marked s
+
+-- `identity`, `fit`, `fit_flat`: of a refusal the model is zeros too
+abbrev pub model_answer : illum.Modelled → ModelAnswer
+model_answer m = fitted m.number m.model
 
 -- `measure`, `measure_flat`
 abbrev pub measure_answer : Said Measurement → MeasureAnswer

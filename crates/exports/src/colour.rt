@@ -5,7 +5,6 @@ ghost use Rattle.color.specs.Palette as palette_spec;
 ghost use Rattle.color.specs.Srgb as srgb_spec;
 ghost use Rattle.exports.specs.Replies as spec;
 
-use super::replies;
 use super::replies::{FlagAnswer, NumberAnswer};
 use color::{Lab, Linear, Srgb8, Xyz};
 
@@ -150,7 +149,7 @@ pub extern "C" fn purdolve_lab_to_linear(c: Lab) -> Linear
 pub extern "C" fn purdolve_palette_len(hues: usize) -> NumberAnswer
     ensures { result ≡ spec.number_answer (palette_spec.len hues) }
 {
-    replies::number_answer(color::palette::len(hues))
+    NumberAnswer::from(color::palette::len(hues))
 }
 
 // Whether a palette has no colour, which it never is. Refused: 3.
@@ -158,7 +157,7 @@ pub extern "C" fn purdolve_palette_len(hues: usize) -> NumberAnswer
 pub extern "C" fn purdolve_palette_is_empty(hues: usize) -> FlagAnswer
     ensures { result ≡ spec.flag_answer (palette_spec.is_empty hues) }
 {
-    replies::flag_answer(color::palette::is_empty(hues))
+    FlagAnswer::from(color::palette::is_empty(hues))
 }
 
 // The place of a colour in the palette by its level and its hue, of which the remainder by `hues` counts. Refused: 3.
@@ -166,5 +165,5 @@ pub extern "C" fn purdolve_palette_is_empty(hues: usize) -> FlagAnswer
 pub extern "C" fn purdolve_palette_index(light: bool, hue: usize, hues: usize) -> NumberAnswer
     ensures { result ≡ spec.number_answer (palette_spec.index light hue hues) }
 {
-    replies::number_answer(color::palette::index(light, hue, hues))
+    NumberAnswer::from(color::palette::index(light, hue, hues))
 }

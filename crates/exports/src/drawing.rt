@@ -38,7 +38,7 @@ pub extern "C" fn purdolve_gray_inverse(g: usize) -> usize
 pub extern "C" fn purdolve_chroma_symbol_to_hue(symbol: usize, hues: usize) -> NumberAnswer
     ensures { result ≡ spec.number_answer (told.answered (told.hues_only hues) (gray_code.chroma_symbol_to_hue symbol hues)) }
 {
-    replies::number_answer(symbols::chroma_symbol_to_hue(symbol, hues))
+    NumberAnswer::from(symbols::chroma_symbol_to_hue(symbol, hues))
 }
 
 // The chroma symbol of a hue state. Refused: 3.
@@ -46,7 +46,7 @@ pub extern "C" fn purdolve_chroma_symbol_to_hue(symbol: usize, hues: usize) -> N
 pub extern "C" fn purdolve_hue_to_chroma_symbol(hue: usize, hues: usize) -> NumberAnswer
     ensures { result ≡ spec.number_answer (told.answered (told.hues_only hues) (gray_code.hue_to_chroma_symbol hue hues)) }
 {
-    replies::number_answer(symbols::hue_to_chroma_symbol(hue, hues))
+    NumberAnswer::from(symbols::hue_to_chroma_symbol(hue, hues))
 }
 
 // Whether mask `id`, of which the low three bits count, turns the luma bit of the module at (x, y).
@@ -62,7 +62,7 @@ pub extern "C" fn purdolve_luma_mask(id: u8, x: u16, y: u16) -> bool
 pub extern "C" fn purdolve_chroma_rotation(cx: u16, cy: u16, hues: usize) -> NumberAnswer
     ensures { result ≡ spec.number_answer (told.answered (told.hues_and_cell hues cx cy) (masks.chroma_rotation cx cy hues)) }
 {
-    replies::number_answer(symbols::chroma_rotation(cx, cy, hues))
+    NumberAnswer::from(symbols::chroma_rotation(cx, cy, hues))
 }
 
 // The hue that the cell (cx, cy) draws for `hue`, of which the remainder by `hues` counts. Refused: 3, 7.
@@ -75,7 +75,7 @@ pub extern "C" fn purdolve_chroma_mask_apply(
 ) -> NumberAnswer
     ensures { result ≡ spec.number_answer (told.answered (told.hues_and_cell hues cx cy) (masks.chroma_mask_apply hue cx cy hues)) }
 {
-    replies::number_answer(symbols::chroma_mask_apply(hue, cx, cy, hues))
+    NumberAnswer::from(symbols::chroma_mask_apply(hue, cx, cy, hues))
 }
 
 // The hue that the cell (cx, cy) drew as `hue`, of which the remainder by `hues` counts. Refused: 3, 7.
@@ -88,12 +88,13 @@ pub extern "C" fn purdolve_chroma_mask_remove(
 ) -> NumberAnswer
     ensures { result ≡ spec.number_answer (told.answered (told.hues_and_cell hues cx cy) (masks.chroma_mask_remove hue cx cy hues)) }
 {
-    replies::number_answer(symbols::chroma_mask_remove(hue, cx, cy, hues))
+    NumberAnswer::from(symbols::chroma_mask_remove(hue, cx, cy, hues))
 }
 
 // The log2(hues) bit scores of a chroma entry from its hue likelihoods `ll`: of the cell (cx, cy), or, where `masked` is false, of
 // a ring module, on which no mask lies and for which cx and cy do not count. Answers document 01's number. Refused: 3, 5, 7;
 // nothing is written then.
+#[tactic(auto, unfolding(crate::specs::Exits::write_exit))]
 #[unsafe(no_mangle)]
 pub extern "C" fn purdolve_chroma_bit_llrs(
     ll: &[f32],
@@ -115,6 +116,7 @@ pub extern "C" fn purdolve_chroma_bit_llrs(
 
 // Turns the sign of the luma score of every grid module, the first `grid` of those listed, whose bit the mask turned. Answers
 // document 01's number. Refused: 2, 5, 6, 7; nothing is written then.
+#[tactic(auto, unfolding(crate::specs::Exits::write_exit))]
 #[unsafe(no_mangle)]
 pub extern "C" fn purdolve_unmask_luma(
     luma: &mut [f32],
@@ -138,6 +140,7 @@ pub extern "C" fn purdolve_read(score: f32) -> u8
 }
 
 // The bits of a list of scores, one a score, 2 where a score is an erasure. Answers document 01's number. Refused: 5; nothing is written then.
+#[tactic(auto, unfolding(crate::specs::Exits::write_exit))]
 #[unsafe(no_mangle)]
 pub extern "C" fn purdolve_read_list(scores: &[f32], bits: &mut [u8]) -> u32
     ensures { exits.exit1 result bits.new ≡ exits.write_exit (reading.read_list_of scores.now bits.old) }
@@ -148,6 +151,7 @@ pub extern "C" fn purdolve_read_list(scores: &[f32], bits: &mut [u8]) -> u32
 // Lays a read card out as a page of text, from its unmasked luma scores: side + 1 lines of 50 columns and a line feed, at the front
 // of `out`. Answers document 01's number. Refused: 2, 5 (fewer than 51 × (side + 1) bytes too), 6 (a count above its limit too), 7, 10,
 // 14 (the side is above 40); nothing is written then.
+#[tactic(auto, unfolding(crate::specs::Exits::write_exit))]
 #[unsafe(no_mangle)]
 pub extern "C" fn purdolve_page(
     side: usize,
@@ -187,7 +191,7 @@ pub extern "C" fn purdolve_ring_level(bit: u8) -> u8
 pub extern "C" fn purdolve_symbol_of_bits(bits: &[u8], hues: usize) -> NumberAnswer
     ensures { result ≡ spec.number_answer (told.answered (drawing_spec.symbol_sentences bits.now hues) (drawing_spec.symbol_at bits.now 0 (symbols.log2 hues))) }
 {
-    replies::number_answer(modulate::symbol_of_bits(bits, hues))
+    NumberAnswer::from(modulate::symbol_of_bits(bits, hues))
 }
 
 // The hue that the cell (cx, cy) is drawn in for its symbol. Refused: 3, 7.
@@ -195,7 +199,7 @@ pub extern "C" fn purdolve_symbol_of_bits(bits: &[u8], hues: usize) -> NumberAns
 pub extern "C" fn purdolve_cell_hue(symbol: usize, cx: u16, cy: u16, hues: usize) -> NumberAnswer
     ensures { result ≡ spec.number_answer (told.answered (told.hues_and_cell hues cx cy) (drawing_spec.cell_hue symbol cx cy hues)) }
 {
-    replies::number_answer(modulate::cell_hue(symbol, cx, cy, hues))
+    NumberAnswer::from(modulate::cell_hue(symbol, cx, cy, hues))
 }
 
 // The hue that a ring module is drawn in for its symbol: no mask lies on it. Refused: 3.
@@ -203,11 +207,12 @@ pub extern "C" fn purdolve_cell_hue(symbol: usize, cx: u16, cy: u16, hues: usize
 pub extern "C" fn purdolve_ring_hue(symbol: usize, hues: usize) -> NumberAnswer
     ensures { result ≡ spec.number_answer (told.answered (told.hues_only hues) (drawing_spec.ring_hue symbol hues)) }
 {
-    replies::number_answer(modulate::ring_hue(symbol, hues))
+    NumberAnswer::from(modulate::ring_hue(symbol, hues))
 }
 
 // Draws a card: the level of each listed module, 1 for light, and, with chroma on, the hue of each cell and, at cell size 1, of
 // each ring module. Answers document 01's number. Refused: 2, 3, 4, 5, 6, 7; nothing is written then.
+#[tactic(auto, unfolding(crate::specs::Exits::draw_exit))]
 #[unsafe(no_mangle)]
 pub extern "C" fn purdolve_draw(
     bits: &[u8],

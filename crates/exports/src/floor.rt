@@ -6,11 +6,11 @@ ghost use Rattle.order.specs.Deviation as deviations;
 ghost use Rattle.order.specs.Median as middle;
 ghost use Rattle.exports.specs.Exits as exits;
 
-use super::replies;
 use super::replies::{FloatAnswer, SolveAnswer};
 
 // Solves the n by n system a x = b, and writes the solution to x. No solution leaves x untouched. Either way a and b are left as
 // elimination leaves them. Refused: 5, 6.
+#[tactic(auto, unfolding(crate::specs::Exits::solve_exit))]
 #[unsafe(no_mangle)]
 pub extern "C" fn purdolve_solve(
     a: &mut [f64],
@@ -20,7 +20,7 @@ pub extern "C" fn purdolve_solve(
 ) -> SolveAnswer
     ensures { exits.exit3 result a.new b.new x.new ≡ exits.solve_exit (gauss.solve_of n a.old b.old x.old) }
 {
-    replies::solve_answer(math::solve(a, b, x, n))
+    SolveAnswer::from(math::solve(a, b, x, n))
 }
 
 // The median of the values, which are left in another order.
@@ -33,6 +33,7 @@ pub extern "C" fn purdolve_median(values: &mut [f32]) -> f32
 
 // Adds one row of `terms` numbers and its target to the normal equations, whose matrix has room for 324 numbers and is used up to
 // terms * terms. Answers document 01's number. Refused: 5, 6; nothing is written then.
+#[tactic(auto, unfolding(crate::specs::Exits::add_row_exit))]
 #[unsafe(no_mangle)]
 pub extern "C" fn purdolve_add_row(
     ata: &mut [f64; 324],
@@ -47,6 +48,7 @@ pub extern "C" fn purdolve_add_row(
 }
 
 // Finishes the normal equations: 1e-9 on the diagonal, then as `purdolve_solve`. Refused: 5, 6; nothing is written then.
+#[tactic(auto, unfolding(crate::specs::Exits::solve_exit))]
 #[unsafe(no_mangle)]
 pub extern "C" fn purdolve_finish(
     ata: &mut [f64; 324],
@@ -56,11 +58,12 @@ pub extern "C" fn purdolve_finish(
 ) -> SolveAnswer
     ensures { exits.exit3 result ata.new atb.new x.new ≡ exits.solve_exit (normal.finish_of terms (gauss.system ata.old atb.old) x.old) }
 {
-    replies::solve_answer(math::finish(ata, atb, x, terms))
+    SolveAnswer::from(math::finish(ata, atb, x, terms))
 }
 
 // Fits x so that each row of `terms` numbers, times x, comes nearest its target in the sum of squares. Refused: 5, 6; x is
 // untouched but where there is a solution.
+#[tactic(auto, unfolding(crate::specs::Exits::fitted_exit))]
 #[unsafe(no_mangle)]
 pub extern "C" fn purdolve_least_squares(
     rows: &[f64],
@@ -70,14 +73,15 @@ pub extern "C" fn purdolve_least_squares(
 ) -> SolveAnswer
     ensures { exits.exit1 result x.new ≡ exits.fitted_exit (normal.least_squares_of terms rows.now targets.now x.old) }
 {
-    replies::solve_answer(math::least_squares(rows, targets, terms, x))
+    SolveAnswer::from(math::least_squares(rows, targets, terms, x))
 }
 
 // The median absolute deviation of the values, scaled to estimate a standard deviation. The first 2 * values of scratch are zero
 // afterwards. Refused: 5; nothing is written then.
+#[tactic(auto, unfolding(crate::specs::Exits::sigma_exit))]
 #[unsafe(no_mangle)]
 pub extern "C" fn purdolve_mad_sigma(values: &[f32], scratch: &mut [f32]) -> FloatAnswer
     ensures { exits.exit1 result scratch.new ≡ exits.sigma_exit (deviations.mad_sigma_of values.now scratch.old) }
 {
-    replies::sigma_answer(order::mad_sigma(values, scratch))
+    FloatAnswer::from(order::mad_sigma(values, scratch))
 }

@@ -4,7 +4,6 @@ ghost use Rattle.near.specs.Near as near_call;
 ghost use Rattle.near.specs.declared.Query.TheVariants as query;
 ghost use Rattle.exports.specs.Exits as exits;
 
-use super::replies;
 use super::replies::NumberAnswer;
 use near::Query;
 
@@ -22,7 +21,7 @@ pub extern "C" fn purdolve_nearest(
 ) -> NumberAnswer
     ensures { exits.exit1 result out.new ≡ exits.near_exit (near_call.near_of (near_call.request xy.now kept.now side x y query.Nearest out.old)) }
 {
-    replies::number_answer(near::near(xy, kept, side, x, y, Query::Nearest, out))
+    NumberAnswer::from(near::near(xy, kept, side, x, y, Query::Nearest, out))
 }
 
 // Lists the kept references within a radius of the module's centre, as `purdolve_nearest` lists the nearest. Refused: 2, 5, 6, 7, 15;
@@ -39,7 +38,7 @@ pub extern "C" fn purdolve_within(
 ) -> NumberAnswer
     ensures { exits.exit1 result out.new ≡ exits.near_exit (near_call.near_of (near_call.request xy.now kept.now side x y (query.Within radius) out.old)) }
 {
-    replies::number_answer(near::near(xy, kept, side, x, y, Query::Within(radius), out))
+    NumberAnswer::from(near::near(xy, kept, side, x, y, Query::Within(radius), out))
 }
 
 // Lists the kept references that a column cuts off from the module, as `purdolve_nearest` lists the nearest. Refused: 2, 5, 6, 7; `out`
@@ -56,5 +55,5 @@ pub extern "C" fn purdolve_cut_off(
 ) -> NumberAnswer
     ensures { exits.exit1 result out.new ≡ exits.near_exit (near_call.near_of (near_call.request xy.now kept.now side x y (query.CutOff column) out.old)) }
 {
-    replies::number_answer(near::near(xy, kept, side, x, y, Query::CutOff(column), out))
+    NumberAnswer::from(near::near(xy, kept, side, x, y, Query::CutOff(column), out))
 }

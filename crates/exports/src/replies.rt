@@ -1,31 +1,31 @@
-// What calls answer that answer an enum, as structs that C can take: document 01's number, 0 where the call is accepted, and
-// the values.
+// What calls answer, as structs that C can take: document 01's number, 0 where the call is accepted, and the values, zeros where
+// there are none. C has no generic structs, so each kind of value has a struct of its own.
 ghost use Rattle.std.specs.Prelude.{◌≡◌};
+ghost use Rattle.std.proofs.Math.Option.{get_or};
 ghost use Rattle.answers.specs.Answers.{said};
-ghost use Rattle.color.specs.Palette.{flag_said};
-ghost use Rattle.demod.specs.Call.{scored_said};
-ghost use Rattle.illum.specs.Refusals.{correction_said};
-ghost use Rattle.math.specs.Gauss.{solving_said};
-ghost use Rattle.measure.specs.Measure.{measured_said};
-ghost use Rattle.order.specs.Deviation.{sigma_said};
-ghost use Rattle.stats.specs.Calls.{figure_said, noise_said};
-ghost use Rattle.margin.specs.Calls.{verdict_said};
-ghost use Rattle.totals.specs.Calls.{sums_said};
-ghost use Rattle.totals.specs.LowestTerms.{average_said};
+ghost use Rattle.illum.specs.Refusals.{model_said};
 ghost use Rattle.exports.specs.Replies as spec;
 
-use answers::Number;
+use answers::Refusal;
 use color::Linear;
-use color::palette::Flag;
-use demod::Scored;
-use illum::Correction;
-use margin::{Threshold, Verdict};
-use math::Solving;
-use measure::Measured;
+use demod::ScoreReport;
+use illum::{IlluminationModel, Marked};
+use margin::Threshold;
+use measure::Measurement;
 use modulate::Cell;
-use order::Sigma;
-use stats::{ChannelStats, Figure, Noise};
-use totals::{Average, Ratio, Sums, Totals};
+use stats::ChannelStats;
+use totals::{Ratio, Totals};
+
+// The noise record that stands where there is none.
+const NO_RECORD: ChannelStats = ChannelStats {
+    l0: 0.0,
+    l1: 0.0,
+    sigma_l: 0.0,
+    sigma_ab: 0.0,
+    sigma_ab_dark: 0.0,
+    sigma_ab_light: 0.0,
+    samples: 0,
+};
 
 // Whether a linear system was solved.
 #[repr(C)]
@@ -70,6 +70,14 @@ pub struct LinearAnswer {
     pub held_b: bool,
 }
 
+// An illumination model.
+#[repr(C)]
+#[derive(Clone, Copy)]
+pub struct ModelAnswer {
+    pub number: u32,
+    pub model: IlluminationModel,
+}
+
 // A noise record.
 #[repr(C)]
 #[derive(Clone, Copy)]
@@ -112,33 +120,68 @@ pub struct ScoreAnswer {
     pub held_cells: usize,
 }
 
-// Of `solve`, `finish` and `least_squares`.
-pub fn solve_answer(o: Solving) -> SolveAnswer
-    ensures { result ≡ spec.solve_answer (solving_said o) }
+// Document 01's number of an answer, and its value, or `none` where it gives none.
+fn parts<T: Copy>(answer: Result<T, Refusal>, none: T) -> (u32, T)
+    ensures number { result.0 ≡ (said answer).number }
+    ensures value { result.1 ≡ get_or (said answer).value none }
 {
-    match o {
-        Solving::Solved => SolveAnswer {
-            number: 0,
-            solved: true,
-        },
-        Solving::NoSolution => SolveAnswer {
-            number: 0,
-            solved: false,
-        },
-        Solving::Refused(n) => SolveAnswer {
-            number: n,
-            solved: false,
-        },
+    match answer {
+        Ok(value) => (0, value),
+        Err(refusal) => (u32::from(refusal), none),
+    }
+}
+
+// Of `solve`, `finish` and `least_squares`.
+impl From<Result<bool, Refusal>> for SolveAnswer {
+    ghost from_gives = { λ answer reply. reply ≡ spec.solve_answer (said answer) };
+
+    #[tactic(auto, unfolding(crate::specs::Replies::struct_of))]
+    fn from(answer: Result<bool, Refusal>) -> SolveAnswer {
+        let (number, solved) = parts(answer, false);
+        SolveAnswer { number, solved }
+    }
+}
+
+// Of the calls that give a number.
+impl From<Result<usize, Refusal>> for NumberAnswer {
+    ghost from_gives = { λ answer reply. reply ≡ spec.number_answer (said answer) };
+
+    #[tactic(auto, unfolding(crate::specs::Replies::struct_of))]
+    fn from(answer: Result<usize, Refusal>) -> NumberAnswer {
+        let (number, value) = parts(answer, 0);
+        NumberAnswer { number, value }
+    }
+}
+
+// Of `margin`, `margin_at` and `palette::is_empty`.
+impl From<Result<bool, Refusal>> for FlagAnswer {
+    ghost from_gives = { λ answer reply. reply ≡ spec.flag_answer (said answer) };
+
+    #[tactic(auto, unfolding(crate::specs::Replies::struct_of))]
+    fn from(answer: Result<bool, Refusal>) -> FlagAnswer {
+        let (number, yes) = parts(answer, false);
+        FlagAnswer { number, yes }
+    }
+}
+
+// Of `mad_sigma`, `sigma_ab_at`, `luma_llr` and `reliability`.
+impl From<Result<f32, Refusal>> for FloatAnswer {
+    ghost from_gives = { λ answer reply. reply ≡ spec.float_answer (said answer) };
+
+    #[tactic(auto, unfolding(crate::specs::Replies::struct_of))]
+    fn from(answer: Result<f32, Refusal>) -> FloatAnswer {
+        let (number, value) = parts(answer, 0.0);
+        FloatAnswer { number, value }
     }
 }
 
 // Of `correct`.
-pub fn linear_answer(o: Correction) -> LinearAnswer
-    ensures { result ≡ spec.linear_answer (correction_said o) }
-{
-    match o {
-        Correction::Refused(n) => LinearAnswer {
-            number: n,
+impl From<Result<Marked, Refusal>> for LinearAnswer {
+    ghost from_gives = { λ answer reply. reply ≡ spec.linear_answer (said answer) };
+
+    #[tactic(auto, unfolding(crate::specs::Replies::struct_of))]
+    fn from(answer: Result<Marked, Refusal>) -> LinearAnswer {
+        let none = Marked {
             colour: Linear {
                 r: 0.0,
                 g: 0.0,
@@ -147,210 +190,101 @@ pub fn linear_answer(o: Correction) -> LinearAnswer
             held_r: false,
             held_g: false,
             held_b: false,
-        },
-        Correction::Corrected(c) => {
-            let colour = c.colour;
-            LinearAnswer {
-                number: 0,
-                colour,
-                held_r: c.held_r,
-                held_g: c.held_g,
-                held_b: c.held_b,
-            }
+        };
+        let (number, marked) = parts(answer, none);
+        LinearAnswer {
+            number,
+            colour: marked.colour,
+            held_r: marked.held_r,
+            held_g: marked.held_g,
+            held_b: marked.held_b,
         }
     }
 }
 
+// Of `identity` and `fit`.
+impl From<Result<IlluminationModel, Refusal>> for ModelAnswer {
+    ghost from_gives = { λ answer reply. reply ≡ spec.model_answer (model_said answer) };
+
+    #[tactic(auto, unfolding(crate::specs::Replies::struct_of))]
+    fn from(answer: Result<IlluminationModel, Refusal>) -> ModelAnswer {
+        let (number, model) = parts(answer, illum::no_model());
+        ModelAnswer { number, model }
+    }
+}
+
+// Of `nominal`.
+impl From<Result<ChannelStats, Refusal>> for NoiseAnswer {
+    ghost from_gives = { λ answer reply. reply ≡ spec.noise_answer (said answer) };
+
+    #[tactic(auto, unfolding(crate::specs::Replies::struct_of))]
+    fn from(answer: Result<ChannelStats, Refusal>) -> NoiseAnswer {
+        let (number, noise) = parts(answer, NO_RECORD);
+        NoiseAnswer { number, noise }
+    }
+}
+
 // Of `measure` and `measure_flat`.
-pub fn measure_answer(o: Measured) -> MeasureAnswer
-    ensures { result ≡ spec.measure_answer (measured_said o) }
-{
-    match o {
-        Measured::Refused(n) => MeasureAnswer {
-            number: n,
-            noise: ChannelStats {
-                l0: 0.0,
-                l1: 0.0,
-                sigma_l: 0.0,
-                sigma_ab: 0.0,
-                sigma_ab_dark: 0.0,
-                sigma_ab_light: 0.0,
-                samples: 0,
-            },
+impl From<Result<Measurement, Refusal>> for MeasureAnswer {
+    ghost from_gives = { λ answer reply. reply ≡ spec.measure_answer (said answer) };
+
+    #[tactic(auto, unfolding(crate::specs::Replies::struct_of))]
+    fn from(answer: Result<Measurement, Refusal>) -> MeasureAnswer {
+        let none = Measurement {
+            noise: NO_RECORD,
             held: 0,
-        },
-        Measured::Record(m) => {
-            let noise = m.noise;
-            MeasureAnswer {
-                number: 0,
-                noise,
-                held: m.held,
-            }
+        };
+        let (number, measured) = parts(answer, none);
+        MeasureAnswer {
+            number,
+            noise: measured.noise,
+            held: measured.held,
         }
     }
 }
 
 // Of `score` and `read_bits`.
-pub fn score_answer(o: Scored) -> ScoreAnswer
-    ensures { result ≡ spec.score_answer (scored_said o) }
-{
-    match o {
-        Scored::Refused(n) => ScoreAnswer {
-            number: n,
+impl From<Result<ScoreReport, Refusal>> for ScoreAnswer {
+    ghost from_gives = { λ answer reply. reply ≡ spec.score_answer (said answer) };
+
+    #[tactic(auto, unfolding(crate::specs::Replies::struct_of))]
+    fn from(answer: Result<ScoreReport, Refusal>) -> ScoreAnswer {
+        let none = ScoreReport {
             held_modules: 0,
             held_cells: 0,
-        },
-        Scored::Done(report) => ScoreAnswer {
-            number: 0,
+        };
+        let (number, report) = parts(answer, none);
+        ScoreAnswer {
+            number,
             held_modules: report.held_modules,
             held_cells: report.held_cells,
-        },
-    }
-}
-
-// Of `nominal`.
-pub fn noise_answer(o: Noise) -> NoiseAnswer
-    ensures { result ≡ spec.noise_answer (noise_said o) }
-{
-    match o {
-        Noise::Refused(n) => NoiseAnswer {
-            number: n,
-            noise: ChannelStats {
-                l0: 0.0,
-                l1: 0.0,
-                sigma_l: 0.0,
-                sigma_ab: 0.0,
-                sigma_ab_dark: 0.0,
-                sigma_ab_light: 0.0,
-                samples: 0,
-            },
-        },
-        Noise::Record(c) => NoiseAnswer {
-            number: 0,
-            noise: c,
-        },
-    }
-}
-
-// Of `mad_sigma`.
-pub fn sigma_answer(o: Sigma) -> FloatAnswer
-    ensures { result ≡ spec.float_answer (sigma_said o) }
-{
-    match o {
-        Sigma::Value(v) => FloatAnswer {
-            number: 0,
-            value: v,
-        },
-        Sigma::Refused(n) => FloatAnswer {
-            number: n,
-            value: 0.0,
-        },
-    }
-}
-
-// Of `sigma_ab_at`, `luma_llr` and `reliability`.
-pub fn figure_answer(o: Figure) -> FloatAnswer
-    ensures { result ≡ spec.float_answer (figure_said o) }
-{
-    match o {
-        Figure::Refused(n) => FloatAnswer {
-            number: n,
-            value: 0.0,
-        },
-        Figure::Value(v) => FloatAnswer {
-            number: 0,
-            value: v,
-        },
-    }
-}
-
-// Of `margin` and `margin_at`.
-pub fn verdict_answer(o: Verdict) -> FlagAnswer
-    ensures { result ≡ spec.flag_answer (verdict_said o) }
-{
-    match o {
-        Verdict::Refused(n) => FlagAnswer {
-            number: n,
-            yes: false,
-        },
-        Verdict::Yes => FlagAnswer {
-            number: 0,
-            yes: true,
-        },
-        Verdict::No => FlagAnswer {
-            number: 0,
-            yes: false,
-        },
-    }
-}
-
-// Of `palette::is_empty`.
-pub fn flag_answer(o: Flag) -> FlagAnswer
-    ensures { result ≡ spec.flag_answer (flag_said o) }
-{
-    match o {
-        Flag::Refused(n) => FlagAnswer {
-            number: n,
-            yes: false,
-        },
-        Flag::Is(b) => FlagAnswer { number: 0, yes: b },
-    }
-}
-
-// Of the calls that give a number.
-pub fn number_answer(o: Number) -> NumberAnswer
-    ensures { result ≡ spec.number_answer (said o) }
-{
-    match o {
-        Number::Refused(n) => NumberAnswer {
-            number: n,
-            value: 0,
-        },
-        Number::Is(v) => NumberAnswer {
-            number: 0,
-            value: v,
-        },
+        }
     }
 }
 
 // Of `add_card` and `add_totals`.
-pub fn totals_answer(o: Sums) -> TotalsAnswer
-    ensures { result ≡ spec.totals_answer (sums_said o) }
-{
-    match o {
-        Sums::Refused(n) => TotalsAnswer {
-            number: n,
-            totals: Totals {
-                cards: 0,
-                modules: 0,
-                undecided: 0,
-                under: 0,
-                sum: 0,
-            },
-        },
-        Sums::Are(t) => TotalsAnswer {
-            number: 0,
-            totals: t,
-        },
+impl From<Result<Totals, Refusal>> for TotalsAnswer {
+    ghost from_gives = { λ answer reply. reply ≡ spec.totals_answer (said answer) };
+
+    #[tactic(auto, unfolding(crate::specs::Replies::struct_of, totals::specs::Batch::of_cards))]
+    fn from(answer: Result<Totals, Refusal>) -> TotalsAnswer {
+        let (number, totals) = parts(answer, totals::empty_totals());
+        TotalsAnswer { number, totals }
     }
 }
 
 // Of `mean`.
-pub fn ratio_answer(o: Average) -> RatioAnswer
-    ensures { result ≡ spec.ratio_answer (average_said o) }
-{
-    match o {
-        Average::Refused(n) => RatioAnswer {
-            number: n,
-            ratio: Ratio {
-                numerator: 0,
-                denominator: 0,
-            },
-        },
-        Average::Is(q) => RatioAnswer {
-            number: 0,
-            ratio: q,
-        },
+impl From<Result<Ratio, Refusal>> for RatioAnswer {
+    ghost from_gives = { λ answer reply. reply ≡ spec.ratio_answer (said answer) };
+
+    #[tactic(auto, unfolding(crate::specs::Replies::struct_of))]
+    fn from(answer: Result<Ratio, Refusal>) -> RatioAnswer {
+        let none = Ratio {
+            numerator: 0,
+            denominator: 0,
+        };
+        let (number, ratio) = parts(answer, none);
+        RatioAnswer { number, ratio }
     }
 }
 
@@ -359,9 +293,10 @@ pub fn cell_of(masked: bool, cx: u16, cy: u16) -> Cell
     ensures { result ≡ spec.cell_of masked cx cy }
 {
     if masked {
-        return Cell::At(cx, cy);
+        Cell::At(cx, cy)
+    } else {
+        Cell::Unmasked
     }
-    Cell::Unmasked
 }
 
 // The setting of the margin check: 9, or 13.
@@ -369,7 +304,8 @@ pub fn threshold_of(nine: bool) -> Threshold
     ensures { result ≡ spec.threshold_of nine }
 {
     if nine {
-        return Threshold::Nine;
+        Threshold::Nine
+    } else {
+        Threshold::Thirteen
     }
-    Threshold::Thirteen
 }

@@ -5,7 +5,6 @@ ghost use Rattle.totals.specs.Calls as totals_call;
 ghost use Rattle.totals.specs.LowestTerms.{mean_of};
 ghost use Rattle.exports.specs.Replies as spec;
 
-use super::replies;
 use super::replies::{RatioAnswer, TotalsAnswer};
 use totals::Totals;
 
@@ -22,7 +21,7 @@ pub extern "C" fn purdolve_empty_totals() -> Totals
 pub extern "C" fn purdolve_add_card(t: Totals, luma: &[f32]) -> TotalsAnswer
     ensures { result ≡ spec.totals_answer (totals_call.add_card_of t luma.now) }
 {
-    replies::totals_answer(totals::add_card(t, luma))
+    TotalsAnswer::from(totals::add_card(t, luma))
 }
 
 // The totals of two batches added. Refused: 18.
@@ -30,7 +29,7 @@ pub extern "C" fn purdolve_add_card(t: Totals, luma: &[f32]) -> TotalsAnswer
 pub extern "C" fn purdolve_add_totals(a: Totals, b: Totals) -> TotalsAnswer
     ensures { result ≡ spec.totals_answer (totals_call.add_totals_of a b) }
 {
-    replies::totals_answer(totals::add_totals(a, b))
+    TotalsAnswer::from(totals::add_totals(a, b))
 }
 
 // The mean magnitude in 65,536ths, as two whole numbers without common factor; 0 over 1 with no modules. Refused: 18.
@@ -38,5 +37,5 @@ pub extern "C" fn purdolve_add_totals(a: Totals, b: Totals) -> TotalsAnswer
 pub extern "C" fn purdolve_mean(t: Totals) -> RatioAnswer
     ensures { result ≡ spec.ratio_answer (mean_of t) }
 {
-    replies::ratio_answer(totals::mean(t))
+    RatioAnswer::from(totals::mean(t))
 }

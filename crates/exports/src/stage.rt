@@ -17,10 +17,10 @@ ghost use Rattle.exports.specs.Layouts.{layout, to_score};
 
 use super::replies;
 use super::replies::{
-    FlagAnswer, FloatAnswer, LinearAnswer, MeasureAnswer, NoiseAnswer, ScoreAnswer,
+    FlagAnswer, FloatAnswer, LinearAnswer, MeasureAnswer, ModelAnswer, NoiseAnswer, ScoreAnswer,
 };
 use color::{Lab, Linear};
-use illum::{IlluminationModel, Modelled};
+use illum::IlluminationModel;
 use layout::Layout;
 use stats::ChannelStats;
 
@@ -46,7 +46,7 @@ pub extern "C" fn purdolve_correct_lent<'a>(
 ) -> LinearAnswer
     ensures { result ≡ spec.linear_answer (correct_of (lent_model terms side residual_rms affine_r.now affine_g.now affine_b.now gain_r.now gain_g.now gain_b.now flare_r.now flare_g.now flare_b.now) x y colour) }
 {
-    replies::linear_answer(illum::correct_lent(
+    LinearAnswer::from(illum::correct_lent(
         terms,
         side,
         residual_rms,
@@ -68,6 +68,7 @@ pub extern "C" fn purdolve_correct_lent<'a>(
 // Fits the model to references in flat floats, eight each: x, y, the observed colour, the nominal colour. Kept gets a byte a
 // reference, 1 where it was kept, and 0 for all where the model counts none as kept. Scratch of 4 × references is all zero
 // afterwards. Refused: 2, 5, 6, 7, 8, 11; kept and scratch are untouched then, save that 11 leaves scratch zero.
+#[tactic(auto, unfolding(crate::specs::Exits::fit_exit))]
 #[unsafe(no_mangle)]
 pub extern "C" fn purdolve_fit_flat(
     flat: &[f32],
@@ -75,14 +76,15 @@ pub extern "C" fn purdolve_fit_flat(
     version: u8,
     kept: &mut [u8],
     scratch: &mut [f32],
-) -> Modelled
-    ensures { fit_call.final result kept.new scratch.new ≡ fit_call.fit_of (fit_call.flat_request flat.now side version kept.old scratch.old) }
+) -> ModelAnswer
+    ensures { exits.exit2 result kept.new scratch.new ≡ exits.fit_exit (fit_call.fit_of (fit_call.flat_request flat.now side version kept.old scratch.old)) }
 {
-    fit::fit_flat(flat, side, version, kept, scratch)
+    ModelAnswer::from(fit::fit_flat(flat, side, version, kept, scratch))
 }
 
 // Measures the noise record from references in flat floats, corrected by the model, and counts those that have a mark. Scratch of
 // 4 × references is all zero afterwards. Refused: 2, 3, 5, 6, 7, 8, 10, 12; scratch is untouched then.
+#[tactic(auto, unfolding(crate::specs::Exits::measure_exit))]
 #[unsafe(no_mangle)]
 pub extern "C" fn purdolve_measure_flat(
     flat: &[f32],
@@ -94,12 +96,13 @@ pub extern "C" fn purdolve_measure_flat(
 ) -> MeasureAnswer
     ensures { exits.exit1 result scratch.new ≡ exits.measure_exit (measure_call.measure_of (measure_call.flat_request flat.now side model palette.now hues scratch.old)) }
 {
-    replies::measure_answer(measure::measure_flat(flat, side, model, palette, hues, scratch))
+    MeasureAnswer::from(measure::measure_flat(flat, side, model, palette, hues, scratch))
 }
 
 // Scores a card: writes a luma score a module, three components of its corrected colour, and, with chroma on, log2(hues) scores a
 // cell and then, at cell size 1, a ring module. Answers document 01's number, and how many modules and how many cells have a mark.
 // Refused: 2, 3, 4, 5, 6, 7, 8, 9, 10, 12; nothing is written then.
+#[tactic(auto, unfolding(crate::specs::Exits::score_exit))]
 #[unsafe(no_mangle)]
 pub extern "C" fn purdolve_score(
     side: usize,
@@ -127,13 +130,14 @@ pub extern "C" fn purdolve_score(
         size,
         grid,
     };
-    replies::score_answer(demod::score(
+    ScoreAnswer::from(demod::score(
         layout, xs, ys, raw, cxs, cys, craw, palette, model, noise, luma, colours, chroma,
     ))
 }
 
 // Refines the luma scores of the listed modules by their corrected colours. The scratch is zero afterwards in its first
 // (side + 12)² elements. Answers document 01's number. Refused: 2, 3, 5, 6, 7, 8, 9; nothing is written then.
+#[tactic(auto, unfolding(crate::specs::Exits::refine_exit))]
 #[unsafe(no_mangle)]
 pub extern "C" fn purdolve_add_local_luma(
     luma: &mut [f32],
@@ -157,6 +161,7 @@ pub extern "C" fn purdolve_add_local_luma(
 // Reads a card from its raw colours in one call: scores it, refines and unmasks the luma scores in place, and writes the bits of
 // the modules and of the symbols. Answers as scoring does, or the number of the first of the calls that is refused; the memory is
 // then as that call left it. Refused: 2, 3, 4, 5, 6, 7, 8, 9, 10, 12.
+#[tactic(auto, unfolding(crate::specs::Exits::read_exit))]
 #[unsafe(no_mangle)]
 pub extern "C" fn purdolve_read_bits(
     side: usize,
@@ -190,7 +195,7 @@ pub extern "C" fn purdolve_read_bits(
         size,
         grid,
     };
-    replies::score_answer(bits::read_bits(
+    ScoreAnswer::from(bits::read_bits(
         layout, xs, ys, raw, cxs, cys, craw, palette, mask, model, noise, luma, colours, chroma,
         scratch, bits, symbols,
     ))
@@ -198,10 +203,10 @@ pub extern "C" fn purdolve_read_bits(
 
 // The model that corrects nothing, with 4 terms, for a card of this side. Refused: 2.
 #[unsafe(no_mangle)]
-pub extern "C" fn purdolve_identity(side: usize) -> Modelled
-    ensures { result ≡ illum_call.identity_of side }
+pub extern "C" fn purdolve_identity(side: usize) -> ModelAnswer
+    ensures { result ≡ spec.model_answer (illum_call.identity_of side) }
 {
-    illum::identity(side)
+    ModelAnswer::from(illum::identity(side))
 }
 
 // The noise record to fall back on: the palette's own levels, sigmas 6, samples 0. Refused: 3, 5, 8.
@@ -209,7 +214,7 @@ pub extern "C" fn purdolve_identity(side: usize) -> Modelled
 pub extern "C" fn purdolve_nominal(palette: &[f32], hues: usize) -> NoiseAnswer
     ensures { result ≡ spec.noise_answer (stats_call.nominal_answer palette.now hues) }
 {
-    replies::noise_answer(ChannelStats::nominal(palette, hues))
+    NoiseAnswer::from(ChannelStats::nominal(palette, hues))
 }
 
 // The chroma noise at lightness l. Refused: 8, 9.
@@ -217,7 +222,7 @@ pub extern "C" fn purdolve_nominal(palette: &[f32], hues: usize) -> NoiseAnswer
 pub extern "C" fn purdolve_sigma_ab_at(noise: ChannelStats, l: f32) -> FloatAnswer
     ensures { result ≡ spec.float_answer (stats_call.sigma_ab_answer noise l) }
 {
-    replies::figure_answer(noise.sigma_ab_at(l))
+    FloatAnswer::from(noise.sigma_ab_at(l))
 }
 
 // The log-likelihood ratio of a luma sample, positive for dark. Refused: 8, 9.
@@ -225,7 +230,7 @@ pub extern "C" fn purdolve_sigma_ab_at(noise: ChannelStats, l: f32) -> FloatAnsw
 pub extern "C" fn purdolve_luma_llr(noise: ChannelStats, l: f32) -> FloatAnswer
     ensures { result ≡ spec.float_answer (stats_call.luma_llr_answer noise l) }
 {
-    replies::figure_answer(noise.luma_llr(l))
+    FloatAnswer::from(noise.luma_llr(l))
 }
 
 // How much to believe a sample, from 0 to 1. Refused: 3, 5, 8, 9.
@@ -238,11 +243,12 @@ pub extern "C" fn purdolve_reliability(
 ) -> FloatAnswer
     ensures { result ≡ spec.float_answer (stats_call.reliability_answer noise sample palette.now hues) }
 {
-    replies::figure_answer(noise.reliability(sample, palette, hues))
+    FloatAnswer::from(noise.reliability(sample, palette, hues))
 }
 
 // Writes the log-likelihood of each hue, up to a constant that all share, to the front of `out`. Answers document 01's number.
 // Refused: 3, 5, 8, 9; nothing is written then.
+#[tactic(auto, unfolding(crate::specs::Exits::write_exit))]
 #[unsafe(no_mangle)]
 pub extern "C" fn purdolve_hue_log_likelihoods(
     noise: ChannelStats,
@@ -261,7 +267,7 @@ pub extern "C" fn purdolve_hue_log_likelihoods(
 pub extern "C" fn purdolve_margin(noise: ChannelStats, palette: &[f32], hues: usize) -> FlagAnswer
     ensures { result ≡ spec.flag_answer (margin_call.margin_answer noise palette.now hues) }
 {
-    replies::verdict_answer(margin::margin(noise, palette, hues))
+    FlagAnswer::from(margin::margin(noise, palette, hues))
 }
 
 // The margin check at one of its settings, 9 or 13. Refused: 3, 5, 8, 9.
@@ -274,12 +280,13 @@ pub extern "C" fn purdolve_margin_at(
 ) -> FlagAnswer
     ensures { result ≡ spec.flag_answer (margin_call.margin_at_answer (spec.threshold_of nine) noise palette.now hues) }
 {
-    replies::verdict_answer(margin::margin_at(replies::threshold_of(nine), noise, palette, hues))
+    FlagAnswer::from(margin::margin_at(replies::threshold_of(nine), noise, palette, hues))
 }
 
 // How the 32,768 sRGB colours whose bytes are multiples of 8 divide among the palette's levels and hues: writes the dark ones by hue,
 // the light ones by hue and those whose luma score is zero or NaN to the front of `out`. Answers document 01's number. Refused: 3, 5,
 // 8, 9; nothing is written then.
+#[tactic(auto, unfolding(crate::specs::Exits::write_exit))]
 #[unsafe(no_mangle)]
 pub extern "C" fn purdolve_colour_counts(
     noise: ChannelStats,

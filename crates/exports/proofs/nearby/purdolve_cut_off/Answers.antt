@@ -16,5 +16,5 @@ returns c =
     let s = c in
     let a = s.args in
     near-exit a.xy.now a.kept.now a.side a.x a.y (query.CutOff (to_z w32 (of_z w32 a.column))) a.out.now s.ranges.x s.ranges.y
-    c.number_answer.ensures c.near.ensures.out_after
+    c.from.ensures c.near.ensures.out_after
     ∙ ap (λ (z : ℤ). near_exit (near_of (request a.xy.now a.kept.now a.side a.x a.y (query.CutOff z) a.out.now))) (to_z-of_z s.ranges.column)

@@ -7,4 +7,4 @@ pub returns : goal.returns
 returns c =
     let s = c in
     near-exit s.args.xy.now s.args.kept.now s.args.side s.args.x s.args.y (query.Within s.args.radius) s.args.out.now s.ranges.x s.ranges.y
-    c.number_answer.ensures c.near.ensures.out_after
+    c.from.ensures c.near.ensures.out_after
