@@ -1,7 +1,0 @@
--- `local::single_of` meets its contract: each number rounded. Assumes nothing.
-use Rattle.local.specs.Local.{single_of}
-use Rattle.local.proofs.single_of.Goals as goal
-
-pub returns : goal.returns
-unfolding single_of
-returns c = cc
