@@ -21,7 +21,6 @@ use Rattle.measure.specs.declared.Measurement.{Measurement}
 use Rattle.measure.specs.Measure as measuring
 use Rattle.scores.specs.Score.{chroma_held}
 use Rattle.demod.specs.declared.ScoreReport.{ScoreReport}
-use Rattle.demod.specs.declared.Scored.TheVariants.{Done}
 use Rattle.demod.specs.Call as scoring
 use Rattle.demod.proofs.Accepted.{report_is}
 use Rattle.promises.specs.Marks.{Marks, Gains, Count, References, Reported}
@@ -78,7 +77,7 @@ module _ (q : measuring.Request) (r : Measurement) where
         few = λ l. rw (lt-ltb q.n 8 l) at e;
       }
 
-pub reported : (q : scoring.Request) (r : ScoreReport) → (scoring.scored_of q).answer ≡ Done r → Reported q r
+pub reported : (q : scoring.Request) (r : ScoreReport) → (scoring.scored_of q).answer ≡ gives r → Reported q r
 unfolding scoring.report_of chroma_held
 reported q r h =
     let e = report_is q r h in

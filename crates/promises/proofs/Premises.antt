@@ -13,7 +13,6 @@ use Rattle.sentences.proofs.Laws.{holds, passed, behind, split, or_eq, or_ge}
 use Rattle.limits.specs.Chroma.{chroma_on}
 use Rattle.layout.specs.Groups.{shape, placement, Paired}
 use Rattle.layout.proofs.Laws.{shape-sound, placement-sound}
-use Rattle.answers.specs.declared.Outcome.TheVariants.{Done}
 use Rattle.answers.specs.Answers.{gives}
 use Rattle.modulate.specs.Draw as drawing
 use Rattle.modulate.specs.Draw.{entries_of, short_bits, short_hues, bad_draw_lengths, draw_sentences, draw_of}
@@ -45,7 +44,7 @@ file-singles s card m r e =
 
 -- ---- drawing where scoring was accepted
 
-drawn_by : (q : drawing.Card) (n : ℕ) → (decided n (drawing.not_drawn q) (drawing.drawn Done (drawing.levels_of q) (drawing.hues_of q))).number ≡ n
+drawn_by : (q : drawing.Card) (n : ℕ) → (decided n (drawing.not_drawn q) (drawing.all_drawn q)).number ≡ n
 unfolding decided
 drawn_by q zero = refl
 drawn_by q (suc n) = refl
@@ -59,7 +58,7 @@ module _ (s : Setting) (c : Card) (z : (scored_card s c).number ≡ 0) where
   nothing = sym z ∙ scored.number (to_score s c)
 
   pairs : Paired s.xs s.ys s.cxs s.cys
-  pairs = (scored.accepted (to_score s c) 0 nothing refl).lengths.pairs
+  pairs = (scored.accepted (to_score s c) nothing).lengths.pairs
 
   -- the two groups are passed
   shape-passed : 0 ≡ refusal (shape s.layout)

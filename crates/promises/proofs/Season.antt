@@ -45,7 +45,7 @@ module _ (q : Request) (w : (i : ℕ) → i < length q.xs → Within (whole 20) 
 
   by_number : (n : ℕ) → n ≡ refusal (sentences_of q) → Within (whole 20) (get_or (refine_of q).luma i nan)
   by_number zero e =
-      subst (λ (f : Final). Within (whole 20) (get_or f.luma i nan)) (at_done q 0 e refl) (refined_all (accepted q 0 e refl).long.listed.luma-long)
+      subst (λ (f : Final). Within (whole 20) (get_or f.luma i nan)) (at_done q e) (refined_all (accepted q e).long.listed.luma-long)
   by_number (suc n) e = subst (λ (f : Final). Within (whole 20) (get_or f.luma i nan)) (at_refused q (suc n) e (λ z. omega arith)) (w i l)
 
   refine-within : Within (whole 20) (get_or (refine_of q).luma i nan)

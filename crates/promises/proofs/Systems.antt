@@ -144,7 +144,7 @@ module _ (n : ℕ) where
     -- what a refused call leaves is what it was lent
     called : (P : Final → Type 0) → ((k : ℕ) → P (final (refused_by k) a b x)) → (n ≤ length x → P (final_of (gauss n a b x))) → P (solve_of n a b x)
     unfolding solve_of decided
-    called P refused done = by_number (numbered short bad) (λ e. done (accepted.unknowns-fit 0 short bad n (length a) (length b) (length x) refl (sym e) refl))
+    called P refused done = by_number (numbered short bad) (λ e. done (accepted.unknowns-fit short bad (sym e) n (length a) (length b) (length x) refl))
       where
         short : Bool
         short = short_system n (length a) (length b) (length x)

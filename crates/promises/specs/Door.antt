@@ -3,7 +3,7 @@ use Rattle.std.specs.Prelude.{◌≡◌, false}
 use Rattle.illum.specs.Refusals.{bad_terms}
 use Rattle.fit.specs.Fit.{Request, fit_of}
 use Rattle.demod.specs.declared.ScoreReport.{ScoreReport}
-use Rattle.demod.specs.declared.Scored.TheVariants.{Done}
+use Rattle.answers.specs.Answers.{gives}
 use Rattle.demod.specs.Call as scoring
 use Rattle.page.specs.Calls.{bad_tally}
 
@@ -13,4 +13,4 @@ pub record OnPage (q : Request) (r : ScoreReport) : Type 0 where
   pub counts-good : bad_tally (fit_of q).answer.model.kept (fit_of q).answer.model.rejected r.held_modules ≡ false
 
 abbrev pub FittedOnPages : Type 0
-FittedOnPages = (q : Request) (s : scoring.Request) (r : ScoreReport) → (fit_of q).answer.number ≡ 0 → (scoring.scored_of s).answer ≡ Done r → OnPage q r
+FittedOnPages = (q : Request) (s : scoring.Request) (r : ScoreReport) → (fit_of q).answer.number ≡ 0 → (scoring.scored_of s).answer ≡ gives r → OnPage q r

@@ -13,7 +13,6 @@ use Rattle.measure.specs.declared.Measurement.{Measurement}
 use Rattle.measure.specs.Measure as measuring
 use Rattle.observed.specs.Colours.{held_module, held_cell}
 use Rattle.demod.specs.declared.ScoreReport.{ScoreReport}
-use Rattle.demod.specs.declared.Scored.TheVariants.{Done}
 use Rattle.demod.specs.Call as scoring
 
 -- ---- one colour
@@ -70,4 +69,4 @@ pub record Reported (q : scoring.Request) (r : ScoreReport) : Type 0 where
 
 pub record HeldCounts : Type 0 where
   pub measured : (q : measuring.Request) (r : Measurement) → (measuring.measure_of q).said ≡ gives r → References q r
-  pub scored : (q : scoring.Request) (r : ScoreReport) → (scoring.scored_of q).answer ≡ Done r → Reported q r
+  pub scored : (q : scoring.Request) (r : ScoreReport) → (scoring.scored_of q).answer ≡ gives r → Reported q r

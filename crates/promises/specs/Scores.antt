@@ -12,7 +12,7 @@ use Rattle.modulate.specs.declared.Cell.{Cell}
 use Rattle.modulate.specs.declared.Cell.TheVariants.{Unmasked, At}
 use Rattle.stats.specs.Noise.{reliability}
 use Rattle.scores.specs.Score.{bit_scores, chroma_score, luma_score}
-use Rattle.demod.specs.declared.Scored.TheVariants.{Done}
+use Rattle.answers.specs.Answers.{gives}
 use Rattle.demod.specs.Call.{Request, module_colours, cell_colours, sentences_of, report_of, turned_away, scored_of}
 use Rattle.promises.specs.Noise.{HeldAsSingles}
 
@@ -36,7 +36,7 @@ place q e b = e * symbol_bits q.layout.hues + b
 -- accepted: no sentence holds, each number that belongs to a module, a cell or a ring module is written, and what comes after them stays
 pub record Scored (q : Request) : Type 0 where
   pub no_sentence : refusal (sentences_of q) ≡ 0
-  pub reports : (scored_of q).answer ≡ Done (report_of q)
+  pub reports : (scored_of q).answer ≡ gives (report_of q)
   pub luma-long : length (scored_of q).luma ≡ length q.luma
   pub luma : (i : ℕ) → i < length q.xs → get_or (scored_of q).luma i nan ≡ luma_score q.noise q.palette q.layout.hues (module_colours q i)
   pub luma-kept : (i : ℕ) → length q.xs ≤ i → get_or (scored_of q).luma i nan ≡ get_or q.luma i nan

@@ -11,7 +11,7 @@ use Rattle.illum.specs.declared.IlluminationModel.{IlluminationModel}
 use Rattle.illum.specs.Refusals.{bad_terms, bad_model_side, not_finite_model, bad_shape, bad_model}
 use Rattle.fit.proofs.Law.{fit-sound, fit-accepted}
 use Rattle.demod.specs.declared.ScoreReport.{ScoreReport}
-use Rattle.demod.specs.declared.Scored.TheVariants.{Done}
+use Rattle.answers.specs.Answers.{gives}
 use Rattle.demod.specs.Call as scoring
 use Rattle.demod.proofs.Accepted.{report_is}
 use Rattle.demod.proofs.Outcome.{at_done}
@@ -29,9 +29,9 @@ few k r n e l h held m =
     let a : k ≤ 16384 = ⊎_elim (λ (z : k ≡ 0). omega arith) (λ (z : k + r ≡ n). omega arith) e in
     rw (le-ltb 16384 k a, le-ltb 16384 r (omega arith), le-ltb 1048576 held m)
 
-module _ (s : scoring.Request) (r : ScoreReport) (e : (scoring.scored_of s).answer ≡ Done r) where
+module _ (s : scoring.Request) (r : ScoreReport) (e : (scoring.scored_of s).answer ≡ gives r) where
   modules-few : r.held_modules ≤ 1048576
-  modules-few = omega (arith, (reported s r e).modules.most, (at_done s (e ∙ ap Done (report_is s r e))).fit.placed.modules-most)
+  modules-few = omega (arith, (reported s r e).modules.most, (at_done s (e ∙ ap gives (report_is s r e))).fit.placed.modules-most)
 
 pub returns : goal.returns
 returns c =

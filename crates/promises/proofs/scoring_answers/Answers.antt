@@ -8,7 +8,7 @@ use borrow.Author.Tests.{lt-ltb, le-ltb, eq-eqb}
 use lib.ListN.{length, get_or}
 use lib.Ieee.{nan}
 use Rattle.limits.specs.Chroma.{chroma_on, symbol_bits, chroma_entries, chroma_length}
-use Rattle.demod.specs.declared.Scored.TheVariants.{Done}
+use Rattle.answers.specs.Answers.{gives}
 use Rattle.color.specs.Palette.{linear_at}
 use Rattle.modulate.specs.declared.Cell.TheVariants.{Unmasked, At}
 use Rattle.demod.specs.Call.{Request, Final, module_colours, cell_colours, written_chroma, report_of, scored_of}
@@ -19,7 +19,7 @@ use Rattle.promises.specs.Scores.{bit_score, place, Scored}
 use Rattle.promises.proofs.scoring_answers.Goals as goal
 
 module _ (q : Request) (z : (scored_of q).number ≡ 0) where
-  e : (scored_of q).answer ≡ Done (report_of q)
+  e : (scored_of q).answer ≡ gives (report_of q)
   e = done-answer q z
 
   -- the chroma list keeps its length, with chroma on or off
