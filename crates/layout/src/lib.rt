@@ -53,7 +53,13 @@ fn bad_positions(layout: Layout, xs: &[i32], ys: &[i32], cxs: &[u16], cys: &[u16
 
 // Core: whether the modules and cells that are placed on a layout pass. Refused: 6, 7.
 #[tactic(auto, unfolding(sentences::specs::Sentences::refusal, crate::specs::Groups::placement))]
-pub fn check_placement(layout: Layout, xs: &[i32], ys: &[i32], cxs: &[u16], cys: &[u16]) -> Result<(), Refusal>
+pub fn check_placement(
+    layout: Layout,
+    xs: &[i32],
+    ys: &[i32],
+    cxs: &[u16],
+    cys: &[u16],
+) -> Result<(), Refusal>
     requires { Shaped layout × Paired xs.now ys.now cxs.now cys.now }
     ensures { outcome_number result ≡ refusal (placement layout xs.now ys.now cxs.now cys.now) }
 {
