@@ -8,6 +8,7 @@ ghost use Rattle.std.specs.Prelude.{◌≡◌, ◌≤◌, take};
 ghost use Rattle.fit.specs.Fit as fitting;
 ghost use Rattle.measure.specs.Measure as measuring;
 ghost use Rattle.answers.specs.Answers.{said};
+ghost use Rattle.illum.specs.Refusals.{model_said};
 ghost use Rattle.records.specs.Records.{flattened};
 
 use answers::Refusal;
@@ -29,7 +30,7 @@ fn fit_first(
     scratch: &mut [f32],
 ) -> Result<IlluminationModel, Refusal>
     requires { n ≤ 64 }
-    ensures { fitting.final result kept.new scratch.new ≡ fitting.fit_of (fitting.flat_request (flattened (take n rs)) side version kept.old scratch.old) }
+    ensures { fitting.final (model_said result) kept.new scratch.new ≡ fitting.fit_of (fitting.flat_request (flattened (take n rs)) side version kept.old scratch.old) }
 {
     records::fit(&rs[..n], side, version, kept, scratch)
 }
