@@ -33,9 +33,9 @@ Decodes n r = MatchResult r (λ refusal. number_of refusal ≡ n) (λ e. (e.0 �
 
 -- ---- what an answer says
 
--- document 01's number, 0 where the call is accepted, and the value that it gives. A refusal gives none, and neither does an accepted call
--- that answers that there is none. Document 01 says: "No solution" and "no local fit" are answers, not refusals. Both have the number 0:
--- `solving_said` gives whether there is a solution, and `local_said` gives no value where there is no fit.
+-- document 01's number, 0 where the call is accepted, and the value that it gives; a refusal gives none. Document 01 says: "No solution" and
+-- "no local fit" are answers, not refusals. So the value of a call that solves is whether there is a solution, and the local fit, which
+-- refuses nothing, answers an `Option`.
 pub record Said (A : Type 0) : Type 0 where
   pub number : ℕ
   pub value : Option A
@@ -45,9 +45,6 @@ refused_by n = record { number = n; value = none }
 
 abbrev pub gives : {A : Type 0} → A → Said A
 gives v = record { number = 0; value = some v }
-
-abbrev pub gives_none : {A : Type 0} → Said A
-gives_none = record { number = 0; value = none }
 
 -- v, or the number of the first sentence that holds
 abbrev pub answered : {A : Type 0} → List Sentence → A → Said A
