@@ -1,7 +1,7 @@
 // The palette of a card with k hues, one flat slice of 2 + 8k f32: the lightness of the two levels, a and b of each hue,
 // then the Lab of each colour, dark by hue and then light by hue. Here is where each number stands, and what
 // document 01's sentence 8 says of numbers and of a palette.
-// A palette is passed as that slice and its hue count: the C interface lends it so.
+// The C interface lends that slice and its hue count; behind a call's refusals the two are a `Palette`.
 ghost use Rattle.std.specs.Prelude.{◌≡◌, ◌+◌, ◌*◌, ◌<◌, ◌≤◌, length};
 ghost use Rattle.answers.specs.Answers.{said};
 ghost use Rattle.color.specs.Palette as spec;
@@ -57,6 +57,66 @@ pub fn index_of(l: bool, h: usize, hues: usize) -> usize
     ensures { result ≡ spec.index_of l h hues }
 {
     if l { hues + h % hues } else { h % hues }
+}
+
+// The numbers of a palette and its hue count, which the numbers reach for.
+#[derive(Clone, Copy, Debug)]
+pub struct Palette<'a> {
+    pub numbers: &'a [f32],
+    pub hues: usize,
+    ghost long: { spec.palette_len hues ≤ length numbers.now },
+}
+
+impl<'a> Palette<'a> {
+    // Core: a palette of numbers that are long enough for its hues.
+    pub fn new(numbers: &'a [f32], hues: usize) -> Palette<'a>
+        requires { spec.palette_len hues ≤ length numbers.now }
+        ensures { (result.numbers.now ≡ numbers.now) × (result.hues ≡ hues) }
+    {
+        Palette { numbers, hues }
+    }
+
+    // Core: the mean lightness of the dark level, 0, or of the light one, 1.
+    #[tactic(auto, unfolding(crate::specs::Palette::level_l))]
+    pub fn level(&self, level: usize) -> f32
+        requires { level < 2 }
+        ensures { result ≡ spec.level_l self.now.numbers.now level }
+    {
+        self.numbers[level]
+    }
+
+    // Core: the point of hue h.
+    #[tactic(auto, unfolding(crate::specs::Palette::hue_ab))]
+    pub fn point(&self, h: usize) -> Ab
+        requires { h < self.now.hues }
+        ensures { result ≡ spec.hue_ab self.now.numbers.now h }
+    {
+        Ab {
+            a: self.numbers[2 + 2 * h],
+            b: self.numbers[3 + 2 * h],
+        }
+    }
+
+    // Core: the Lab of a colour by its place, below 2 × hues.
+    #[tactic(auto, unfolding(crate::specs::Palette::palette_lab))]
+    pub fn lab(&self, index: usize) -> Lab
+        requires { index < 2 * self.now.hues }
+        ensures { result ≡ spec.palette_lab self.now.numbers.now self.now.hues index }
+    {
+        let at = 2 + 2 * self.hues + 3 * index;
+        Lab {
+            l: self.numbers[at],
+            a: self.numbers[at + 1],
+            b: self.numbers[at + 2],
+        }
+    }
+
+    // Core: sentence 8 of a palette: one of its 2 + 8 × hues numbers is wild.
+    pub fn is_wild(&self) -> bool
+        ensures { result ≡ spec.wild_palette self.now.numbers.now self.now.hues }
+    {
+        wild_in(self.numbers, 2 + 8 * self.hues)
+    }
 }
 
 // Core: the mean lightness of the dark level, 0, or of the light one, 1.

@@ -7,17 +7,18 @@
 // `layouts` (proofs/Laws.antt) proves a call's `refused` over groups and sentences of its own, one test for each.
 #![tactic(auto)]
 
-ghost use Rattle.std.specs.Prelude.{◌≡◌, ◌≤◌, length};
+ghost use Rattle.std.specs.Prelude.{◌≡◌, ◌*◌, ◌+◌, ◌<◌, ◌≤◌, eqb, pos, length, get_or};
 ghost use Rattle.sentences.specs.Sentences.{refusal};
 ghost use Rattle.answers.specs.Answers.{outcome_number};
-ghost use Rattle.layout.specs.Groups.{Shaped, Paired, shape, placement, module_placement, bad_positions};
+ghost use Rattle.places.specs.Places.{index_of, off_grid};
+ghost use Rattle.layout.specs.Groups.{Shaped, Paired, Positions, shape, placement, module_placement, bad_positions};
 
 use answers::Refusal;
 
 // A card's side in modules, its hue count, the size of its chroma cells in modules, and how many of its listed modules
 // are grid modules. Any numbers: the calls that take a layout refuse those that are none.
 #[repr(C)]
-#[derive(Clone, Copy)]
+#[derive(Clone, Copy, Debug)]
 pub struct Layout {
     pub side: usize,
     pub hues: usize,
@@ -85,4 +86,90 @@ pub fn check_modules(side: usize, grid: usize, xs: &[i32], ys: &[i32]) -> Result
         return Err(Refusal::Place);
     }
     Ok(())
+}
+
+// ---- what the functions behind the calls take
+
+// The listed modules of a card, the first `grid` of which are grid modules: they pass sentences 6 and 7. Their coordinates are two
+// lists, since the C interface lends them so.
+#[derive(Clone, Copy, Debug)]
+pub struct Modules<'a> {
+    pub side: usize,
+    pub grid: usize,
+    pub xs: &'a [i32],
+    pub ys: &'a [i32],
+    ghost placed: { Positions side grid xs.now ys.now },
+    ghost counted: { (grid ≤ length xs.now) × (length xs.now ≤ 1048576) },
+}
+
+impl<'a> Modules<'a> {
+    // Core: modules that pass.
+    pub fn new(side: usize, grid: usize, xs: &'a [i32], ys: &'a [i32]) -> Modules<'a>
+        requires { Positions side grid xs.now ys.now × (grid ≤ length xs.now) × (length xs.now ≤ 1048576) }
+        ensures { (result.side ≡ side) × (result.grid ≡ grid) × (result.xs.now ≡ xs.now) × (result.ys.now ≡ ys.now) }
+    {
+        Modules { side, grid, xs, ys }
+    }
+
+    // Core: how many there are.
+    pub fn len(&self) -> usize
+        ensures { result ≡ length self.now.xs.now }
+    {
+        self.xs.len()
+    }
+
+    // Core: whether there is none.
+    pub fn is_empty(&self) -> bool
+        ensures { result ≡ eqb (length self.now.xs.now) 0 }
+    {
+        self.xs.len() == 0
+    }
+
+    // Core: the place of module i in the grid of side + 12 by side + 12 whose first square is (-6, -6).
+    pub fn index_at(&self, i: usize) -> usize
+        requires { i < length self.now.xs.now }
+        ensures { (result ≡ index_of self.now.side (get_or self.now.xs.now i (pos 0)) (get_or self.now.ys.now i (pos 0))) × (result < (self.now.side + 12) * (self.now.side + 12)) }
+    {
+        places::index_at(self.side, self.grid, self.xs, self.ys, i)
+    }
+
+    // Core: whether module i stands outside the grid, as a ring module may.
+    pub fn off_grid_at(&self, i: usize) -> bool
+        requires { i < length self.now.xs.now }
+        ensures { result ≡ off_grid self.now.side (get_or self.now.xs.now i (pos 0)) (get_or self.now.ys.now i (pos 0)) }
+    {
+        places::off_grid_at(self.side, self.xs, self.ys, i)
+    }
+}
+
+// The coordinates of a card's cells, which run in pairs.
+#[derive(Clone, Copy, Debug)]
+pub struct Cells<'a> {
+    pub cxs: &'a [u16],
+    pub cys: &'a [u16],
+    ghost pairs: { length cxs.now ≡ length cys.now },
+}
+
+impl<'a> Cells<'a> {
+    // Core: cells of two lists of one length.
+    pub fn new(cxs: &'a [u16], cys: &'a [u16]) -> Cells<'a>
+        requires { length cxs.now ≡ length cys.now }
+        ensures { (result.cxs.now ≡ cxs.now) × (result.cys.now ≡ cys.now) }
+    {
+        Cells { cxs, cys }
+    }
+
+    // Core: how many there are.
+    pub fn len(&self) -> usize
+        ensures { result ≡ length self.now.cxs.now }
+    {
+        self.cxs.len()
+    }
+
+    // Core: whether there is none.
+    pub fn is_empty(&self) -> bool
+        ensures { result ≡ eqb (length self.now.cxs.now) 0 }
+    {
+        self.cxs.len() == 0
+    }
 }

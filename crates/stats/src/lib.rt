@@ -14,7 +14,7 @@ ghost use Rattle.stats.specs.Ready.{ColourAt, HueAt};
 
 use answers::Refusal;
 use color::Lab;
-use color::palette::{beyond, hue_ab, level_l, palette_lab, wild_palette};
+use color::palette::{Palette, beyond, hue_ab, level_l, palette_lab, wild_palette};
 
 // What was measured of the channel: the observed L of the dark and the light level, the luma noise, the
 // chroma noise pooled over both levels and that of each level (0 where it was not measured), and the
@@ -29,6 +29,13 @@ pub struct ChannelStats {
     pub sigma_ab_dark: f32,
     pub sigma_ab_light: f32,
     pub samples: u32,
+}
+
+// A card's channel: the noise record of its capture, and the palette that it was drawn with.
+#[derive(Clone, Copy, Debug)]
+pub struct Channel<'a> {
+    pub noise: ChannelStats,
+    pub palette: Palette<'a>,
 }
 
 // ---- the cores, for every float
