@@ -76,6 +76,13 @@ impl<'a> Palette<'a> {
         Palette { numbers, hues }
     }
 
+    // Core: how many colours it has: two levels of each hue.
+    pub fn colours(&self) -> usize
+        ensures { result ≡ 2 * self.now.hues }
+    {
+        2 * self.hues
+    }
+
     // Core: the mean lightness of the dark level, 0, or of the light one, 1.
     #[tactic(auto, unfolding(crate::specs::Palette::level_l))]
     pub fn level(&self, level: usize) -> f32

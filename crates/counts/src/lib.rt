@@ -155,7 +155,7 @@ fn check(noise: ChannelStats, palette: &[f32], hues: usize, out: &[u32]) -> Resu
     if short(palette, hues, out) {
         return Err(Refusal::Length);
     }
-    stats::check_figures(noise, palette, hues)
+    stats::Channel::new(noise, palette, hues).check_figures()
 }
 
 // Core: the counts, of a palette and room that are long enough.

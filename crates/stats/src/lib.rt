@@ -10,11 +10,10 @@ ghost use Rattle.answers.specs.Answers.{said, outcome_number, ended};
 ghost use Rattle.color.specs.Palette.{palette_len};
 ghost use Rattle.stats.specs.Noise as spec;
 ghost use Rattle.stats.specs.Calls as call;
-ghost use Rattle.stats.specs.Ready.{ColourAt, HueAt};
 
 use answers::Refusal;
 use color::Lab;
-use color::palette::{Palette, beyond, hue_ab, level_l, palette_lab, wild_palette};
+use color::palette::{Palette, beyond, level_l, wild_palette};
 
 // What was measured of the channel: the observed L of the dark and the light level, the luma noise, the
 // chroma noise pooled over both levels and that of each level (0 where it was not measured), and the
@@ -85,55 +84,6 @@ impl ChannelStats {
         dl * dl + da * da + db * db
     }
 
-    // The distance from the nearest palette colour; `sigma` gives the chroma noise at colour i, whose lightness is l.
-    fn nearest_with<F: Fn(usize, f32) -> f32>(
-        self,
-        sample: Lab,
-        palette: &[f32],
-        hues: usize,
-        sigma: F,
-    ) -> f32
-        requires long { palette_len hues ≤ length palette.now }
-        requires callable { (i : ℕ) → ColourAt palette.now hues i → F.pre sigma i (spec.lightness_at palette.now hues i) }
-        requires sigmas { (i : ℕ) (s : Float) → ColourAt palette.now hues i → F.post sigma i (spec.lightness_at palette.now hues i) s → s ≡ spec.sigma_ab_at self (spec.lightness_at palette.now hues i) }
-        ensures { result ≡ spec.nearest self sample palette.now hues }
-    {
-        let mut best = f32::INFINITY;
-        // over places: a colour is three numbers of the flat palette, and no element
-        for i in 0..2 * hues {
-            let c = palette_lab(palette, hues, i);
-            best = float::min(best, self.distance(sample, c, sigma(i, c.l)));
-        }
-        best
-    }
-
-    // Core: `reliability`, of a palette that is long enough.
-    #[tactic(auto, unfolding(crate::specs::Noise::reliability))]
-    pub fn reliability_of(self, sample: Lab, palette: &[f32], hues: usize) -> f32
-        requires { palette_len hues ≤ length palette.now }
-        ensures { result ≡ spec.reliability self sample palette.now hues }
-    {
-        weight(self.nearest_with(sample, palette, hues, |_, l| self.sigma_ab_of(l)))
-    }
-
-    // Core: writes the chroma noise at the lightness of each palette colour to the front of `sigmas`.
-    pub fn palette_sigmas(self, palette: &[f32], hues: usize, sigmas: &mut [f32])
-        requires { (palette_len hues ≤ length palette.now) × (2 * hues ≤ length sigmas.old) }
-        ensures { sigmas.new ≡ spec.palette_sigmas self palette.now hues sigmas.old }
-    {
-        for (i, sigma) in sigmas[..2 * hues].iter_mut().enumerate() {
-            *sigma = self.sigma_ab_of(palette_lab(palette, hues, i).l);
-        }
-    }
-
-    // Core: the distance from the nearest palette colour, the palette's chroma noises being given.
-    pub fn nearest_by(self, sample: Lab, palette: &[f32], hues: usize, sigmas: &[f32]) -> f32
-        requires { (palette_len hues ≤ length palette.now) × spec.Sigmas self palette.now hues sigmas.now }
-        ensures { result ≡ spec.nearest self sample palette.now hues }
-    {
-        self.nearest_with(sample, palette, hues, |i, _| sigmas[i])
-    }
-
     // Twice the squared chroma noise at the sample's lightness.
     #[tactic(auto, using(crate::proofs::Literals::literals), unfolding(crate::specs::Noise::denominator))]
     fn denominator(self, sample: Lab) -> f32
@@ -141,17 +91,6 @@ impl ChannelStats {
     {
         let s_ab = self.sigma_ab_of(sample.l);
         2.0 * s_ab * s_ab
-    }
-
-    // Core: `hue_log_likelihoods`, of a palette and room that are long enough.
-    pub fn hue_log_likelihoods_of(self, sample: Lab, palette: &[f32], hues: usize, out: &mut [f32])
-        requires { (palette_len hues ≤ length palette.now) × (hues ≤ length out.old) }
-        ensures { out.new ≡ spec.hue_log_likelihoods self sample palette.now hues out.old }
-    {
-        let denom = self.denominator(sample);
-        for (h, entry) in out[..hues].iter_mut().enumerate() {
-            *entry = likelihood(sample, denom, palette, hues, h);
-        }
     }
 
     // Core: `nominal`, of a palette that has its levels.
@@ -182,16 +121,152 @@ pub fn weight(d: f32) -> f32
     1.0 / (1.0 + square * square)
 }
 
-// The log-likelihood of hue h, for a sample and twice its squared noise.
-#[tactic(auto, unfolding(crate::specs::Noise::hue_log_likelihood))]
-fn likelihood(sample: Lab, denom: f32, palette: &[f32], hues: usize, h: usize) -> f32
-    requires { HueAt palette.now hues h }
-    ensures { result ≡ spec.hue_log_likelihood sample denom palette.now h }
-{
-    let point = hue_ab(palette, hues, h);
-    let da = sample.a - point.a;
-    let db = sample.b - point.b;
-    -(da * da + db * db) / denom
+// Of a channel.
+impl<'a> Channel<'a> {
+    // Core: the channel of a noise record and of a palette's numbers that are long enough for its hues.
+    pub fn new(noise: ChannelStats, numbers: &'a [f32], hues: usize) -> Channel<'a>
+        requires { palette_len hues ≤ length numbers.now }
+        ensures { (result.noise ≡ noise) × (result.palette.numbers.now ≡ numbers.now) × (result.palette.hues ≡ hues) }
+    {
+        Channel {
+            noise,
+            palette: Palette::new(numbers, hues),
+        }
+    }
+
+    // The distance from the nearest palette colour; `sigma` gives the chroma noise at colour i, whose lightness is l.
+    fn nearest_with<F: Fn(usize, f32) -> f32>(&self, sample: Lab, sigma: F) -> f32
+        requires callable { (i : ℕ) → i < 2 * self.now.palette.hues → F.pre sigma i (spec.lightness_at self.now.palette.numbers.now self.now.palette.hues i) }
+        requires sigmas { (i : ℕ) (s : Float) → i < 2 * self.now.palette.hues → F.post sigma i (spec.lightness_at self.now.palette.numbers.now self.now.palette.hues i) s → s ≡ spec.sigma_ab_at self.now.noise (spec.lightness_at self.now.palette.numbers.now self.now.palette.hues i) }
+        ensures { result ≡ spec.nearest self.now.noise sample self.now.palette.numbers.now self.now.palette.hues }
+    {
+        let mut best = f32::INFINITY;
+        // By index: a colour is three numbers of the flat palette, and no element.
+        for i in 0..self.palette.colours() {
+            let c = self.palette.lab(i);
+            best = float::min(best, self.noise.distance(sample, c, sigma(i, c.l)));
+        }
+        best
+    }
+
+    // Core: `reliability`.
+    #[tactic(auto, unfolding(crate::specs::Noise::reliability))]
+    pub fn reliability_of(&self, sample: Lab) -> f32
+        ensures { result ≡ spec.reliability self.now.noise sample self.now.palette.numbers.now self.now.palette.hues }
+    {
+        weight(self.nearest_with(sample, |_, l| self.noise.sigma_ab_of(l)))
+    }
+
+    // Core: writes the chroma noise at the lightness of each palette colour to the front of `sigmas`.
+    pub fn palette_sigmas(&self, sigmas: &mut [f32])
+        requires { 2 * self.now.palette.hues ≤ length sigmas.old }
+        ensures { sigmas.new ≡ spec.palette_sigmas self.now.noise self.now.palette.numbers.now self.now.palette.hues sigmas.old }
+    {
+        for (i, sigma) in sigmas[..2 * self.palette.hues].iter_mut().enumerate() {
+            *sigma = self.noise.sigma_ab_of(self.palette.lab(i).l);
+        }
+    }
+
+    // Core: the distance from the nearest palette colour, the palette's chroma noises being given.
+    pub fn nearest_by(&self, sample: Lab, sigmas: &[f32]) -> f32
+        requires { spec.Sigmas self.now.noise self.now.palette.numbers.now self.now.palette.hues sigmas.now }
+        ensures { result ≡ spec.nearest self.now.noise sample self.now.palette.numbers.now self.now.palette.hues }
+    {
+        self.nearest_with(sample, |i, _| sigmas[i])
+    }
+
+    // The log-likelihood of hue h, for a sample and twice its squared noise.
+    #[tactic(auto, unfolding(crate::specs::Noise::hue_log_likelihood))]
+    fn likelihood(&self, sample: Lab, denom: f32, h: usize) -> f32
+        requires { h < self.now.palette.hues }
+        ensures { result ≡ spec.hue_log_likelihood sample denom self.now.palette.numbers.now h }
+    {
+        let point = self.palette.point(h);
+        let da = sample.a - point.a;
+        let db = sample.b - point.b;
+        -(da * da + db * db) / denom
+    }
+
+    // Core: `hue_log_likelihoods`, of room that is long enough.
+    pub fn hue_log_likelihoods_of(&self, sample: Lab, out: &mut [f32])
+        requires { self.now.palette.hues ≤ length out.old }
+        ensures { out.new ≡ spec.hue_log_likelihoods self.now.noise sample self.now.palette.numbers.now self.now.palette.hues out.old }
+    {
+        let denom = self.noise.denominator(sample);
+        for (h, entry) in out[..self.palette.hues].iter_mut().enumerate() {
+            *entry = self.likelihood(sample, denom, h);
+        }
+    }
+
+    // Core: sentence 8.
+    #[tactic(auto, unfolding(crate::specs::Calls::bad_numbers))]
+    pub fn has_bad_numbers(&self) -> bool
+        ensures { result ≡ call.bad_numbers self.now.noise self.now.palette.numbers.now self.now.palette.hues }
+    {
+        self.palette.is_wild() || bad_noise_numbers(self.noise)
+    }
+
+    // Core: whether the numbers pass. Refused: 8, 9.
+    #[tactic(auto, unfolding(sentences::specs::Sentences::refusal))]
+    pub fn check_figures(&self) -> Result<(), Refusal>
+        ensures { outcome_number result ≡ refusal (call.figure_sentences self.now.noise self.now.palette.numbers.now self.now.palette.hues) }
+    {
+        if self.has_bad_numbers() {
+            return Err(Refusal::Number);
+        }
+        if bad_sigmas(self.noise) {
+            return Err(Refusal::Sigma);
+        }
+        Ok(())
+    }
+}
+
+// The same of a palette's numbers and its hue count.
+impl ChannelStats {
+    // Core: `Channel::palette_sigmas`.
+    pub fn palette_sigmas(self, palette: &[f32], hues: usize, sigmas: &mut [f32])
+        requires { (palette_len hues ≤ length palette.now) × (2 * hues ≤ length sigmas.old) }
+        ensures { sigmas.new ≡ spec.palette_sigmas self palette.now hues sigmas.old }
+    {
+        let channel = Channel {
+            noise: self,
+            palette: Palette {
+                numbers: palette,
+                hues,
+            },
+        };
+        channel.palette_sigmas(sigmas);
+    }
+
+    // Core: `Channel::nearest_by`.
+    pub fn nearest_by(self, sample: Lab, palette: &[f32], hues: usize, sigmas: &[f32]) -> f32
+        requires { (palette_len hues ≤ length palette.now) × spec.Sigmas self palette.now hues sigmas.now }
+        ensures { result ≡ spec.nearest self sample palette.now hues }
+    {
+        let channel = Channel {
+            noise: self,
+            palette: Palette {
+                numbers: palette,
+                hues,
+            },
+        };
+        channel.nearest_by(sample, sigmas)
+    }
+
+    // Core: `Channel::hue_log_likelihoods_of`.
+    pub fn hue_log_likelihoods_of(self, sample: Lab, palette: &[f32], hues: usize, out: &mut [f32])
+        requires { (palette_len hues ≤ length palette.now) × (hues ≤ length out.old) }
+        ensures { out.new ≡ spec.hue_log_likelihoods self sample palette.now hues out.old }
+    {
+        let channel = Channel {
+            noise: self,
+            palette: Palette {
+                numbers: palette,
+                hues,
+            },
+        };
+        channel.hue_log_likelihoods_of(sample, out);
+    }
 }
 
 // ---- the sentences
@@ -246,12 +321,18 @@ pub fn bad_sigmas(noise: ChannelStats) -> bool
 }
 
 // Core: sentence 8, of a noise record and of a palette that is long enough.
-#[tactic(auto, unfolding(crate::specs::Calls::bad_numbers))]
 pub fn bad_numbers(noise: ChannelStats, palette: &[f32], hues: usize) -> bool
     requires { palette_len hues ≤ length palette.now }
     ensures { result ≡ call.bad_numbers noise palette.now hues }
 {
-    wild_palette(palette, hues) || bad_noise_numbers(noise)
+    let channel = Channel {
+        noise,
+        palette: Palette {
+            numbers: palette,
+            hues,
+        },
+    };
+    channel.has_bad_numbers()
 }
 
 // Whether a noise record passes. Refused: 8, 9.
@@ -285,21 +366,6 @@ fn check_palette(palette: &[f32], hues: usize) -> Result<(), Refusal>
     Ok(())
 }
 
-// Core: whether the numbers of a palette that is long enough and of a noise record pass. Refused: 8, 9.
-#[tactic(auto, unfolding(sentences::specs::Sentences::refusal))]
-pub fn check_figures(noise: ChannelStats, palette: &[f32], hues: usize) -> Result<(), Refusal>
-    requires { palette_len hues ≤ length palette.now }
-    ensures { outcome_number result ≡ refusal (call.figure_sentences noise palette.now hues) }
-{
-    if bad_numbers(noise, palette, hues) {
-        return Err(Refusal::Number);
-    }
-    if bad_sigmas(noise) {
-        return Err(Refusal::Sigma);
-    }
-    Ok(())
-}
-
 // Core: whether a noise record and a palette pass. Refused: 3, 5, 8, 9.
 #[tactic(auto, unfolding(crate::specs::Calls::sentences_of, crate::specs::Calls::short_palette, sentences::specs::Sentences::refusal))]
 pub fn check(noise: ChannelStats, palette: &[f32], hues: usize) -> Result<(), Refusal>
@@ -311,7 +377,7 @@ pub fn check(noise: ChannelStats, palette: &[f32], hues: usize) -> Result<(), Re
     if short_palette(palette, hues) {
         return Err(Refusal::Length);
     }
-    check_figures(noise, palette, hues)
+    Channel::new(noise, palette, hues).check_figures()
 }
 
 // Sentence 5, of the likelihoods: the palette or the room for one a hue is too short.
@@ -338,7 +404,7 @@ fn check_likelihoods(
     if short_likelihoods(palette, hues, out) {
         return Err(Refusal::Length);
     }
-    check_figures(noise, palette, hues)
+    Channel::new(noise, palette, hues).check_figures()
 }
 
 // ---- the public calls
@@ -368,7 +434,14 @@ impl ChannelStats {
         ensures { said result ≡ call.reliability_answer self sample palette.now hues }
     {
         check(self, palette, hues)?;
-        Ok(self.reliability_of(sample, palette, hues))
+        let channel = Channel {
+            noise: self,
+            palette: Palette {
+                numbers: palette,
+                hues,
+            },
+        };
+        Ok(channel.reliability_of(sample))
     }
 
     // Writes the log-likelihood of each hue, up to a constant that all share, to the front of `out`.
@@ -383,7 +456,14 @@ impl ChannelStats {
         ensures { ended result out.new ≡ call.likelihoods_answer self sample palette.now hues out.old }
     {
         check_likelihoods(self, palette, hues, out)?;
-        self.hue_log_likelihoods_of(sample, palette, hues, out);
+        let channel = Channel {
+            noise: self,
+            palette: Palette {
+                numbers: palette,
+                hues,
+            },
+        };
+        channel.hue_log_likelihoods_of(sample, out);
         Ok(())
     }
 

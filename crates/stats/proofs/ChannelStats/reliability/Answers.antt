@@ -3,8 +3,8 @@ use Rattle.answers.proofs.Answers.{turned_away, says-given}
 use Rattle.stats.proofs.Passed.{past}
 use Rattle.stats.proofs.ChannelStats.reliability.Goals as goal
 
-pub reliability_of-requires : goal.reliability_of-requires
-reliability_of-requires c = past _ _ _ c.in_ok-check.ensures
+pub invariant_of-channel : goal.invariant_of-channel
+invariant_of-channel c = record { long = past _ _ _ c.in_ok-check.ensures }
 
 pub returns-in_err-check : goal.returns-in_err-check
 returns-in_err-check c = search (turned_away, c.in_err-check.ensures)

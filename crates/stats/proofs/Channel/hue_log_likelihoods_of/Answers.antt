@@ -1,4 +1,4 @@
--- `ChannelStats::hue_log_likelihoods_of` meets its contract: the likelihood of each hue stands at its place. Assumes nothing.
+-- `Channel::hue_log_likelihoods_of` meets its contract: the likelihood of each hue stands at its place. Assumes nothing.
 use mathlib.Core.Path.{◌≡◌, ap, ◌∙◌}
 use mathlib.Core.List.{List, ◌++◌}
 use Prim.Native.Nat.{ℕ, ◌≤◌, ◌<◌}
@@ -10,7 +10,7 @@ use Rattle.color.specs.declared.Lab.{Lab}
 use Rattle.stats.specs.declared.ChannelStats.{ChannelStats}
 use Rattle.stats.specs.Noise.{denominator, hue_log_likelihood, put_likelihood, put_likelihoods, hue_log_likelihoods}
 use Rattle.stats.proofs.Front.{front_replaced}
-use Rattle.stats.proofs.ChannelStats.hue_log_likelihoods_of.Goals as goal
+use Rattle.stats.proofs.Channel.hue_log_likelihoods_of.Goals as goal
 
 all_written : (n : ChannelStats) (sample : Lab) (palette : List Float) (hues h : ℕ) (out s : List Float) (d : Float) →
     d ≡ denominator n sample → hues ≤ length out → length s ≡ length (take hues out) → length (take hues out) ≤ h →
@@ -21,4 +21,4 @@ all_written n sample palette hues h out s d e l long past done =
     ∙ ap (λ (x : Float). put_likelihoods sample x palette hues out) e
 
 pub returns : goal.returns
-returns c = all_written _ _ _ _ _ _ _ _ c.denominator-denom.ensures c.requires.1 c.loop-h.auto.entry-items c.loop-h-test.false c.loop-h.invariant
+returns c = all_written _ _ _ _ _ _ _ _ c.denominator-denom.ensures c.requires c.loop-h.auto.entry-items c.loop-h-test.false c.loop-h.invariant

@@ -1,4 +1,4 @@
--- `ChannelStats::palette_sigmas` meets its contract: the noise of each colour stands at its place. Assumes nothing.
+-- `Channel::palette_sigmas` meets its contract: the noise of each colour stands at its place. Assumes nothing.
 use mathlib.Core.Path.{◌≡◌}
 use mathlib.Core.List.{List, ◌++◌}
 use Prim.Native.Nat.{ℕ, ◌*◌, ◌≤◌, ◌<◌}
@@ -10,7 +10,7 @@ use Rattle.color.specs.Palette.{palette_lab}
 use Rattle.stats.specs.declared.ChannelStats.{ChannelStats}
 use Rattle.stats.specs.Noise.{sigma_ab_at, put_sigma, palette_sigmas}
 use Rattle.stats.proofs.Front.{front_replaced}
-use Rattle.stats.proofs.ChannelStats.palette_sigmas.Goals as goal
+use Rattle.stats.proofs.Channel.palette_sigmas.Goals as goal
 
 all_written : (n : ChannelStats) (palette : List Float) (hues i : ℕ) (sigmas s : List Float) →
     2 * hues ≤ length sigmas → length s ≡ length (take (2 * hues) sigmas) → length (take (2 * hues) sigmas) ≤ i →
@@ -20,4 +20,4 @@ all_written n palette hues i sigmas s l long past done =
     front_replaced nan (2 * hues) (λ j v. sigma_ab_at n (palette_lab palette hues j).l) sigmas s l long (λ j q. done j (let p = length-take-le (2 * hues) sigmas l in omega arith))
 
 pub returns : goal.returns
-returns c = all_written _ _ _ _ _ _ c.requires.1 c.loop-i.auto.sigma-items c.loop-i-test.false c.loop-i.invariant
+returns c = all_written _ _ _ _ _ _ c.requires c.loop-i.auto.sigma-items c.loop-i-test.false c.loop-i.invariant
