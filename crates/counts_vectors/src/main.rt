@@ -68,10 +68,10 @@ fn answers(function: usize, row: &[u64], got: &mut [u64]) -> usize {
     let n = vectors::load_f32(row, 7, &mut palette);
     let at_hues = vectors::past_slice(row, 7);
     counts_of(
-        stage_words::noise(row, 0),
+        stage_words::rows::noise(row, 0),
         &palette[..n],
-        stage_words::count(row, at_hues, 0),
-        stage_words::count(row, at_hues, 1),
+        stage_words::rows::count(row, at_hues, 0),
+        stage_words::rows::count(row, at_hues, 1),
         got,
     )
 }

@@ -6,7 +6,7 @@ use answers::Refusal;
 use demod::ScoreReport;
 use illum::IlluminationModel;
 use layout::Layout;
-use stage_words::count;
+use stage_words::rows::count;
 use stats::ChannelStats;
 use std::io;
 use vectors::{Compared, Tally};
@@ -31,8 +31,8 @@ fn card_at(row: &[u64], at_grid: usize, at_model: usize) -> Card {
     };
     Card {
         layout,
-        model: stage_words::model(row, at_model),
-        noise: stage_words::noise(row, stage_words::past_model(row, at_model)),
+        model: stage_words::rows::model(row, at_model),
+        noise: stage_words::rows::noise(row, stage_words::rows::past_model(row, at_model)),
     }
 }
 
@@ -77,7 +77,7 @@ fn score_in(
 
 // Where the lengths of the outputs stand, past the model at a place and the noise record.
 fn lengths(row: &[u64], at_model: usize) -> usize {
-    stage_words::past_noise(row, stage_words::past_model(row, at_model))
+    stage_words::rows::past_noise(row, stage_words::rows::past_model(row, at_model))
 }
 
 // The outputs: their three lengths stand in the record, and what they are filled with.
@@ -98,10 +98,10 @@ fn score_out(
     let mut colours = [0.0f32; 64];
     let mut chroma = [0.0f32; 64];
     let at_lengths = lengths(row, at_model);
-    let fill = stage_words::single(row, at_lengths, 3);
-    let ln = stage_words::spread(&mut luma, count(row, at_lengths, 0), fill);
-    let cn = stage_words::spread(&mut colours, count(row, at_lengths, 1), fill);
-    let hn = stage_words::spread(&mut chroma, count(row, at_lengths, 2), fill);
+    let fill = stage_words::rows::single(row, at_lengths, 3);
+    let ln = stage_words::rows::spread(&mut luma, count(row, at_lengths, 0), fill);
+    let cn = stage_words::rows::spread(&mut colours, count(row, at_lengths, 1), fill);
+    let hn = stage_words::rows::spread(&mut chroma, count(row, at_lengths, 2), fill);
     score_in(
         card,
         xs,
@@ -192,7 +192,7 @@ fn score(row: &[u64], got: &mut [u64]) -> usize {
     let at_ys = vectors::past_slice(row, 3);
     let yn = vectors::load_i32(row, at_ys, &mut ys);
     let at_grid = vectors::past_slice(row, at_ys);
-    let at_raw = stage_words::past(row, at_grid, 1);
+    let at_raw = stage_words::rows::past(row, at_grid, 1);
     let rn = vectors::load_f32(row, at_raw, &mut raw);
     let at_cxs = vectors::past_slice(row, at_raw);
     score_cells(row, at_grid, at_cxs, &xs[..xn], &ys[..yn], &raw[..rn], got)

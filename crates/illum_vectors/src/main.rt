@@ -19,7 +19,7 @@ fn put_modelled(got: &mut [u64], fitted: Result<IlluminationModel, Refusal>) -> 
     match fitted {
         Ok(model) => {
             let next = vectors::put(got, 0, 0);
-            stage_words::put_model(got, next, model)
+            stage_words::rows::put_model(got, next, model)
         }
         Err(r) => vectors::put(got, 0, u64::from(u32::from(r))),
     }
@@ -45,7 +45,7 @@ fn put_correction(got: &mut [u64], at: usize, c: Result<Marked, Refusal>) -> usi
     match c {
         Ok(m) => {
             let to_colour = vectors::put(got, at, 0);
-            let to_marks = stage_words::put_linear(got, to_colour, m.colour);
+            let to_marks = stage_words::rows::put_linear(got, to_colour, m.colour);
             put_marks(got, to_marks, m)
         }
         Err(r) => vectors::put(got, at, u64::from(u32::from(r))),
@@ -58,22 +58,22 @@ fn put_correction(got: &mut [u64], at: usize, c: Result<Marked, Refusal>) -> usi
 fn correct_at(model: IlluminationModel, row: &[u64], at: usize) -> Result<Marked, Refusal> {
     illum::correct(
         model,
-        stage_words::single(row, at, 0),
-        stage_words::single(row, at, 1),
-        stage_words::linear(row, stage_words::past(row, at, 2)),
+        stage_words::rows::single(row, at, 0),
+        stage_words::rows::single(row, at, 1),
+        stage_words::rows::linear(row, stage_words::rows::past(row, at, 2)),
     )
 }
 
 // correct MODEL count (x y r g b).. = (no r g b mark mark mark)..
 fn correct(row: &[u64], got: &mut [u64]) -> usize {
-    let model = stage_words::model(row, 0);
-    let at_count = stage_words::past_model(row, 0);
-    let n = stage_words::count(row, at_count, 0);
-    let mut at = stage_words::past(row, at_count, 1);
+    let model = stage_words::rows::model(row, 0);
+    let at_count = stage_words::rows::past_model(row, 0);
+    let n = stage_words::rows::count(row, at_count, 0);
+    let mut at = stage_words::rows::past(row, at_count, 1);
     let mut place = 0usize;
     for _k in 0..n {
         place = put_correction(got, place, correct_at(model, row, at));
-        at = stage_words::past(row, at, 5);
+        at = stage_words::rows::past(row, at, 5);
     }
     place
 }
@@ -90,7 +90,7 @@ fn fit_of(
     if 16384 < n {
         return fit::fit_counted(flat, n, side, version, &mut kept, scratch);
     }
-    let m = stage_words::lent(flat, n);
+    let m = stage_words::rows::lent(flat, n);
     fit::fit_flat(&flat[..m], side, version, &mut kept, scratch)
 }
 
@@ -106,7 +106,7 @@ fn fit_in(
 ) -> usize {
     let fitted = fit_of(flat, n, side, version, scratch);
     let to_zeros = put_modelled(got, fitted);
-    stage_words::put_scratch(got, to_zeros, scratch, v)
+    stage_words::rows::put_scratch(got, to_zeros, scratch, v)
 }
 
 // fit |flat| n side version len fill = no MODEL zeros
@@ -115,12 +115,12 @@ fn fit(row: &[u64], got: &mut [u64]) -> usize {
     let mut scratch = [0.0f32; 1024];
     let k = vectors::load_f32(row, 0, &mut flat);
     let at = vectors::past_slice(row, 0);
-    let v = stage_words::single(row, at, 4);
-    let len = stage_words::spread(&mut scratch, stage_words::count(row, at, 3), v);
+    let v = stage_words::rows::single(row, at, 4);
+    let len = stage_words::rows::spread(&mut scratch, stage_words::rows::count(row, at, 3), v);
     fit_in(
         &flat[..k],
-        stage_words::count(row, at, 0),
-        stage_words::count(row, at, 1),
+        stage_words::rows::count(row, at, 0),
+        stage_words::rows::count(row, at, 1),
         vectors::u8_of(vectors::word_at(row, at, 2)),
         v,
         &mut scratch[..len],
@@ -138,12 +138,12 @@ fn put_term(got: &mut [u64], at: usize, terms: usize, k: usize, v: f64) -> usize
 
 // basis terms side x y = values
 fn basis(row: &[u64], got: &mut [u64]) -> usize {
-    let terms = stage_words::count(row, 0, 0);
+    let terms = stage_words::rows::count(row, 0, 0);
     let values = illum::basis(
         terms,
-        stage_words::single(row, 1, 0),
-        stage_words::single(row, 2, 0),
-        stage_words::single(row, 3, 0),
+        stage_words::rows::single(row, 1, 0),
+        stage_words::rows::single(row, 2, 0),
+        stage_words::rows::single(row, 3, 0),
     );
     let mut place = 0usize;
     for k in 0..9 {
@@ -164,12 +164,12 @@ fn put_unshaded(got: &mut [u64], d: Unshaded) -> usize {
 
 // deshade MODEL x y r g b = d d d
 fn deshade(row: &[u64], got: &mut [u64]) -> usize {
-    let at = stage_words::past_model(row, 0);
+    let at = stage_words::rows::past_model(row, 0);
     let inverses = illum::unshade(
-        stage_words::model(row, 0),
-        stage_words::single(row, at, 0),
-        stage_words::single(row, at, 1),
-        stage_words::linear(row, stage_words::past(row, at, 2)),
+        stage_words::rows::model(row, 0),
+        stage_words::rows::single(row, at, 0),
+        stage_words::rows::single(row, at, 1),
+        stage_words::rows::linear(row, stage_words::rows::past(row, at, 2)),
     );
     put_unshaded(got, inverses)
 }
@@ -179,7 +179,7 @@ fn deshade(row: &[u64], got: &mut [u64]) -> usize {
 // Puts what a function answers to the inputs in a row into another, and says how many words these are.
 fn answers(function: usize, row: &[u64], got: &mut [u64]) -> usize {
     if function == 0 {
-        return put_modelled(got, illum::identity(stage_words::count(row, 0, 0)));
+        return put_modelled(got, illum::identity(stage_words::rows::count(row, 0, 0)));
     }
     if function == 1 {
         return correct(row, got);

@@ -18,7 +18,7 @@ fn put_measured(got: &mut [u64], m: Result<Measurement, Refusal>) -> usize {
     match m {
         Ok(r) => {
             let to_record = vectors::put(got, 0, 0);
-            let to_held = stage_words::put_noise(got, to_record, r.noise);
+            let to_held = stage_words::rows::put_noise(got, to_record, r.noise);
             vectors::put(got, to_held, r.held as u64)
         }
         Err(r) => vectors::put(got, 0, u64::from(u32::from(r))),
@@ -38,7 +38,7 @@ fn measure_of(
     if 16384 < n {
         return measure::measure_counted(flat, n, side, model, palette, hues, scratch);
     }
-    let m = stage_words::lent(flat, n);
+    let m = stage_words::rows::lent(flat, n);
     measure::measure_flat(&flat[..m], side, model, palette, hues, scratch)
 }
 
@@ -56,26 +56,26 @@ fn measure_in(
 ) -> usize {
     let measured = measure_of(flat, n, side, model, palette, hues, scratch);
     let to_zeros = put_measured(got, measured);
-    stage_words::put_scratch(got, to_zeros, scratch, v)
+    stage_words::rows::put_scratch(got, to_zeros, scratch, v)
 }
 
 // What stands in a record from the model on: that, the palette, the hues, and the scratch's length and filling.
 fn measure_rest(flat: &[f32], row: &[u64], at: usize, got: &mut [u64]) -> usize {
     let mut palette = [0.0f32; 256];
     let mut scratch = [0.0f32; 256];
-    let at_model = stage_words::past(row, at, 2);
-    let at_palette = stage_words::past_model(row, at_model);
+    let at_model = stage_words::rows::past(row, at, 2);
+    let at_palette = stage_words::rows::past_model(row, at_model);
     let p = vectors::load_f32(row, at_palette, &mut palette);
     let at_hues = vectors::past_slice(row, at_palette);
-    let v = stage_words::single(row, at_hues, 2);
-    let len = stage_words::spread(&mut scratch, stage_words::count(row, at_hues, 1), v);
+    let v = stage_words::rows::single(row, at_hues, 2);
+    let len = stage_words::rows::spread(&mut scratch, stage_words::rows::count(row, at_hues, 1), v);
     measure_in(
         flat,
-        stage_words::count(row, at, 0),
-        stage_words::count(row, at, 1),
-        stage_words::model(row, at_model),
+        stage_words::rows::count(row, at, 0),
+        stage_words::rows::count(row, at, 1),
+        stage_words::rows::model(row, at_model),
         &palette[..p],
-        stage_words::count(row, at_hues, 0),
+        stage_words::rows::count(row, at_hues, 0),
         v,
         &mut scratch[..len],
         got,

@@ -80,7 +80,7 @@ fn near_in(
     room: &mut [u32],
     got: &mut [u64],
 ) -> usize {
-    let side = stage_words::count(row, at, 0);
+    let side = stage_words::rows::count(row, at, 0);
     let x = vectors::i32_of(vectors::word_at(row, at, 1));
     let y = vectors::i32_of(vectors::word_at(row, at, 2));
     let answer = near::near(xy, kept, side, x, y, query, room);
@@ -94,7 +94,7 @@ fn query_of(function: usize, row: &[u64], at: usize) -> Query {
         return Query::Nearest;
     }
     if function == 2 {
-        return Query::Within(stage_words::single(row, at, 3));
+        return Query::Within(stage_words::rows::single(row, at, 3));
     }
     Query::CutOff(vectors::i32_of(vectors::word_at(row, at, 3)))
 }
@@ -102,9 +102,9 @@ fn query_of(function: usize, row: &[u64], at: usize) -> Query {
 // Where the room's length stands.
 fn room_at(function: usize, row: &[u64], at: usize) -> usize {
     if function == 1 {
-        return stage_words::past(row, at, 3);
+        return stage_words::rows::past(row, at, 3);
     }
-    stage_words::past(row, at, 4)
+    stage_words::rows::past(row, at, 4)
 }
 
 // nearest |xy| |kept| side x y len fill = no count |out|', and within and cut_off with what they ask after y
@@ -119,8 +119,8 @@ fn near_row(function: usize, row: &[u64], got: &mut [u64]) -> usize {
     let at_room = room_at(function, row, at);
     let len = spread_places(
         &mut room,
-        stage_words::count(row, at_room, 0),
-        stage_words::count_u32(row, at_room, 1),
+        stage_words::rows::count(row, at_room, 0),
+        stage_words::rows::count_u32(row, at_room, 1),
     );
     let query = query_of(function, row, at);
     near_in(row, at, &xy[..n], &kept[..k], query, &mut room[..len], got)
@@ -129,7 +129,7 @@ fn near_row(function: usize, row: &[u64], got: &mut [u64]) -> usize {
 // The fit on marks, each of which is the same before.
 fn fit_in(row: &[u64], at: usize, flat: &[f32], marks: &mut [u8], got: &mut [u64]) -> usize {
     let mut scratch = [0.0f32; 256];
-    let side = stage_words::count(row, at, 0);
+    let side = stage_words::rows::count(row, at, 0);
     let version = vectors::u8_of(vectors::word_at(row, at, 1));
     let to_marks = match fit::fit_flat(flat, side, version, marks, &mut scratch) {
         Ok(model) => {
@@ -149,7 +149,7 @@ fn kept_row(row: &[u64], got: &mut [u64]) -> usize {
     let n = vectors::load_f32(row, 0, &mut flat);
     let at = vectors::past_slice(row, 0);
     let v = vectors::u8_of(vectors::word_at(row, at, 3));
-    let len = spread_marks(&mut marks, stage_words::count(row, at, 2), v);
+    let len = spread_marks(&mut marks, stage_words::rows::count(row, at, 2), v);
     fit_in(row, at, &flat[..n], &mut marks[..len], got)
 }
 

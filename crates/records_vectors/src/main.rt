@@ -55,11 +55,11 @@ fn measure_first(
 
 // The reference whose eight words begin at a place.
 fn reference(row: &[u64], at: usize) -> Reference {
-    let observed = stage_words::linear(row, stage_words::past(row, at, 2));
-    let nominal = stage_words::linear(row, stage_words::past(row, at, 5));
+    let observed = stage_words::rows::linear(row, stage_words::rows::past(row, at, 2));
+    let nominal = stage_words::rows::linear(row, stage_words::rows::past(row, at, 5));
     Reference {
-        x: stage_words::single(row, at, 0),
-        y: stage_words::single(row, at, 1),
+        x: stage_words::rows::single(row, at, 0),
+        y: stage_words::rows::single(row, at, 1),
         observed,
         nominal,
     }
@@ -69,7 +69,7 @@ fn reference(row: &[u64], at: usize) -> Reference {
 fn references_in(row: &[u64], at: usize) -> usize
     ensures { result ≤ 64 }
 {
-    let n = stage_words::count(row, at, 0);
+    let n = stage_words::rows::count(row, at, 0);
     if n < 64 {
         return n;
     }
@@ -92,7 +92,7 @@ fn put_modelled(got: &mut [u64], fitted: Result<IlluminationModel, Refusal>) -> 
     match fitted {
         Ok(model) => {
             let next = vectors::put(got, 0, 0);
-            stage_words::put_model(got, next, model)
+            stage_words::rows::put_model(got, next, model)
         }
         Err(r) => vectors::put(got, 0, u64::from(u32::from(r))),
     }
@@ -103,7 +103,7 @@ fn put_measured(got: &mut [u64], m: Result<Measurement, Refusal>) -> usize {
     match m {
         Ok(r) => {
             let to_record = vectors::put(got, 0, 0);
-            let to_held = stage_words::put_noise(got, to_record, r.noise);
+            let to_held = stage_words::rows::put_noise(got, to_record, r.noise);
             vectors::put(got, to_held, r.held as u64)
         }
         Err(r) => vectors::put(got, 0, u64::from(u32::from(r))),
@@ -114,21 +114,21 @@ fn put_measured(got: &mut [u64], m: Result<Measurement, Refusal>) -> usize {
 
 // `fit` on a scratch, each of whose elements is v.
 fn fit_in(row: &[u64], at: usize, v: f32, scratch: &mut [f32], got: &mut [u64]) -> usize {
-    let side = stage_words::count(row, at, 1);
+    let side = stage_words::rows::count(row, at, 1);
     let version = vectors::u8_of(vectors::word_at(row, at, 2));
     let n = references_in(row, at);
     let mut kept = [0u8; 64];
     let fitted = fit_first(references(row), n, side, version, &mut kept, scratch);
     let to_zeros = put_modelled(got, fitted);
-    stage_words::put_scratch(got, to_zeros, scratch, v)
+    stage_words::rows::put_scratch(got, to_zeros, scratch, v)
 }
 
 // fit |flat| n side version len fill = no MODEL zeros
 fn fit(row: &[u64], got: &mut [u64]) -> usize {
     let mut scratch = [0.0f32; 512];
     let at = vectors::past_slice(row, 0);
-    let v = stage_words::single(row, at, 4);
-    let len = stage_words::spread(&mut scratch, stage_words::count(row, at, 3), v);
+    let v = stage_words::rows::single(row, at, 4);
+    let len = stage_words::rows::spread(&mut scratch, stage_words::rows::count(row, at, 3), v);
     fit_in(row, at, v, &mut scratch[..len], got)
 }
 
@@ -142,12 +142,12 @@ fn measure_in(
     scratch: &mut [f32],
     got: &mut [u64],
 ) -> usize {
-    let side = stage_words::count(row, at, 1);
-    let model = stage_words::model(row, stage_words::past(row, at, 2));
+    let side = stage_words::rows::count(row, at, 1);
+    let model = stage_words::rows::model(row, stage_words::rows::past(row, at, 2));
     let n = references_in(row, at);
     let measured = measure_first(references(row), n, side, model, palette, hues, scratch);
     let to_zeros = put_measured(got, measured);
-    stage_words::put_scratch(got, to_zeros, scratch, v)
+    stage_words::rows::put_scratch(got, to_zeros, scratch, v)
 }
 
 // measure |flat| n side MODEL |palette| hues len fill = no STATS held zeros
@@ -155,12 +155,12 @@ fn measure(row: &[u64], got: &mut [u64]) -> usize {
     let mut palette = [0.0f32; 256];
     let mut scratch = [0.0f32; 512];
     let at = vectors::past_slice(row, 0);
-    let at_palette = stage_words::past_model(row, stage_words::past(row, at, 2));
+    let at_palette = stage_words::rows::past_model(row, stage_words::rows::past(row, at, 2));
     let p = vectors::load_f32(row, at_palette, &mut palette);
     let at_hues = vectors::past_slice(row, at_palette);
-    let hues = stage_words::count(row, at_hues, 0);
-    let v = stage_words::single(row, at_hues, 2);
-    let len = stage_words::spread(&mut scratch, stage_words::count(row, at_hues, 1), v);
+    let hues = stage_words::rows::count(row, at_hues, 0);
+    let v = stage_words::rows::single(row, at_hues, 2);
+    let len = stage_words::rows::spread(&mut scratch, stage_words::rows::count(row, at_hues, 1), v);
     measure_in(row, at, &palette[..p], hues, v, &mut scratch[..len], got)
 }
 

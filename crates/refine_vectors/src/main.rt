@@ -35,7 +35,7 @@ fn refine_in(
     );
     let to_luma = vectors::put(got, 0, outcome_number(outcome) as u64);
     let to_scratch = vectors::store_f32(luma, got, to_luma);
-    stage_words::put_scratch(got, to_scratch, scratch, card.fill)
+    stage_words::rows::put_scratch(got, to_scratch, scratch, card.fill)
 }
 
 // What stands in a record from its noise record on: that, the scores, and the scratch's length and filling.
@@ -51,16 +51,16 @@ fn refine_scores(
 ) -> usize {
     let mut luma = [0.0f32; 128];
     let mut scratch = [0.0f32; 1024];
-    let at_luma = stage_words::past_noise(row, at_noise);
+    let at_luma = stage_words::rows::past_noise(row, at_noise);
     let n = vectors::load_f32(row, at_luma, &mut luma);
     let at_len = vectors::past_slice(row, at_luma);
-    let fill = stage_words::single(row, at_len, 1);
-    let len = stage_words::spread(&mut scratch, stage_words::count(row, at_len, 0), fill);
+    let fill = stage_words::rows::single(row, at_len, 1);
+    let len = stage_words::rows::spread(&mut scratch, stage_words::rows::count(row, at_len, 0), fill);
     let card = Card {
-        side: stage_words::count(row, 0, 0),
-        hues: stage_words::count(row, 1, 0),
-        grid: stage_words::count(row, at_grid, 0),
-        noise: stage_words::noise(row, at_noise),
+        side: stage_words::rows::count(row, 0, 0),
+        hues: stage_words::rows::count(row, 1, 0),
+        grid: stage_words::rows::count(row, at_grid, 0),
+        noise: stage_words::rows::noise(row, at_noise),
         fill,
     };
     refine_in(
@@ -79,7 +79,7 @@ fn refine_scores(
 fn refine_colours(row: &[u64], at_grid: usize, xs: &[i32], ys: &[i32], got: &mut [u64]) -> usize {
     let mut colours = [0.0f32; 256];
     let mut palette = [0.0f32; 256];
-    let at_colours = stage_words::past(row, at_grid, 1);
+    let at_colours = stage_words::rows::past(row, at_grid, 1);
     let cn = vectors::load_f32(row, at_colours, &mut colours);
     let at_palette = vectors::past_slice(row, at_colours);
     let pn = vectors::load_f32(row, at_palette, &mut palette);

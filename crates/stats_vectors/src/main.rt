@@ -13,7 +13,7 @@ use vectors::{Compared, Tally};
 // One of several figures that one record gives: its pattern at the next place; a refusal as the only word.
 fn put_figure(got: &mut [u64], at: usize, f: Result<f32, Refusal>) -> usize {
     match f {
-        Ok(v) => stage_words::put_single(got, at, v),
+        Ok(v) => stage_words::rows::put_single(got, at, v),
         Err(r) => vectors::put(got, 0, u64::from(u32::from(r))),
     }
 }
@@ -23,7 +23,7 @@ fn put_nominal(got: &mut [u64], n: Result<ChannelStats, Refusal>) -> usize {
     match n {
         Ok(r) => {
             let to_record = vectors::put(got, 0, 0);
-            stage_words::put_noise(got, to_record, r)
+            stage_words::rows::put_noise(got, to_record, r)
         }
         Err(r) => vectors::put(got, 0, u64::from(u32::from(r))),
     }
@@ -57,14 +57,14 @@ fn figure_at(function: usize, noise: ChannelStats, l: f32) -> Result<f32, Refusa
 // sigma_ab_at STATS count l.. = no r..
 // luma_llr STATS count l.. = no r..
 fn figures(function: usize, row: &[u64], got: &mut [u64]) -> usize {
-    let noise = stage_words::noise(row, 0);
-    let n = stage_words::count(row, 7, 0);
+    let noise = stage_words::rows::noise(row, 0);
+    let n = stage_words::rows::count(row, 7, 0);
     let mut place = vectors::put(got, 0, 0);
     for k in 0..n {
         place = put_figure(
             got,
             place,
-            figure_at(function, noise, stage_words::single(row, 8, k)),
+            figure_at(function, noise, stage_words::rows::single(row, 8, k)),
         );
     }
     place
@@ -82,9 +82,9 @@ fn reliabilities(
     let mut at = at_samples;
     let mut place = vectors::put(got, 0, 0);
     for _k in 0..n {
-        let sample = stage_words::lab(row, at);
+        let sample = stage_words::rows::lab(row, at);
         place = put_figure(got, place, noise.reliability(sample, palette, hues));
-        at = stage_words::past(row, at, 3);
+        at = stage_words::rows::past(row, at, 3);
     }
     place
 }
@@ -98,7 +98,7 @@ fn likelihoods_in(
     out: &mut [f32],
     got: &mut [u64],
 ) -> usize {
-    let sample = stage_words::lab(row, at_sample);
+    let sample = stage_words::rows::lab(row, at_sample);
     let answer = noise.hue_log_likelihoods(sample, palette, hues, out);
     let to_out = vectors::put(got, 0, outcome_number(answer) as u64);
     vectors::store_f32(out, got, to_out)
@@ -113,7 +113,7 @@ fn likelihoods(
     got: &mut [u64],
 ) -> usize {
     let mut out = [0.0f32; 32];
-    let at_out = stage_words::past(row, at_sample, 3);
+    let at_out = stage_words::rows::past(row, at_sample, 3);
     let n = vectors::load_f32(row, at_out, &mut out);
     likelihoods_in(noise, palette, hues, row, at_sample, &mut out[..n], got)
 }
@@ -140,13 +140,13 @@ fn of_palette(
         return put_nominal(got, ChannelStats::nominal(palette, hues));
     }
     if function == 3 {
-        let n = stage_words::count(row, at, 0);
+        let n = stage_words::rows::count(row, at, 0);
         return reliabilities(
             noise,
             palette,
             hues,
             row,
-            stage_words::past(row, at, 1),
+            stage_words::rows::past(row, at, 1),
             n,
             got,
         );
@@ -158,7 +158,7 @@ fn of_palette(
         return put_verdict(got, margin::margin(noise, palette, hues));
     }
     if function == 6 {
-        let least = setting(stage_words::count(row, at, 0));
+        let least = setting(stage_words::rows::count(row, at, 0));
         return put_verdict(got, margin::margin_at(least, noise, palette, hues));
     }
     0
@@ -175,11 +175,11 @@ fn with_palette(function: usize, row: &[u64], at_palette: usize, got: &mut [u64]
     let at_hues = vectors::past_slice(row, at_palette);
     of_palette(
         function,
-        stage_words::noise(row, 0),
+        stage_words::rows::noise(row, 0),
         &palette[..n],
-        stage_words::count(row, at_hues, 0),
+        stage_words::rows::count(row, at_hues, 0),
         row,
-        stage_words::past(row, at_hues, 1),
+        stage_words::rows::past(row, at_hues, 1),
         got,
     )
 }

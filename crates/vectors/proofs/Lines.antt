@@ -136,6 +136,9 @@ no_name : (text : List ℕ) (at : ℕ) → length text ≤ at → name_of text a
 unfolding name_of
 no_name text at h = ap (take (name_end text at - at)) (drop_of_length-le text h) ∙ take-nil (name_end text at - at)
 
+pub no_name_there : (text : List ℕ) (at : ℕ) → length text < at → [] ≡ name_of text at
+no_name_there text at h = sym (no_name text at (omega arith))
+
 no_bytes : (name : List ℕ) → eqb (length name) 0 ≡ equal_bytes [] name
 unfolding equal_bytes
 no_bytes [] = refl

@@ -2,7 +2,7 @@
 use Rattle.std.proofs.Common.{◌≡◌, ℕ, ◌+◌, ◌<◌, ◌≤◌, List, length, get_or, set, sym, refl, ap, ◌∙◌, arith, length-set, length-take-le, le-ltb, lt-ltb}
 use Rattle.loops.specs.Loops.{for_up}
 use Rattle.loops.proofs.Laws.{Left, begin, turn_to, done}
-use Rattle.vectors.specs.Answers.{placed, put}
+use Rattle.vectors.specs.Answers.{Placed, placed, put}
 use Rattle.vectors.specs.Slices.{past_slice, load_at, filled, load_count, loaded, Fills, store_at, stored}
 
 -- ---- the place past a slice
@@ -79,3 +79,9 @@ pub turn-plain : {values : List ℕ} {place₀ : ℕ} {row₀ : List ℕ} {n k p
     → {place' : ℕ} {row' : List ℕ} → k < n → placed place' row' ≡ put (get_or values k 0) (placed place row) → length row' ≡ length row
     → LeftStore (λ v. v) 0 values place₀ row₀ n (k + 1) place' row'
 turn-plain inv h e l = turn-store inv h e refl l
+
+-- one element more of a list, put as its word
+pub put-more : {A : Type 0} (word : A → ℕ) (d : A) (values : List A) {n k : ℕ} {p t q : Placed} {w : ℕ} → Left (store_at word d values) n k p t → q ≡ put w p
+    → w ≡ word (get_or values k d) → k < n → Left (store_at word d values) n (k + 1) q t
+unfolding store_at
+put-more word d values {p = p} inv e f h = turn_to inv h (e ∙ ap (λ (x : ℕ). put x p) f)

@@ -13,6 +13,10 @@ pub record Placed : Type 0 where
 abbrev pub placed : ℕ → List ℕ → Placed
 placed at row = record { place = at; row = row }
 
+-- a row of 4096 words with none put yet
+unfoldable pub no_answers : Placed
+no_answers = placed 0 (replicate 4096 0)
+
 -- a word put at the next place, where the row has room
 unfoldable pub put : ℕ → Placed → Placed
 put w p = cond (nat_lt p.place (length p.row)) (placed (p.place + 1) (slice_set p.row p.place w)) p

@@ -19,6 +19,14 @@ ghost use Rattle.vectors.specs.Words as reading;
 ghost use Rattle.vectors.specs.Answers as comparing;
 ghost use Rattle.vectors.specs.Slices.{past_slice, filled, loaded, Fills, stored};
 
+mod call;
+mod rerun;
+mod value;
+
+pub use call::{Answers, Inputs, ROOM, spread};
+pub use rerun::replay;
+pub use value::Value;
+
 use std::io::{ErrorKind, Read, Write};
 use std::rt::Files;
 use std::{fs, io};

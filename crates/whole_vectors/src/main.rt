@@ -7,7 +7,7 @@ use answers::Refusal;
 use demod::ScoreReport;
 use illum::IlluminationModel;
 use layout::Layout;
-use stage_words::count;
+use stage_words::rows::count;
 use stats::ChannelStats;
 use std::io;
 use vectors::{Compared, Tally};
@@ -34,8 +34,8 @@ fn card_at(row: &[u64], at_grid: usize, at_model: usize) -> Card {
     Card {
         layout,
         mask: vectors::u8_of(vectors::word_at(row, 3, 0)),
-        model: stage_words::model(row, at_model),
-        noise: stage_words::noise(row, stage_words::past_model(row, at_model)),
+        model: stage_words::rows::model(row, at_model),
+        noise: stage_words::rows::noise(row, stage_words::rows::past_model(row, at_model)),
     }
 }
 
@@ -175,7 +175,7 @@ fn whole_in(
 fn scores(row: &[u64], at_model: usize) -> usize {
     count(
         row,
-        stage_words::past_noise(row, stage_words::past_model(row, at_model)),
+        stage_words::rows::past_noise(row, stage_words::rows::past_model(row, at_model)),
         0,
     )
 }
@@ -196,9 +196,9 @@ fn whole_out(
     let mut luma = [0.0f32; 512];
     let mut colours = [0.0f32; 2048];
     let mut chroma = [0.0f32; 2048];
-    let ln = stage_words::spread(&mut luma, xs.len(), 0.0);
-    let cn = stage_words::spread(&mut colours, raw.len(), 0.0);
-    let hn = stage_words::spread(&mut chroma, scores, 0.0);
+    let ln = stage_words::rows::spread(&mut luma, xs.len(), 0.0);
+    let cn = stage_words::rows::spread(&mut colours, raw.len(), 0.0);
+    let hn = stage_words::rows::spread(&mut chroma, scores, 0.0);
     whole_in(
         card,
         xs,
@@ -288,7 +288,7 @@ fn whole(row: &[u64], got: &mut [u64]) -> usize {
     let at_ys = vectors::past_slice(row, 4);
     let yn = vectors::load_i32(row, at_ys, &mut ys);
     let at_grid = vectors::past_slice(row, at_ys);
-    let at_raw = stage_words::past(row, at_grid, 1);
+    let at_raw = stage_words::rows::past(row, at_grid, 1);
     let rn = vectors::load_f32(row, at_raw, &mut raw);
     let at_cxs = vectors::past_slice(row, at_raw);
     whole_cells(row, at_grid, at_cxs, &xs[..xn], &ys[..yn], &raw[..rn], got)

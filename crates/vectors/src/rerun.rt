@@ -1,0 +1,93 @@
+// A run over a list: every record's function is called on its inputs, what it answers is compared with the answers that
+// the record has, and the report says what differs.
+ghost use Rattle.std.specs.Prelude.{◌≡◌};
+ghost use Rattle.vectors.specs.Lines.{name_of};
+
+use super::call::{Answers, Inputs, ROOM};
+use super::{Compared, NOT_READ, Tally};
+use std::rt::Files;
+use std::{fs, io};
+
+// The name of the record that begins at `at`.
+fn name(text: &[u8], at: usize) -> &[u8]
+    ensures { result.now ≡ name_of text.now at }
+{
+    if text.len() < at {
+        return &[];
+    }
+    let end = super::name_end(text, at);
+    &text[at..end]
+}
+
+// The number of the function that the record that begins at `at` names. Any other name gives NOT_READ.
+fn number_of(text: &[u8], at: usize, functions: &[&str]) -> usize {
+    let wanted = name(text, at);
+    functions
+        .iter()
+        .position(|f| f.as_bytes() == wanted)
+        .unwrap_or(NOT_READ)
+}
+
+// Reads the record that begins at `at`, and compares its answers with what the function that it names answers.
+fn replayed<F: Fn(&str, &mut Inputs, &mut Answers)>(
+    text: &[u8],
+    at: usize,
+    functions: &[&str],
+    answer: &F,
+) -> Compared
+    requires { F.IsAlwaysCallable answer.now }
+{
+    let mut row = [0u64; ROOM];
+    let mut wanted = [0u64; ROOM];
+    let mut answers = Answers::new();
+    let function = number_of(text, at, functions);
+    let read = super::read_record(text, at, &mut row, &mut wanted);
+    if let Some(name) = functions.get(function) {
+        answer(name, &mut Inputs::new(&row), &mut answers);
+    }
+    answers.compare(function, at, read, &wanted)
+}
+
+// Goes through all records of a list.
+fn tally<F: Fn(&str, &mut Inputs, &mut Answers)>(
+    text: &[u8],
+    functions: &[&str],
+    answer: F,
+) -> Tally
+    requires { F.IsAlwaysCallable answer }
+{
+    let mut t = super::empty();
+    let mut at = 0usize;
+    while at < text.len() {
+        if !super::is_comment(text, at) {
+            t = super::counted(t, replayed(text, at, functions, &answer));
+        }
+        at = super::next_line(text, at);
+    }
+    t
+}
+
+// Prints the line of each function: its name, how many of its records were compared and how many differ.
+fn print_functions(rt: &impl Print, functions: &[&str], t: Tally) -> io::Result<()> {
+    for ((name, compared), differ) in functions.iter().zip(t.compared).zip(t.differ) {
+        println!(rt; "{name} {compared} compared, {differ} differ")?;
+    }
+    Ok(())
+}
+
+// Replays the list that a file holds. A record's function is one of `functions`, by its name, and `answer` calls the function
+// that it is given the name of: it takes the inputs and puts the answers. What differs is printed, and the totals.
+pub fn replay<R: Files + Alloc + Print, F: Fn(&str, &mut Inputs, &mut Answers)>(
+    rt: &R,
+    path: &str,
+    functions: &[&str],
+    answer: F,
+) -> io::Result<()>
+    requires { F.IsAlwaysCallable answer }
+{
+    let text = fs::read(rt, path)?;
+    let t = tally(&text, functions, answer);
+    print_functions(rt, functions, t)?;
+    super::print_differences(rt, &text, t)?;
+    super::print_total(rt, t)
+}
