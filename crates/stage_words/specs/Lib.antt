@@ -1,3 +1,4 @@
 -- What the contracts of `stage_words` cite: records of the stage read from words and put as words, and a scratch.
+pub mod Answered
 pub mod Records
 pub mod Scratch

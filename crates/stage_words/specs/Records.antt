@@ -1,5 +1,5 @@
 -- A colour, a noise record and a model as words of a row. Definitions only.
-use Rattle.std.specs.Prelude.{Bool, false, cond, not, List, [], ◌∷◌, ℕ, ◌+◌, ◌*◌, ◌%◌, ◌^◌, min, eqb, pos, length, get_or, set, replicate, Float}
+use Rattle.std.specs.Prelude.{Bool, false, cond, not, List, [], ◌∷◌, ℕ, ◌+◌, ◌*◌, ◌%◌, ◌^◌, min, eqb, pos, length, get_or, drop, set, replicate, Float}
 use Rattle.std.specs.Float.{Format, nan, fin, binary32, binary64}
 use Rattle.std.specs.Float.Ieee.{of_bits, to_bits}
 use Rattle.loops.specs.Loops.{for_up, any_up}
@@ -81,6 +81,38 @@ model_at row at = model_of row at (width_at row at)
 -- the place past the model at a place, within the row
 abbrev pub past_model : List ℕ → ℕ → ℕ
 past_model row at = min (at + (18 + 6 * width_at row at)) (length row)
+
+-- ---- taking: what words begin with
+
+-- the width that the surfaces of the model have: 4, or else 9
+abbrev pub width_taken : List ℕ → ℕ
+width_taken row = terms_used (get_or row 5 0)
+
+abbrev pub affine_of : List ℕ → List Float
+affine_of row = affine_at row 0 0
+
+abbrev pub surface_of : List ℕ → ℕ → List Float
+surface_of row w = surface_at row 0 0 w
+
+-- MODEL, with surfaces of width w
+unfoldable pub model_taken : List ℕ → ℕ → IlluminationModel
+model_taken row w =
+    record {
+      affine_r = affine_of (drop 6 row);
+      affine_g = affine_of (drop 10 row);
+      affine_b = affine_of (drop 14 row);
+      gain_r = surface_of (drop 18 row) w;
+      gain_g = surface_of (drop (18 + w) row) w;
+      gain_b = surface_of (drop (18 + 2 * w) row) w;
+      flare_r = surface_of (drop (18 + 3 * w) row) w;
+      flare_g = surface_of (drop (18 + 4 * w) row) w;
+      flare_b = surface_of (drop (18 + 5 * w) row) w;
+      terms = get_or row 0 0;
+      side = single_at row 0 1;
+      residual_rms = single_at row 0 2;
+      rejected = count32_at row 0 3;
+      kept = count32_at row 0 4;
+    }
 
 -- ---- answers: words put into a row
 

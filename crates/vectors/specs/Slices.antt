@@ -34,6 +34,10 @@ Fills n l = (n ≤ length l) × (n ≡ length (take n l))
 unfoldable pub store_at : {A : Type 0} → (A → ℕ) → A → List A → ℕ → Placed → Placed
 store_at word d values k p = put (word (slice_index_or values k d)) p
 
+-- the elements of a list put into a row, one after the other
+abbrev pub put_all : {A : Type 0} → (A → ℕ) → A → List A → Placed → Placed
+put_all word d values p = for_up 0 (length values) (store_at word d values) p
+
 -- a list put into a row as a slice
 abbrev pub stored : {A : Type 0} → (A → ℕ) → A → List A → Placed → Placed
 stored word d values p = for_up 0 (length values) (store_at word d values) (put (length values) p)

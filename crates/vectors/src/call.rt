@@ -2,7 +2,7 @@
 // the other.
 ghost use Rattle.std.specs.Prelude.{◌≡◌, ℕ, ◌<◌, min, length, drop, slice_index, slice_index_or};
 ghost use Rattle.vectors.specs.Answers.{placed, put, no_answers, compared_of};
-ghost use Rattle.vectors.specs.Slices.{past_list, stored};
+ghost use Rattle.vectors.specs.Slices.{past_list, put_all, stored};
 
 use super::value::Value;
 use super::{Compared, Record};
@@ -65,6 +65,15 @@ impl<'a> Inputs<'a> {
         T::of_word(word)
     }
 
+    // Takes a word for each place of `out`, as the place's value.
+    pub fn take_all<T: Value>(&mut self, out: &mut [T])
+        ensures values { (k : ℕ) (d : T) → k < length out.new → slice_index_or out.new k d ≡ T.value_of (slice_index self.old.rest.now k) }
+        ensures rest { self.new.rest.now ≡ drop (length out.old) self.old.rest.now }
+    {
+        load(self.rest, out);
+        self.rest = past(self.rest, out.len());
+    }
+
     // Takes the next list, a length and then its elements: as many as `room` has place for, which stand at its start. An
     // element whose word is not there is 0.
     pub fn list<'b, T: Value>(&mut self, room: &'b mut [T]) -> &'b mut [T]
@@ -107,14 +116,21 @@ impl Answers {
         self.count = super::put(&mut self.words, self.count, value.word());
     }
 
-    // Puts a list: its length, and then each element. d stands where the list has none, and is never put.
+    // Puts each of some values, one after the other. d stands where there is none, and is never put.
+    pub fn put_all<T: Value>(&mut self, values: &[T])
+        ensures { (d : T) → placed self.new.count self.new.words ≡ put_all T.word_of d values.now (placed self.old.count self.old.words) }
+    {
+        for &v in values {
+            self.put(v);
+        }
+    }
+
+    // Puts a list: its length, and then its elements.
     pub fn put_list<T: Value>(&mut self, values: &[T])
         ensures { (d : T) → placed self.new.count self.new.words ≡ stored T.word_of d values.now (placed self.old.count self.old.words) }
     {
         self.put(values.len());
-        for &v in values {
-            self.put(v);
-        }
+        self.put_all(values);
     }
 
     // Compares the answers with those that a record wants, whose line begins at `at`.

@@ -25,11 +25,10 @@ mod value;
 
 pub use call::{Answers, Inputs, ROOM, spread};
 pub use rerun::replay;
-pub use value::Value;
-
 use std::io::{ErrorKind, Read, Write};
 use std::rt::Files;
 use std::{fs, io};
+pub use value::Value;
 
 // The function number of a record that is not read: a name that the program does not know, or a broken line.
 pub const NOT_READ: usize = 31;

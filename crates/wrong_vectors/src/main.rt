@@ -13,12 +13,37 @@ fn median(inputs: &mut Inputs, answers: &mut Answers) {
     answers.put_list(values);
 }
 
-// `answer` by the function's name
+// Where a call is to be wrong, writes over the last element of a slice.
+fn overwrite(wrong: bool, scratch: &mut [f32]) {
+    if let Some(last) = scratch.last_mut()
+        && wrong
+    {
+        *last = 2.0;
+    }
+}
+
+// mad_sigma |v| len fill = r zeros, on a scratch, each of whose elements is the filling; where the call is to be wrong, the
+// last of them is written over afterwards. r is 0 where the call was refused.
+fn mad_sigma(inputs: &mut Inputs, wrong: bool, answers: &mut Answers) {
+    let (mut values, mut scratch) = ([0.0f32; 8], [0.0f32; 16]);
+    let values = inputs.list(&mut values);
+    let len = inputs.take();
+    let fill = inputs.take();
+    let scratch = vectors::spread(&mut scratch, len, fill);
+    let sigma = order::mad_sigma(values, scratch);
+    overwrite(wrong, scratch);
+    answers.put(sigma.unwrap_or(0.0));
+    stage_words::put_scratch(answers, scratch, fill);
+}
+
+// Calls the function of this name.
 fn answer(name: &str, inputs: &mut Inputs, answers: &mut Answers) {
     match name {
         "sqrt" => answers.put(float::sqrt(inputs.take())),
         "cbrt" => answers.put(float::cbrt(inputs.take())),
         "median" => median(inputs, answers),
+        "mad_sigma" => mad_sigma(inputs, false, answers),
+        "overwritten" => mad_sigma(inputs, true, answers),
         _ => {}
     }
 }

@@ -12,7 +12,7 @@ use Rattle.loops.proofs.Laws.{begin, turn_to, done}
 use Rattle.vectors.specs.Slices.{filled, Fills}
 use Rattle.stage_words.specs.Scratch.{spread_at, spread_over}
 use Rattle.stage_words.proofs.rows.spread.Goals as goal
-use Rattle.stage_words.proofs.spread.Invariants.{LeftSpread}
+use Rattle.stage_words.proofs.rows.spread.Invariants.{LeftSpread}
 
 module _ {n : ℕ} {v : Float} {out₀ : List Float} {m : ℕ} where
   first : m ≡ min n (length out₀) → LeftSpread n v out₀ m 0 out₀

@@ -1,19 +1,7 @@
--- `Answers::put_list` meets its contract: what is left of the loop puts the rest. Assumes nothing.
-use Rattle.std.proofs.Common.{◌∙◌, refl, ap, length, rules}
-use Rattle.std.proofs.lemmas.List.{get_or_read_under}
-use Rattle.loops.specs.Loops.{for_up}
-use Rattle.loops.proofs.Laws.{done}
-use Rattle.vectors.specs.Slices.{store_at}
-use Rattle.vectors.proofs.Slices.{put-more}
+-- `Answers::put_list` meets its contract: the length, and then the elements. Assumes nothing.
+use Rattle.std.proofs.Common.{◌∙◌, ap}
+use Rattle.vectors.specs.Slices.{put_all}
 use Rattle.vectors.proofs.call.Answers.put_list.Goals as goal
 
-pub loop-v-preserved : goal.loop-v-preserved
-loop-v-preserved g c = λ d.
-    let h = c.loop-v-test.true in
-    let read = get_or_read_under c.args.values.now c.loop-v.v-index (length c.args.values.now) c.v-item.result d c.v-item.is h refl in
-    put-more g.T.Value.word_of d c.args.values.now (c.loop-v.invariant d) c.put-in-loop-v.ensures (ap g.T.Value.word_of read) h
-
 pub returns : goal.returns
-returns g c = λ d.
-    done (c.loop-v.invariant d) (search rules)
-    ∙ ap (for_up 0 (length c.args.values.now) (store_at g.T.Value.word_of d c.args.values.now)) c.put.ensures
+returns g c = λ d. c.put_all.ensures d ∙ ap (put_all g.T.Value.word_of d c.args.values.now) c.put.ensures
