@@ -1,13 +1,13 @@
 -- A loop that writes f(i) at every i below a count gives f(i) there and keeps the length and the tail: each turn writes one place, and no other turn comes to it. Assumes nothing.
 use mathlib.Core.Path.{◌≡◌, refl, sym, ◌∙◌}
 use mathlib.Core.Logic.{⊎_elim}
-use mathlib.Core.List.{List}
+use mathlib.Core.List.{List, [], ◌∷◌}
 use Prim.Native.Nat.{ℕ, suc, ◌≤◌, ◌<◌}
 use native.Mathlib.Omega.{arith}
 use native.Mathlib.Nat.{eq-or-lt_of_le}
 use lib.ListN.{length, get_or, set, length-set}
 use lib.Seq.{get_or-set_same, get_or-set_other, ext_get_or}
-use Rattle.std.proofs.lemmas.Bool.{cases_lt}
+use Rattle.loops.specs.Loops.{for_up}
 use Rattle.loops.proofs.Laws.{for_up_to}
 use Rattle.card.specs.Sections.{put_at, filled}
 
@@ -39,10 +39,15 @@ module _ {A : Type 0} (d : A) (f : ℕ → A) (out : List A) where
       (record { same_length = refl; written = λ i h q. absurd (omega arith); kept = λ i h. refl })
       (λ j p q l r. next j l r)
 
--- a list that is as long, has f(i) at every i below the count and is as it was behind, however it was written
-pub is_filled : {A : Type 0} (d : A) (f : ℕ → A) (n : ℕ) (out l : List A) → n ≤ length out → length l ≡ length out →
-    ((i : ℕ) → i < n → get_or l i d ≡ f i) → ((i : ℕ) → n ≤ i → get_or l i d ≡ get_or out i d) → l ≡ filled f n out
-is_filled d f n out l h e written kept =
-    let r = filled_is d f out n in
-    ext_get_or d l (filled f n out) (e ∙ sym r.same_length)
-    (λ i q. ⊎_elim (λ (u : i < n). written i u ∙ sym (r.written i u (omega arith))) (λ (u : n ≤ i). kept i u ∙ sym (r.kept i u)) (cases_lt i n))
+-- a list that is as long and has f(i) at every i, however it was written
+module _ {A : Type 0} (f : ℕ → A) where
+  filled_by : (d : A) (out l : List A) → length l ≡ length out → ((i : ℕ) → i < length out → get_or l i d ≡ f i) → l ≡ filled f (length out) out
+  filled_by d out l e written =
+      let r = filled_is d f out (length out) in
+      ext_get_or d l (filled f (length out) out) (e ∙ sym r.same_length) (λ i q. written i (omega arith) ∙ sym (r.written i (omega arith) (omega arith)))
+
+  pub is_filled : (out l : List A) → length l ≡ length out → ((i : ℕ) (d : A) → i < length out → get_or l i d ≡ f i) → l ≡ filled f (length out) out
+  unfolding for_up
+  is_filled [] [] e written = refl
+  is_filled [] (x ∷ l) e written = filled_by x [] (x ∷ l) e (λ i. written i x)
+  is_filled (x ∷ out) l e written = filled_by x (x ∷ out) l e (λ i. written i x)

@@ -1,3 +1,4 @@
+pub mod FivePairs
 pub mod Filled
 pub mod Signed
 pub mod Accepted

@@ -1,4 +1,5 @@
 pub mod Number
 pub mod File
+pub mod Pairs
 pub mod Sections
 pub mod Ready

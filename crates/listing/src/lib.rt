@@ -23,8 +23,28 @@ pub const LISTING_ROOM: usize = 101047;
 // The hexadecimal digits, each at its value.
 const HEX_DIGITS: [u8; 16] = *b"0123456789ABCDEF";
 
+// Core: the modules of a listing, in list order: their coordinates, their scores and the bits read from these.
+#[derive(Clone, Copy, Debug)]
+pub struct LumaLines<'a> {
+    pub xs: &'a [i32],
+    pub ys: &'a [i32],
+    pub scores: &'a [f32],
+    pub bits: &'a [u8],
+    ghost ys_long: { length xs.now ≤ length ys.now },
+    ghost scores_long: { length xs.now ≤ length scores.now },
+    ghost bits_long: { length xs.now ≤ length bits.now },
+}
+
+// Core: the chroma score list of a listing, and the bits read from it.
+#[derive(Clone, Copy, Debug)]
+pub struct ChromaLines<'a> {
+    pub scores: &'a [f32],
+    pub bits: &'a [u8],
+    ghost long: { length scores.now ≤ length bits.now },
+}
+
 // A slice of bytes, and the place where the next byte goes.
-#[derive(Drop)]
+#[derive(Debug, Drop)]
 struct Cursor<'a> {
     out: &'a mut [u8],
     at: usize,
@@ -71,6 +91,7 @@ impl Cursor<'_> {
         if v < 0 {
             self.put(b'-');
         }
+        // By hand: From has no conversion from u32 to usize.
         self.decimal(v.unsigned_abs() as usize);
     }
 
@@ -131,51 +152,48 @@ impl Cursor<'_> {
     }
 
     // The L lines of all modules, in list order.
-    fn luma_lines(&mut self, modules: usize, xs: &[i32], ys: &[i32], scores: &[f32], bits: &[u8])
-        requires { (modules ≤ length xs.now) × (modules ≤ length ys.now) × (modules ≤ length scores.now) × (modules ≤ length bits.now) }
-        ensures { Writes (lines.luma_lines modules xs.now ys.now scores.now bits.now) self.old self.new }
+    fn luma_lines(&mut self, modules: &LumaLines<'_>)
+        ensures { Writes (lines.luma_lines (length modules.now.xs.now) modules.now.xs.now modules.now.ys.now modules.now.scores.now modules.now.bits.now) self.old self.new }
     {
-        for (i, &x) in xs[..modules].iter().enumerate() {
+        let LumaLines {
+            xs,
+            ys,
+            scores,
+            bits,
+        } = *modules;
+        for (i, &x) in xs.iter().enumerate() {
             self.luma_line(x, ys[i], scores[i], bits[i]);
         }
     }
 
     // The C lines of all places of the chroma score list.
-    fn chroma_lines(&mut self, places: usize, scores: &[f32], bits: &[u8])
-        requires { (places ≤ length scores.now) × (places ≤ length bits.now) }
-        ensures { Writes (lines.chroma_lines places scores.now bits.now) self.old self.new }
+    fn chroma_lines(&mut self, places: &ChromaLines<'_>)
+        ensures { Writes (lines.chroma_lines (length places.now.scores.now) places.now.scores.now places.now.bits.now) self.old self.new }
     {
-        for (place, &score) in scores[..places].iter().enumerate() {
-            self.chroma_line(place, score, bits[place]);
+        for (place, &score) in places.scores.iter().enumerate() {
+            self.chroma_line(place, score, places.bits[place]);
         }
     }
 }
 
 // ---- the listing
 
-// Core: the listing of a card that no call refused, and its length. `luma` are the scores before unmasking, `bits` what was
-// read from them after it, and `symbols` the bits of the chroma score list.
+// Core: the listing of a card that no call refused, and its length: the model's terms, how many references were kept and
+// rejected, the luma scores before unmasking with the bits read from them after it, and the chroma score list with its bits.
 pub fn listing(
     out: &mut [u8],
     terms: usize,
     kept: usize,
     rejected: usize,
-    modules: usize,
-    xs: &[i32],
-    ys: &[i32],
-    luma: &[f32],
-    bits: &[u8],
-    places: usize,
-    chroma: &[f32],
-    symbols: &[u8],
+    luma: &LumaLines<'_>,
+    chroma: &ChromaLines<'_>,
 ) -> usize
-    requires { (modules ≤ length xs.now) × (modules ≤ length ys.now) × (modules ≤ length luma.now) × (modules ≤ length bits.now) × (places ≤ length chroma.now) × (places ≤ length symbols.now) }
-    ensures { text result out.new ≡ written (lines.listing terms kept rejected modules xs.now ys.now luma.now bits.now places chroma.now symbols.now) (text 0 out.old) }
+    ensures { text result out.new ≡ written (lines.listing terms kept rejected (length luma.now.xs.now) luma.now.xs.now luma.now.ys.now luma.now.scores.now luma.now.bits.now (length chroma.now.scores.now) chroma.now.scores.now chroma.now.bits.now) (text 0 out.old) }
 {
     let mut text = Cursor { out, at: 0 };
     text.fit_line(terms, kept, rejected);
-    text.luma_lines(modules, xs, ys, luma, bits);
-    text.chroma_lines(places, chroma, symbols);
+    text.luma_lines(luma);
+    text.chroma_lines(chroma);
     text.at
 }
 
@@ -185,6 +203,7 @@ pub fn refused_line(out: &mut [u8], number: u32) -> usize
 {
     let mut text = Cursor { out, at: 0 };
     text.put_all(b"refused ");
+    // By hand: From has no conversion from u32 to usize.
     text.decimal(number as usize);
     text.put(b'\n');
     text.at

@@ -11,8 +11,9 @@ use borrow.Author.Tests.{eq-eqb, ne_eqb}
 use Rattle.loops.specs.Loops.{any_up}
 use Rattle.loops.proofs.Laws.{LeftAny, begin-any, turn-any, out-any, done-any}
 use Rattle.sentences.proofs.Laws.{or_here, or_past}
+use Rattle.card.specs.declared.Pair.{Pair}
+use Rattle.card.proofs.FivePairs.{pair_is}
 use Rattle.card.specs.File.{offset_of, length_of, start_of, misplaced_at, bad_directory}
-use borrow.Author.Rules.{rules}
 use Rattle.card.proofs.bad_directory.Goals as goal
 
 first : (s : List ℕ) (pairs : ℕ) → 8 * pairs ≡ start_of pairs s 0
@@ -41,14 +42,24 @@ module _ (s : List ℕ) (pairs k at : ℕ) (f : at ≡ start_of pairs s k) (l : 
       let d : k ≡ pairs = omega arith in
       or_past (any_up 0 pairs (misplaced_at pairs s)) false _ _ (done-any inv h) refl (ap (λ (n : ℕ). not (eqb n (length s))) (f ∙ ap (start_of pairs s) d))
 
-pub loop-k-init : goal.loop-k-init
-loop-k-init c = (search rules, omega arith, search (first), search (begin-any))
 
-pub returns-then-offset-at : goal.returns-then-offset-at
-returns-then-offset-at c = search (elsewhere)
+pub loop-pair-init : goal.loop-pair-init
+loop-pair-init c = (omega arith, search (first), search (begin-any))
 
-pub loop-k-preserved : goal.loop-k-preserved
-loop-k-preserved c = (search rules, search rules, search (next), search (goes))
+pub returns-then-pair-at : goal.returns-then-pair-at
+returns-then-pair-at c =
+    let i = c.loop-pair.invariant in
+    let pair = pair_is _ _ (record { at = 0; bytes = 0 }) _ c.directory-pair-items.ensures.is c.loop-pair-test.true in
+    elsewhere c.args.file.now 5 c.loop-pair.pair-index c.loop-pair.at _ (ap (λ (p : Pair). p.at) pair) i.1 i.2 c.loop-pair-test.true c.if-pair-at.true
+
+pub loop-pair-preserved : goal.loop-pair-preserved
+loop-pair-preserved c =
+    let i = c.loop-pair.invariant in
+    let h = c.loop-pair-test.true in
+    let pair = pair_is _ _ (record { at = 0; bytes = 0 }) _ c.directory-pair-items.ensures.is h in
+    let bytes = ap (λ (p : Pair). p.bytes) pair in
+    let small = c.directory-pair-items.ensures.small c.loop-pair.pair-index h in
+    (omega (arith, bytes, small), next c.args.file.now 5 c.loop-pair.pair-index c.loop-pair.at _ i.1 bytes, goes c.args.file.now 5 c.loop-pair.pair-index c.loop-pair.at _ (ap (λ (p : Pair). p.at) pair) i.1 i.2 h c.if-pair-at.false)
 
 pub returns : goal.returns
 returns c = search (last)

@@ -5,4 +5,4 @@ use Rattle.listing.specs.Writes.{Writes}
 use Rattle.listing.proofs.Cursor.chroma_lines.Given as goal
 
 abbrev pub invariant-loop-place : goal.invariant-loop-place
-invariant-loop-place l = Writes (lines_below (chroma_line_at l.scores l.bits) l.place) l.initial.self l.self
+invariant-loop-place l = Writes (lines_below (chroma_line_at l.places.scores.now l.places.bits.now) l.place) l.initial.self l.self
