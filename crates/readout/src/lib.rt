@@ -10,82 +10,32 @@ ghost use Rattle.std.specs.Prelude.{◌≡◌, ◌≤◌, length};
 ghost use Rattle.modulate.specs.Score.{unmask_luma_of};
 ghost use Rattle.listing.specs.Text.{text, written};
 ghost use Rattle.listing.specs.Listing as lines;
-ghost use Rattle.bits.specs.Reading.{setting, card};
-ghost use Rattle.readout.specs.Sheet.{sheet, Few};
+ghost use Rattle.bits.specs.Reading.{card};
+ghost use Rattle.readout.specs.Sheet.{Few};
+ghost use Rattle.readout.specs.Decoded.{sheet_on};
 ghost use Rattle.readout.specs.Reading.{Listable};
 ghost use Rattle.readout.specs.Reading as spec;
+
+mod decoded;
+
+pub use decoded::Decoded;
 
 use card::Settings;
 use illum::IlluminationModel;
 use layout::Layout;
+use listing::{ChromaLines, LumaLines};
 use stats::ChannelStats;
 
-// Lists a card that was read. The listing has the luma scores as they were before unmasking, and to unmask them once more by the
-// same mask restores them.
-fn list_read(
-    layout: Layout,
-    xs: &[i32],
-    ys: &[i32],
-    mask: u8,
-    model: IlluminationModel,
-    luma: &mut [f32],
-    chroma: &[f32],
-    bits: &[u8],
-    symbols: &[u8],
-    out: &mut [u8],
-) -> usize
-    requires { Listable xs.now ys.now luma.old chroma.now bits.now symbols.now }
-    ensures { text result out.new ≡ written (lines.listing model.terms model.kept model.rejected (length xs.now) xs.now ys.now (unmask_luma_of luma.old layout.side xs.now ys.now layout.grid mask).list bits.now (length chroma.now) chroma.now symbols.now) (text 0 out.old) }
-{
-    let _ = modulate::unmask_luma(luma, layout.side, xs, ys, layout.grid, mask);
-    listing::listing(
-        out,
-        model.terms,
-        model.kept as usize,
-        model.rejected as usize,
-        xs.len(),
-        xs,
-        ys,
-        luma,
-        bits,
-        chroma.len(),
-        chroma,
-        symbols,
-    )
-}
-
-// Reads a card on lent memory, as `bits::read_bits` does, and lists it.
-fn list_card(
-    layout: Layout,
-    xs: &[i32],
-    ys: &[i32],
-    raw: &[f32],
-    cxs: &[u16],
-    cys: &[u16],
-    craw: &[f32],
-    palette: &[f32],
-    mask: u8,
-    model: IlluminationModel,
-    noise: ChannelStats,
-    luma: &mut [f32],
-    colours: &mut [f32],
-    chroma: &mut [f32],
-    scratch: &mut [f32],
-    bits: &mut [u8],
-    symbols: &mut [u8],
-    out: &mut [u8],
-) -> usize
-    ensures { text result out.new ≡ written (spec.text_of (setting layout xs.now ys.now cxs.now cys.now palette.now mask model noise) (card raw.now craw.now luma.old colours.old chroma.old scratch.old bits.old symbols.old)) (text 0 out.old) }
-{
-    match bits::read_bits(
-        layout, xs, ys, raw, cxs, cys, craw, palette, mask, model, noise, luma, colours, chroma,
-        scratch, bits, symbols,
-    ) {
-        Err(refusal) => listing::refused_line(out, u32::from(refusal)),
-        Ok(_) => list_read(
-            layout, xs, ys, mask, model, luma, chroma, bits, symbols, out,
-        ),
-    }
+// The memory that reading a card is lent: a score, three numbers of a colour and a bit a module, a score and a bit a place
+// of the chroma score list, and the scratch of refinement.
+#[derive(Debug, Drop)]
+struct Lent<'a> {
+    luma: &'a mut [f32],
+    colours: &'a mut [f32],
+    chroma: &'a mut [f32],
+    scratch: &'a mut [f32],
+    bits: &'a mut [u8],
+    symbols: &'a mut [u8],
 }
 
 // The length of the chroma score list.
@@ -98,57 +48,116 @@ fn chroma_places(settings: Settings, modules: usize, cells: usize) -> usize
     limits::symbol_bits(settings.hues) * entries
 }
 
-// Core: reads a card of at most 1,020 modules and cells from its raw colours, corrected by the model: writes its listing, or
-// the line of the first refusal, and answers the text's length.
-pub fn read_raw(
-    settings: Settings,
-    palette: &[f32],
-    xs: &[i32],
-    ys: &[i32],
-    raw: &[f32],
-    cxs: &[u16],
-    cys: &[u16],
-    craw: &[f32],
-    model: IlluminationModel,
-    noise: ChannelStats,
-    out: &mut [u8],
-) -> usize
-    requires { (Few settings (length xs.now) (length cxs.now)) × (length ys.now ≡ length xs.now) }
-    ensures { text result out.new ≡ written (spec.score_text (sheet settings palette.now xs.now ys.now raw.now cxs.now cys.now craw.now) model noise) (text 0 out.old) }
-{
-    let mut luma = [0.0f32; 1020];
-    let mut colours = [0.0f32; 3060];
-    let mut chroma = [0.0f32; 8160];
-    let mut scratch = [0.0f32; 5776];
-    let mut bits = [0u8; 1020];
-    let mut symbols = [0u8; 8160];
-    let modules = xs.len();
-    let places = chroma_places(settings, modules, cxs.len());
-    let squares = (settings.side + 12) * (settings.side + 12);
-    let layout = Layout {
-        side: settings.side,
-        hues: settings.hues,
-        size: settings.size,
-        grid: settings.grid,
-    };
-    list_card(
-        layout,
-        xs,
-        ys,
-        raw,
-        cxs,
-        cys,
-        craw,
-        palette,
-        settings.mask,
-        model,
-        noise,
-        &mut luma[..modules],
-        &mut colours[..3 * modules],
-        &mut chroma[..places],
-        &mut scratch[..squares],
-        &mut bits[..modules],
-        &mut symbols[..places],
-        out,
-    )
+impl Decoded<'_> {
+    // The layout that the settings say.
+    fn layout(&self) -> Layout
+        ensures { result ≡ spec.layout_of self.now.settings }
+    {
+        Layout {
+            side: self.settings.side,
+            hues: self.settings.hues,
+            size: self.settings.size,
+            grid: self.settings.grid,
+        }
+    }
+
+    // Lists a card that was read. The listing has the luma scores as they were before unmasking, and to unmask them once
+    // more by the same mask restores them.
+    fn list_read(
+        &self,
+        model: IlluminationModel,
+        luma: &mut [f32],
+        chroma: &[f32],
+        bits: &[u8],
+        symbols: &[u8],
+        out: &mut [u8],
+    ) -> usize
+        requires { Listable self.now.xs.now self.now.ys.now luma.old chroma.now bits.now symbols.now }
+        ensures { text result out.new ≡ written (lines.listing model.terms model.kept model.rejected (length self.now.xs.now) self.now.xs.now self.now.ys.now (unmask_luma_of luma.old self.now.settings.side self.now.xs.now self.now.ys.now self.now.settings.grid self.now.settings.mask).list bits.now (length chroma.now) chroma.now symbols.now) (text 0 out.old) }
+    {
+        let Settings {
+            side, grid, mask, ..
+        } = self.settings;
+        let _ = modulate::unmask_luma(luma, side, self.xs, self.ys, grid, mask);
+        let modules = LumaLines {
+            xs: self.xs,
+            ys: self.ys,
+            scores: luma,
+            bits,
+        };
+        let places = ChromaLines {
+            scores: chroma,
+            bits: symbols,
+        };
+        // By hand: From has no conversion from u32 to usize.
+        let (kept, rejected) = (model.kept as usize, model.rejected as usize);
+        listing::listing(out, model.terms, kept, rejected, &modules, &places)
+    }
+
+    // Reads the card on lent memory, as `bits::read_bits` does, and lists it.
+    fn list_on(
+        &self,
+        model: IlluminationModel,
+        noise: ChannelStats,
+        lent: Lent<'_>,
+        out: &mut [u8],
+    ) -> usize
+        ensures { text result out.new ≡ written (spec.text_of (spec.setting_of (sheet_on self.now) model noise) (card self.now.raw.now self.now.craw.now lent.entry.luma.now lent.entry.colours.now lent.entry.chroma.now lent.entry.scratch.now lent.entry.bits.now lent.entry.symbols.now)) (text 0 out.old) }
+    {
+        let Lent {
+            luma,
+            colours,
+            chroma,
+            scratch,
+            bits,
+            symbols,
+        } = lent;
+        match bits::read_bits(
+            self.layout(),
+            self.xs,
+            self.ys,
+            self.raw,
+            self.cxs,
+            self.cys,
+            self.craw,
+            self.palette,
+            self.settings.mask,
+            model,
+            noise,
+            luma,
+            colours,
+            chroma,
+            scratch,
+            bits,
+            symbols,
+        ) {
+            Err(refusal) => listing::refused_line(out, u32::from(refusal)),
+            Ok(_) => self.list_read(model, luma, chroma, bits, symbols, out),
+        }
+    }
+
+    // Core: reads the card from its raw colours, corrected by the model: writes its listing, or the line of the first
+    // refusal, and answers the text's length.
+    pub fn read(&self, model: IlluminationModel, noise: ChannelStats, out: &mut [u8]) -> usize
+        ensures { text result out.new ≡ written (spec.score_text (sheet_on self.now) model noise) (text 0 out.old) }
+    {
+        let modules = self.xs.len();
+        let places = chroma_places(self.settings, modules, self.cxs.len());
+        let squares = (self.settings.side + 12) * (self.settings.side + 12);
+        let mut luma = [0.0f32; 1020];
+        let mut colours = [0.0f32; 3060];
+        let mut chroma = [0.0f32; 8160];
+        let mut scratch = [0.0f32; 5776];
+        let mut bits = [0u8; 1020];
+        let mut symbols = [0u8; 8160];
+        let lent = Lent {
+            luma: &mut luma[..modules],
+            colours: &mut colours[..3 * modules],
+            chroma: &mut chroma[..places],
+            scratch: &mut scratch[..squares],
+            bits: &mut bits[..modules],
+            symbols: &mut symbols[..places],
+        };
+        self.list_on(model, noise, lent, out)
+    }
 }
