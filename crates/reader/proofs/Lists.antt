@@ -1,10 +1,10 @@
 -- Lists in lent slices: one that a loop filled with f(i) is the list of f(i), and the first of arrays are as long as they are asked for. Assumes nothing.
 use mathlib.Core.Path.{◌≡◌, refl, sym, ap, ◌∙◌}
-use mathlib.Core.List.{List, [], ◌∷◌}
+use mathlib.Core.List.{List, [], ◌∷◌, ◌++◌}
 use Prim.Native.Nat.{ℕ, zero, suc, ◌+◌, ◌*◌, ◌/◌, ◌≤◌, ◌<◌}
 use native.Mathlib.Omega.{arith}
 use lib.ListN.{length, get_or, take, replicate}
-use lib.Seq.{ext_get_or}
+use lib.Seq.{ext_get_or, take-append_seam}
 use lib.Ieee.{Float, binary32, of_bits}
 use Rattle.loops.specs.Loops.{turns, for_up}
 use Rattle.card.specs.Sections.{filled}
@@ -59,7 +59,7 @@ fill_none : {A : Type 0} (f : ℕ → A) → filled f 0 [] ≡ list_of f 0
 unfolding for_up turns list_of list_from
 fill_none f = refl
 
-pub filled_all : {A : Type 0} (f : ℕ → A) (n : ℕ) (out l : List A) → l ≡ filled f n out → length out ≡ n → l ≡ list_of f n
+filled_all : {A : Type 0} (f : ℕ → A) (n : ℕ) (out l : List A) → l ≡ filled f n out → length out ≡ n → l ≡ list_of f n
 filled_all f n [] l e h = e ∙ ap (λ (k : ℕ). filled f k []) (sym h) ∙ fill_none f ∙ ap (list_of f) h
 filled_all f n (d ∷ out) l e h =
     let r = filled_is d f (d ∷ out) n in
@@ -67,13 +67,19 @@ filled_all f n (d ∷ out) l e h =
     ext_get_or d (filled f n (d ∷ out)) (list_of f n) (r.same_length ∙ h ∙ sym (list_length f n))
     (λ i q. let g : i < length (d ∷ out) = omega (arith, r.same_length) in r.written i (omega arith) g ∙ sym (list_at d f n i (omega arith)))
 
+pub all_filled : {A : Type 0} (f : ℕ → A) (n : ℕ) (out l : List A) → l ≡ filled f (length out) out → length out ≡ n → l ≡ list_of f n
+all_filled f n out l e h = filled_all f n out l (e ∙ ap (λ (k : ℕ). filled f k out) h) h
+
+-- the same of the front of a list, of which nothing else is written
+pub front_filled : {A : Type 0} (f : ℕ → A) (n : ℕ) (out l rest : List A) → l ≡ filled f (length out) out → length out ≡ n → take n (l ++ rest) ≡ list_of f n
+front_filled f n out l rest e h =
+    let g = all_filled f n out l e h in
+    ap (λ (k : ℕ). take k (l ++ rest)) (sym (ap length g ∙ list_length f n)) ∙ take-append_seam l rest ∙ g
+
 -- ---- arrays
 
-pub both_long : {A B : Type 0} (n m : ℕ) (a : A) (b : B) → n ≤ m → length (take n (replicate m a)) ≡ length (take n (replicate m b))
-both_long n m a b h = sym (same_long n m a h) ∙ same_long n m b h
-
-pub thrice_long : {A B : Type 0} (n m k : ℕ) (a : A) (b : B) → n ≤ m → 3 * n ≤ k → length (take (3 * n) (replicate k a)) ≡ 3 * length (take n (replicate m b))
-thrice_long n m k a b h g = sym (same_long (3 * n) k a g) ∙ ap (λ (j : ℕ). 3 * j) (same_long n m b h)
+pub taken_long : {A : Type 0} (n m : ℕ) (a : A) → n ≤ m → length (take n (replicate m a)) ≡ n
+taken_long n m a h = sym (same_long n m a h)
 
 -- the scratch of the fit and of the measurement, of at most 510 references
 pub scratch_first : (references : List Float) → length references ≤ 4080 → take (4 * (length references / 8)) (replicate 2040 (of_bits binary32 0)) ≡ scratch_of references

@@ -82,16 +82,16 @@ module _ (file : List ℕ) (o : Result Card Refusal) (p : said o ≡ opened 5 fi
 
 -- ---- decoding: the lists of the sections are the sheet and the references
 
-module _ (file : List ℕ) (c : Card) (p : List Float) (xs ys : List ℤ) (raw : List Float) (cxs cys : List ℕ) (craw r : List Float) (i j m n : ℕ)
-    (a : p ≡ floats_of file c.palette i) (b : r ≡ floats_of file c.references.at j) (d : Modules file c.modules.at m xs ys raw) (e : Cells file c.cells.at n cxs cys craw)
-    (f : i ≡ 2 + 8 * c.settings.hues) (g : j ≡ 8 * c.references.count) (k : m ≡ c.modules.count) (l : n ≡ c.cells.count) where
+module _ (file : List ℕ) (c : Card) (p : List Float) (xs ys : List ℤ) (raw : List Float) (cxs cys : List ℕ) (craw r : List Float)
+    (a : p ≡ floats_of file c.palette (2 + 8 * c.settings.hues)) (b : r ≡ floats_of file c.references.at (8 * c.references.count))
+    (d : Modules file c.modules.at c.modules.count xs ys raw) (e : Cells file c.cells.at c.cells.count cxs cys craw) where
   sheet_is : sheet c.settings p xs ys raw cxs cys craw ≡ sheet_of file c
   unfolding sheet_of
-  sheet_is = rw (a, d.xs_are, d.ys_are, d.raw_are, e.cxs_are, e.cys_are, e.craw_are, f, k, l)
+  sheet_is = rw (a, d.xs_are, d.ys_are, d.raw_are, e.xs_are, e.ys_are, e.raw_are)
 
   references_are : r ≡ references_of file c
   unfolding references_of
-  references_are = rw (b, g)
+  references_are = rw b
 
   pub decoded : (t u : Text) → u ≡ written (fit_text (sheet c.settings p xs ys raw cxs cys craw) r) t → u ≡ written (fit_text (sheet_of file c) (references_of file c)) t
   decoded t u h = rw (sheet_is, references_are) at h

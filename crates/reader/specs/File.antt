@@ -1,7 +1,8 @@
 -- What an accepted card file holds (document 01, "Card file and listing"): its settings, and each section as the list of its numbers. Definitions only.
-use Rattle.std.specs.Prelude.{◌≡◌, List, [], ◌∷◌, ℕ, zero, suc, ◌+◌, ◌*◌, ◌≤◌, ℤ, Float, length}
+use Rattle.std.specs.Prelude.{◌≡◌, List, [], ◌∷◌, ℕ, zero, suc, ◌+◌, ◌*◌, ◌≤◌, ℤ, Float}
 use Rattle.card.specs.declared.Card.{Card}
-use Rattle.card.specs.Sections.{float_at, position_of, coordinate_at, component_at}
+use Rattle.card.specs.Number.{u16_at, i16_at}
+use Rattle.card.specs.Sections.{number_at, float_at, position_of, coordinate_at, component_at}
 use Rattle.readout.specs.Sheet.{Sheet, sheet}
 
 -- f(i), f(i + 1), .., k of them
@@ -29,16 +30,17 @@ coordinates_of s at n = list_of (coordinate_at s at) n
 abbrev pub colours_of : List ℕ → ℕ → ℕ → List Float
 colours_of s at n = list_of (component_at s at) (3 * n)
 
--- the lists of the n modules, and of the n cells, of a section
-pub record Modules (s : List ℕ) (at n : ℕ) (xs ys : List ℤ) (raw : List Float) : Type 0 where
-  pub xs_are : xs ≡ positions_of s at n
-  pub ys_are : ys ≡ positions_of s (at + 2) n
+-- the lists of the n modules, or of the n cells, of a section, by how a coordinate is stored
+pub record Placed {A : Type 0} (stored : List ℕ → ℕ → A) (s : List ℕ) (at n : ℕ) (xs ys : List A) (raw : List Float) : Type 0 where
+  pub xs_are : xs ≡ list_of (number_at stored s at 16) n
+  pub ys_are : ys ≡ list_of (number_at stored s (at + 2) 16) n
   pub raw_are : raw ≡ colours_of s at n
 
-pub record Cells (s : List ℕ) (at n : ℕ) (cxs cys : List ℕ) (craw : List Float) : Type 0 where
-  pub cxs_are : cxs ≡ coordinates_of s at n
-  pub cys_are : cys ≡ coordinates_of s (at + 2) n
-  pub craw_are : craw ≡ colours_of s at n
+abbrev pub Modules : List ℕ → ℕ → ℕ → List ℤ → List ℤ → List Float → Type 0
+Modules = Placed i16_at
+
+abbrev pub Cells : List ℕ → ℕ → ℕ → List ℕ → List ℕ → List Float → Type 0
+Cells = Placed u16_at
 
 -- ---- the file
 
@@ -65,14 +67,3 @@ pub record Fits (c : Card) : Type 0 where
   pub modules : c.modules.at ≤ 16384
   pub cells : c.cells.at ≤ 16384
   pub whole : 32 * c.settings.hues + 32 * c.references.count + 16 * c.modules.count + 16 * c.cells.count ≤ 16328
-
--- lists as long as the card's sections
-pub record Rooms (c : Card) (palette references : List Float) (xs ys : List ℤ) (raw : List Float) (cxs cys : List ℕ) (craw : List Float) : Type 0 where
-  pub palette_is : length palette ≡ 2 + 8 * c.settings.hues
-  pub references_are : length references ≡ 8 * c.references.count
-  pub xs_are : length xs ≡ c.modules.count
-  pub ys_are : length ys ≡ length xs
-  pub raw_are : length raw ≡ 3 * length xs
-  pub cxs_are : length cxs ≡ c.cells.count
-  pub cys_are : length cys ≡ length cxs
-  pub craw_are : length craw ≡ 3 * length cxs

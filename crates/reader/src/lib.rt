@@ -10,183 +10,115 @@
 // 32 bytes, and for 1,020 modules and cells of 16.
 #![tactic(auto)]
 
-ghost use Rattle.std.specs.Prelude.{◌≡◌, ◌+◌, ◌*◌, ◌≤◌, length};
+ghost use Rattle.std.specs.Prelude.{◌≡◌, ◌*◌, ◌≤◌, length, take};
 ghost use Rattle.listing.specs.Text.{text, written};
-ghost use Rattle.readout.specs.Sheet.{sheet, Few};
-ghost use Rattle.reader.specs.File.{floats_of, Modules, Cells, sheet_of, references_of, Fits, Rooms};
+ghost use Rattle.readout.specs.Decoded.{sheet_on};
+ghost use Rattle.reader.specs.File.{Placed, sheet_of, references_of, Fits};
 ghost use Rattle.reader.specs.Fitting as spec;
 ghost use Rattle.reader.specs.Text.{card_text, listing_room};
 
-use card::{Card, Settings};
+use card::{Card, Section, Stored};
 use illum::IlluminationModel;
+use readout::Decoded;
 
 // ---- the fit and the noise record
 
 // Measures the noise record, and goes on.
 fn measure_card(
-    settings: Settings,
-    palette: &[f32],
+    card: &Decoded<'_>,
     references: &[f32],
-    xs: &[i32],
-    ys: &[i32],
-    raw: &[f32],
-    cxs: &[u16],
-    cys: &[u16],
-    craw: &[f32],
     model: IlluminationModel,
     out: &mut [u8],
 ) -> usize
-    requires { (Few settings (length xs.now) (length cxs.now)) × (length ys.now ≡ length xs.now) × (length references.now ≤ 4080) }
-    ensures listed { text result out.new ≡ written (spec.measure_text (sheet settings palette.now xs.now ys.now raw.now cxs.now cys.now craw.now) references.now model) (text 0 out.old) }
+    requires { length references.now ≤ 4080 }
+    ensures listed { text result out.new ≡ written (spec.measure_text (sheet_on card.now) references.now model) (text 0 out.old) }
     ensures typed { spec.TypedModel model }
 {
     let mut scratch = [0.0f32; 2040];
     let n = references.len() / 8;
     match measure::measure_flat(
         references,
-        settings.side,
+        card.settings.side,
         model,
-        palette,
-        settings.hues,
+        card.palette,
+        card.settings.hues,
         &mut scratch[..4 * n],
     ) {
         Err(refusal) => listing::refused_line(out, u32::from(refusal)),
-        Ok(m) => readout::read_raw(
-            settings, palette, xs, ys, raw, cxs, cys, craw, model, m.noise, out,
-        ),
+        Ok(m) => card.read(model, m.noise, out),
     }
 }
 
 // Fits the illumination model, and goes on.
-fn fit_card(
-    settings: Settings,
-    palette: &[f32],
-    references: &[f32],
-    xs: &[i32],
-    ys: &[i32],
-    raw: &[f32],
-    cxs: &[u16],
-    cys: &[u16],
-    craw: &[f32],
-    out: &mut [u8],
-) -> usize
-    requires { (Few settings (length xs.now) (length cxs.now)) × (length ys.now ≡ length xs.now) × (length references.now ≤ 4080) }
-    ensures { spec.Listed (sheet settings palette.now xs.now ys.now raw.now cxs.now cys.now craw.now) references.now result out.old out.new }
+fn fit_card(card: &Decoded<'_>, references: &[f32], out: &mut [u8]) -> usize
+    requires { length references.now ≤ 4080 }
+    ensures { spec.Listed (sheet_on card.now) references.now result out.old out.new }
 {
     let mut kept = [0u8; 510];
     let mut scratch = [0.0f32; 2040];
     let n = references.len() / 8;
     match fit::fit_flat(
         references,
-        settings.side,
-        settings.version,
+        card.settings.side,
+        card.settings.version,
         &mut kept[..n],
         &mut scratch[..4 * n],
     ) {
         Err(unfit) => listing::refused_line(out, u32::from(unfit)),
-        Ok(model) => measure_card(
-            settings, palette, references, xs, ys, raw, cxs, cys, craw, model, out,
-        ),
+        Ok(model) => measure_card(card, references, model, out),
     }
 }
 
 // ---- the file
 
-// Decodes as many f32 as there is room for, from `at` on.
-fn decode_floats(file: &[u8], at: usize, out: &mut [f32])
-    requires { (at ≤ 16384) × (length out.old ≤ 4082) }
-    ensures { out.new ≡ floats_of file.now at (length out.old) }
-{
-    card::floats(file, at, out.len(), out);
+// Modules, or cells: their coordinates and their raw colours, of as many as their section has.
+#[derive(Clone, Copy, Debug)]
+struct Places<T> {
+    xs: [T; 1020],
+    ys: [T; 1020],
+    raw: [f32; 3060],
 }
 
-// Decodes the modules of a section that starts at `at`.
-fn decode_modules(file: &[u8], at: usize, xs: &mut [i32], ys: &mut [i32], raw: &mut [f32])
-    requires { (at ≤ 16384) × (length xs.old ≤ 1020) × (length ys.old ≡ length xs.old) × (length raw.old ≡ 3 * length xs.old) }
-    ensures { Modules file.now at (length xs.old) xs.new ys.new raw.new }
-{
-    let modules = xs.len();
-    card::positions(file, at, modules, xs);
-    card::positions(file, at + 2, modules, ys);
-    card::colours(file, at, modules, raw);
+impl<T: Stored> Places<T> {
+    // Decodes a section; `blank` stands where it has no more.
+    fn decode(file: &[u8], section: Section, blank: T) -> Places<T>
+        requires { (section.at ≤ 16384) × (section.count ≤ 1020) }
+        ensures { Placed T.stored file.now section.at section.count (take section.count result.xs) (take section.count result.ys) (take (3 * section.count) result.raw) }
+    {
+        let mut xs = [blank; 1020];
+        let mut ys = [blank; 1020];
+        let mut raw = [0.0f32; 3060];
+        card::numbers(file, section.at, 16, &mut xs[..section.count]);
+        card::numbers(file, section.at + 2, 16, &mut ys[..section.count]);
+        card::colours(file, section.at, &mut raw[..3 * section.count]);
+        Places { xs, ys, raw }
+    }
 }
 
-// Decodes the cells of a section that starts at `at`.
-fn decode_cells(file: &[u8], at: usize, cxs: &mut [u16], cys: &mut [u16], craw: &mut [f32])
-    requires { (at ≤ 16384) × (length cxs.old ≤ 1020) × (length cys.old ≡ length cxs.old) × (length craw.old ≡ 3 * length cxs.old) }
-    ensures { Cells file.now at (length cxs.old) cxs.new cys.new craw.new }
-{
-    let cells = cxs.len();
-    card::coordinates(file, at, cells, cxs);
-    card::coordinates(file, at + 2, cells, cys);
-    card::colours(file, at, cells, craw);
-}
-
-// Decodes the sections of an accepted file into lists that are as long as they are, and reads the card.
-fn decode_card(
-    file: &[u8],
-    card: Card,
-    palette: &mut [f32],
-    references: &mut [f32],
-    xs: &mut [i32],
-    ys: &mut [i32],
-    raw: &mut [f32],
-    cxs: &mut [u16],
-    cys: &mut [u16],
-    craw: &mut [f32],
-    out: &mut [u8],
-) -> usize
-    requires { Fits card × Rooms card palette.old references.old xs.old ys.old raw.old cxs.old cys.old craw.old }
-    ensures { (text result out.new ≡ written (spec.fit_text (sheet_of file.now card) (references_of file.now card)) (text 0 out.old)) × (length (spec.fit_text (sheet_of file.now card) (references_of file.now card)) ≤ listing_room) }
-{
-    decode_floats(file, card.palette, palette);
-    decode_floats(file, card.references.at, references);
-    decode_modules(file, card.modules.at, xs, ys, raw);
-    decode_cells(file, card.cells.at, cxs, cys, craw);
-    fit_card(
-        card.settings,
-        palette,
-        references,
-        xs,
-        ys,
-        raw,
-        cxs,
-        cys,
-        craw,
-        out,
-    )
-}
-
-// Reads the card of an accepted file.
+// Reads the card of an accepted file: decodes its sections into lists that are as long as they are, and goes on.
 fn read_opened(file: &[u8], card: Card, out: &mut [u8]) -> usize
     requires { Fits card }
     ensures { (text result out.new ≡ written (spec.fit_text (sheet_of file.now card) (references_of file.now card)) (text 0 out.old)) × (length (spec.fit_text (sheet_of file.now card) (references_of file.now card)) ≤ listing_room) }
 {
     let mut palette = [0.0f32; 4082];
     let mut references = [0.0f32; 4080];
-    let mut xs = [0i32; 1020];
-    let mut ys = [0i32; 1020];
-    let mut raw = [0.0f32; 3060];
-    let mut cxs = [0u16; 1020];
-    let mut cys = [0u16; 1020];
-    let mut craw = [0.0f32; 3060];
-    let numbers = 2 + 8 * card.settings.hues;
-    let floats = 8 * card.references.count;
-    let modules = card.modules.count;
-    let cells = card.cells.count;
-    decode_card(
-        file,
-        card,
-        &mut palette[..numbers],
-        &mut references[..floats],
-        &mut xs[..modules],
-        &mut ys[..modules],
-        &mut raw[..3 * modules],
-        &mut cxs[..cells],
-        &mut cys[..cells],
-        &mut craw[..3 * cells],
-        out,
-    )
+    let palette = &mut palette[..2 + 8 * card.settings.hues];
+    let references = &mut references[..8 * card.references.count];
+    card::numbers(file, card.palette, 4, palette);
+    card::numbers(file, card.references.at, 4, references);
+    let modules = Places::<i32>::decode(file, card.modules, 0);
+    let cells = Places::<u16>::decode(file, card.cells, 0);
+    let decoded = Decoded {
+        settings: card.settings,
+        palette,
+        xs: &modules.xs[..card.modules.count],
+        ys: &modules.ys[..card.modules.count],
+        raw: &modules.raw[..3 * card.modules.count],
+        cxs: &cells.xs[..card.cells.count],
+        cys: &cells.ys[..card.cells.count],
+        craw: &cells.raw[..3 * card.cells.count],
+    };
+    fit_card(&decoded, references, out)
 }
 
 // Reads a card file: writes its listing, or the one line `refused N`, and answers the text's length. Nothing is written before

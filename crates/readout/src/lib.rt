@@ -18,9 +18,8 @@ ghost use Rattle.readout.specs.Reading as spec;
 
 mod decoded;
 
-pub use decoded::Decoded;
-
 use card::Settings;
+pub use decoded::Decoded;
 use illum::IlluminationModel;
 use layout::Layout;
 use listing::{ChromaLines, LumaLines};
@@ -76,7 +75,10 @@ impl Decoded<'_> {
         ensures { text result out.new ≡ written (lines.listing model.terms model.kept model.rejected (length self.now.xs.now) self.now.xs.now self.now.ys.now (unmask_luma_of luma.old self.now.settings.side self.now.xs.now self.now.ys.now self.now.settings.grid self.now.settings.mask).list bits.now (length chroma.now) chroma.now symbols.now) (text 0 out.old) }
     {
         let Settings {
-            side, grid, mask, ..
+            side,
+            grid,
+            mask,
+            ..
         } = self.settings;
         let _ = modulate::unmask_luma(luma, side, self.xs, self.ys, grid, mask);
         let modules = LumaLines {

@@ -42,7 +42,6 @@ module _ (s : List ℕ) (pairs k at : ℕ) (f : at ≡ start_of pairs s k) (l : 
       let d : k ≡ pairs = omega arith in
       or_past (any_up 0 pairs (misplaced_at pairs s)) false _ _ (done-any inv h) refl (ap (λ (n : ℕ). not (eqb n (length s))) (f ∙ ap (start_of pairs s) d))
 
-
 pub loop-pair-init : goal.loop-pair-init
 loop-pair-init c = (omega arith, search (first), search (begin-any))
 

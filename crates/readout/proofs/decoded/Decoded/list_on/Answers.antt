@@ -11,5 +11,6 @@ pub returns : goal.returns
 returns c =
     let p = rw c.layout.ensures at c.read_bits.ensures.0 in
     elim c.match-read_bits.branch [
-      in-Err w ↦ rw (w.result-is, w.out-is) (not-read _ _ _ _ _ _ _ _ _ _ _ _ _ _ _ _ _ _ _ _ _ _ _ _ p _ _ w.in-Err.refusal _ w.from.ensures w.in-Err.is w.refused_line.ensures)
-    | in-Ok w ↦ rw (w.result-is, w.out-is) (is_read _ _ _ _ _ _ _ _ _ _ _ _ _ _ _ _ _ _ _ _ _ _ _ _ p _ _ w.in-Ok.field-0 w.in-Ok.is w.list_read.ensures) ]
+      | in-Err w ↦ rw (w.result-is, w.out-is) (not-read _ _ _ _ _ _ _ _ _ _ _ _ _ _ _ _ _ _ _ _ _ _ _ _ p _ _ w.in-Err.refusal _ w.from.ensures w.in-Err.is w.refused_line.ensures)
+      | in-Ok w ↦ rw (w.result-is, w.out-is) (is_read _ _ _ _ _ _ _ _ _ _ _ _ _ _ _ _ _ _ _ _ _ _ _ _ p _ _ w.in-Ok.field-0 w.in-Ok.is w.list_read.ensures)
+    ]
