@@ -1,6 +1,5 @@
 pub mod Bound
-pub mod First
-pub mod Gaps
+pub mod Found
 pub mod Inverses
 pub mod Lent
 pub mod Marks

@@ -8,6 +8,7 @@ use Rattle.illum.specs.declared.Unshaded.{Unshaded}
 use Rattle.illum.specs.declared.Marked.{Marked}
 use Rattle.illum.specs.declared.Unrounded.{Unrounded}
 use Rattle.illum.specs.declared.IlluminationModel.{IlluminationModel}
+use Rattle.illum.specs.declared.Parts.{Parts}
 use Rattle.illum.specs.Surface.{zero64, one64, basis_at, surface_at, is_held, deshade}
 
 -- ---- correct
@@ -112,6 +113,17 @@ lent_model terms side rms affine-r affine-g affine-b gain-r gain-g gain-b flare-
       rejected = 0;
       kept = 0;
     }
+
+-- the model of the parts that are lent
+unfoldable pub of_parts : Parts → IlluminationModel
+of_parts p =
+    lent_model p.terms p.side p.residual_rms p.affine_r.now p.affine_g.now p.affine_b.now p.gain_r.now p.gain_g.now p.gain_b.now p.flare_r.now p.flare_g.now
+    p.flare_b.now
+
+-- a model whose counts of references stand at 0
+unfoldable pub uncounted : IlluminationModel → IlluminationModel
+uncounted m =
+    lent_model m.terms m.side m.residual_rms m.affine_r m.affine_g m.affine_b m.gain_r m.gain_g m.gain_b m.flare_r m.flare_g m.flare_b
 
 -- ---- identity
 

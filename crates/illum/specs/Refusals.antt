@@ -28,10 +28,6 @@ unfoldable pub bad_model_side : Float → Bool
 bad_model_side s =
     not (le (of_int binary32 (pos 1)) s && (le s (of_int binary32 (pos 1024)) && eq (of_int binary32 (pos (to_unsigned 64 s))) s))
 
--- one of four numbers is not finite
-abbrev pub not_finite4 : Float → Float → Float → Float → Bool
-not_finite4 a b c d = not_finite a || (not_finite b || (not_finite c || not_finite d))
-
 abbrev pub not_finite_at : List Float → ℕ → Bool
 not_finite_at l k = not_finite (slice_index_or l k nan)
 

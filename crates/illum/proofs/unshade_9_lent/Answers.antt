@@ -1,6 +1,0 @@
--- `illum::unshade_9_lent` meets its contract: the three inverses at one basis.
--- Assumes nothing.
-use Rattle.illum.proofs.unshade_9_lent.Goals as goal
-
-pub returns : goal.returns
-returns c = cc
