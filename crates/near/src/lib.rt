@@ -18,7 +18,7 @@ ghost use Rattle.near.specs.declared.Query.TheVariants as query;
 use answers::Refusal;
 
 // What is asked of the kept references: the three nearest, all within a radius, or all that a column cuts off.
-#[derive(Clone, Copy)]
+#[derive(Clone, Copy, Debug)]
 pub enum Query {
     Nearest,
     Within(f32),
@@ -28,391 +28,353 @@ pub enum Query {
 // ---- distances
 
 // The centre of the module, or of the column, at v: half a module on.
+#[tactic(auto, using(crate::proofs::Literals::half_is), unfolding(crate::specs::Near::centre))]
 fn centre(v: i32) -> f64
     ensures { result ≡ spec.centre v }
 {
-    v as f64 + 0.5
+    f64::from(v) + 0.5
 }
 
-// The squared distance of reference i from (cx, cy).
-fn distance(xy: &[f32], cx: f64, cy: f64, i: usize) -> f64
-    requires { 2 * i + 2 ≤ length xy.now }
-    ensures { result ≡ spec.distance xy.now cx cy i }
+// Whether a is at most c, and c at most b.
+#[tactic(auto, unfolding(crate::specs::Near::rising))]
+fn rising(a: f64, c: f64, b: f64) -> bool
+    ensures { result ≡ spec.rising a c b }
 {
-    let dx = float::widen(xy[2 * i]) - cx;
-    let dy = float::widen(xy[2 * i + 1]) - cy;
-    dx * dx + dy * dy
+    a <= c && c <= b
 }
 
-// Whether reference i comes before reference j.
-fn before(xy: &[f32], cx: f64, cy: f64, i: usize, j: usize) -> bool
-    requires { (2 * i + 2 ≤ length xy.now) × (2 * j + 2 ≤ length xy.now) }
-    ensures { result ≡ spec.before xy.now cx cy i j }
+// Whether c is at or between a and b.
+#[tactic(auto, unfolding(crate::specs::Near::between))]
+fn between(a: f64, c: f64, b: f64) -> bool
+    ensures { result ≡ spec.between a c b }
 {
-    let a = distance(xy, cx, cy, i);
-    let b = distance(xy, cx, cy, j);
-    if a < b {
-        return true;
-    }
-    if a == b {
-        return i < j;
-    }
-    false
+    rising(a, c, b) || rising(b, c, a)
 }
-
-// ---- sorting
 
 // A place as an index.
 fn wide(i: u32) -> usize
     ensures { result ≡ i }
 {
+    // By hand: From has no conversion from u32 to usize.
     i as usize
 }
 
-// Whether what stands at j comes before what stands at k.
-fn earlier(xy: &[f32], cx: f64, cy: f64, out: &[u32], j: usize, k: usize) -> bool
-    requires { (j < length out.now) × (k < length out.now) × (2 * get_or out.now j 0 + 2 ≤ length xy.now) × (2 * get_or out.now k 0 + 2 ≤ length xy.now) }
-    ensures { result ≡ spec.before xy.now cx cy (get_or out.now j 0) (get_or out.now k 0) }
-{
-    before(xy, cx, cy, wide(out[j]), wide(out[k]))
+// What is searched: n references, their positions and marks, as they are seen from the centre (cx, cy). Which of two references comes
+// before the other is a strict order of them.
+#[derive(Clone, Copy, Debug)]
+struct Search<'a> {
+    query: Query,
+    xy: &'a [f32],
+    kept: &'a [u8],
+    n: usize,
+    cx: f64,
+    cy: f64,
+    ghost placed: { 2 * n ≤ length xy.now },
+    ghost marked: { n ≤ length kept.now },
+    ghost few: { n ≤ 16384 },
+    ghost strict: { order.Strict (spec.before xy.now cx cy) n },
 }
 
-// Exchanges what stands at i and at j.
-fn swap(out: &mut [u32], i: usize, j: usize)
-    requires { (i < length out.old) × (j < length out.old) }
-    ensures { out.new ≡ order.swapped i j out.old }
-{
-    let x = out[i];
-    let y = out[j];
-    out[i] = y;
-    out[j] = x;
-}
+impl Search<'_> {
+    // The squared distance of reference i from the centre.
+    #[tactic(auto, unfolding(crate::specs::Near::distance))]
+    fn distance(&self, i: usize) -> f64
+        requires { i < self.now.n }
+        ensures { result ≡ spec.distance self.now.xy.now self.now.cx self.now.cy i }
+    {
+        let dx = float::widen(self.xy[2 * i]) - self.cx;
+        let dy = float::widen(self.xy[2 * i + 1]) - self.cy;
+        dx * dx + dy * dy
+    }
 
-// Moves what stands at k down by steps of `gap`, past all that it comes before.
-fn sift(xy: &[f32], cx: f64, cy: f64, n: usize, gap: usize, k: usize, out: &mut [u32])
-    requires { (2 * n ≤ length xy.now) × (0 < gap) × (k < length out.old) × order.Places n (k + 1) out.old }
-    ensures { order.Sifted (spec.before xy.now cx cy) n gap k out.old out.new }
-{
-    let mut j = k;
-    while gap <= j {
-        if !earlier(xy, cx, cy, out, j, j - gap) {
-            return;
+    // Whether reference i comes before reference j.
+    #[tactic(auto, unfolding(crate::specs::Near::before))]
+    fn before(&self, i: usize, j: usize) -> bool
+        requires { (i < self.now.n) × (j < self.now.n) }
+        ensures { result ≡ spec.before self.now.xy.now self.now.cx self.now.cy i j }
+    {
+        let a = self.distance(i);
+        let b = self.distance(j);
+        a < b || a == b && i < j
+    }
+
+    // ---- which references are listed
+
+    // Whether reference i is within the radius.
+    #[tactic(auto, unfolding(crate::specs::Near::asked))]
+    fn within(&self, radius: f32, i: usize) -> bool
+        requires { i < self.now.n }
+        ensures { result ≡ spec.asked (query.Within radius) self.now.xy.now self.now.cx self.now.cy i }
+    {
+        let r = float::widen(radius);
+        self.distance(i) <= r * r
+    }
+
+    // Whether the column cuts reference i off.
+    #[tactic(auto, unfolding(crate::specs::Near::asked))]
+    fn cut_off(&self, column: i32, i: usize) -> bool
+        requires { i < self.now.n }
+        ensures { result ≡ spec.asked (query.CutOff column) self.now.xy.now self.now.cx self.now.cy i }
+    {
+        between(float::widen(self.xy[2 * i]), centre(column), self.cx)
+    }
+
+    // Whether reference i is one that the query asks for.
+    #[tactic(auto, unfolding(crate::specs::Near::asked))]
+    fn asked(&self, i: usize) -> bool
+        requires { i < self.now.n }
+        ensures { result ≡ spec.asked self.now.query self.now.xy.now self.now.cx self.now.cy i }
+    {
+        match self.query {
+            Query::Nearest => true,
+            Query::Within(radius) => self.within(radius, i),
+            Query::CutOff(column) => self.cut_off(column, i),
         }
-        swap(out, j - gap, j);
-        j -= gap;
     }
-}
 
-// One pass over the first m places; with a gap of 1 it sorts them.
-fn pass(xy: &[f32], cx: f64, cy: f64, n: usize, gap: usize, m: usize, out: &mut [u32])
-    requires { (2 * n ≤ length xy.now) × (0 < gap) × (m ≤ length out.old) × order.Places n m out.old }
-    ensures { order.Passed (spec.before xy.now cx cy) n gap m m out.old out.new }
-{
-    for k in 0..m {
-        sift(xy, cx, cy, n, gap, k, out);
+    // Whether reference i is one of them and was kept.
+    #[tactic(auto, unfolding(crate::specs::Near::chosen, crate::specs::Near::is_kept))]
+    fn chosen(&self, i: usize) -> bool
+        requires { i < self.now.n }
+        ensures { result ≡ spec.chosen self.now.query self.now.xy.now self.now.kept.now self.now.cx self.now.cy i }
+    {
+        self.kept[i] != 0 && self.asked(i)
     }
-}
 
-// Sorts the first m places by Shell's passes: each with a gap above 1 brings places near where they belong, and the last,
-// of gap 1, sorts them.
-fn sort(xy: &[f32], cx: f64, cy: f64, n: usize, m: usize, out: &mut [u32])
-    requires { (2 * n ≤ length xy.now) × (m ≤ length out.old) × order.Places n m out.old }
-    ensures { order.Passed (spec.before xy.now cx cy) n 1 m m out.old out.new }
-{
-    let mut gap = 9841;
-    while gap > 1 {
-        pass(xy, cx, cy, n, gap, m, out);
-        gap = gap / 3;
+    // ---- sorting
+
+    // Whether what stands at j comes before what stands at k.
+    fn earlier(&self, out: &[u32], j: usize, k: usize) -> bool
+        requires { (j < length out.now) × (k < length out.now) × (get_or out.now j 0 < self.now.n) × (get_or out.now k 0 < self.now.n) }
+        ensures { result ≡ spec.before self.now.xy.now self.now.cx self.now.cy (get_or out.now j 0) (get_or out.now k 0) }
+    {
+        self.before(wide(out[j]), wide(out[k]))
     }
-    pass(xy, cx, cy, n, 1, m, out);
-}
 
-// ---- which references are listed
-
-// Whether reference i is within the radius.
-fn within(xy: &[f32], cx: f64, cy: f64, radius: f32, i: usize) -> bool
-    requires { 2 * i + 2 ≤ length xy.now }
-    ensures { result ≡ spec.asked (query.Within radius) xy.now cx cy i }
-{
-    let r = float::widen(radius);
-    distance(xy, cx, cy, i) <= r * r
-}
-
-// Whether a is at most c, and c at most b.
-fn rising(a: f64, c: f64, b: f64) -> bool
-    ensures { result ≡ spec.rising a c b }
-{
-    if a <= c {
-        return c <= b;
+    // Moves what stands at k down by steps of `gap`, past all that it comes before.
+    fn sift(&self, gap: usize, k: usize, out: &mut [u32])
+        requires { (0 < gap) × (k < length out.old) × order.Places self.now.n (k + 1) out.old }
+        ensures { order.Sifted (spec.before self.now.xy.now self.now.cx self.now.cy) self.now.n gap k out.old out.new }
+    {
+        let mut j = k;
+        // By index: the place goes down by the gap, as far as the order asks.
+        while gap <= j && self.earlier(out, j, j - gap) {
+            out.swap(j - gap, j);
+            j -= gap;
+        }
     }
-    false
-}
 
-// Whether c is at or between a and b.
-fn between(a: f64, c: f64, b: f64) -> bool
-    ensures { result ≡ spec.between a c b }
-{
-    if rising(a, c, b) {
-        return true;
+    // One pass over the first m places; with a gap of 1 it sorts them.
+    fn pass(&self, gap: usize, m: usize, out: &mut [u32])
+        requires { (0 < gap) × (m ≤ length out.old) × order.Places self.now.n m out.old }
+        ensures { order.Passed (spec.before self.now.xy.now self.now.cx self.now.cy) self.now.n gap m m out.old out.new }
+    {
+        // By index: each turn moves places of the whole list.
+        for k in 0..m {
+            self.sift(gap, k, out);
+        }
     }
-    rising(b, c, a)
-}
 
-// Whether the column cuts reference i off.
-fn cut_off(xy: &[f32], cx: f64, cy: f64, column: i32, i: usize) -> bool
-    requires { 2 * i + 2 ≤ length xy.now }
-    ensures { result ≡ spec.asked (query.CutOff column) xy.now cx cy i }
-{
-    between(float::widen(xy[2 * i]), centre(column), cx)
-}
-
-// Whether reference i is one that the query asks for.
-fn asked(query: Query, xy: &[f32], cx: f64, cy: f64, i: usize) -> bool
-    requires { 2 * i + 2 ≤ length xy.now }
-    ensures { result ≡ spec.asked query xy.now cx cy i }
-{
-    match query {
-        Query::Nearest => true,
-        Query::Within(radius) => within(xy, cx, cy, radius, i),
-        Query::CutOff(column) => cut_off(xy, cx, cy, column, i),
+    // Sorts the first m places by Shell's passes: each with a gap above 1 brings places near where they belong, and the last,
+    // of gap 1, sorts them.
+    fn sort(&self, m: usize, out: &mut [u32])
+        requires { (m ≤ length out.old) × order.Places self.now.n m out.old }
+        ensures { order.Passed (spec.before self.now.xy.now self.now.cx self.now.cy) self.now.n 1 m m out.old out.new }
+    {
+        let mut gap = 9841;
+        while gap > 1 {
+            self.pass(gap, m, out);
+            gap /= 3;
+        }
+        self.pass(1, m, out);
     }
-}
 
-// Whether reference i is one of them and was kept.
-fn chosen(query: Query, xy: &[f32], kept: &[u8], cx: f64, cy: f64, i: usize) -> bool
-    requires { (2 * i + 2 ≤ length xy.now) × (i < length kept.now) }
-    ensures { result ≡ spec.chosen query xy.now kept.now cx cy i }
-{
-    if kept[i] == 0 {
-        return false;
+    // ---- the lists
+    //
+    // Facts: `out` is the caller's slice, whose rest stays; a struct of it with the fact that it has n places would be of one field.
+
+    // Lists reference i at place m, where it is chosen; the places taken after it.
+    #[tactic(auto, unfolding(crate::specs::Near::list_entry))]
+    fn list_at(&self, i: usize, m: usize, out: &mut [u32]) -> usize
+        requires { (i < self.now.n) × (m < length out.old) }
+        ensures { spec.room result out.new ≡ spec.list_entry (spec.chosen self.now.query self.now.xy.now self.now.kept.now self.now.cx self.now.cy) i (spec.room m out.old) }
+    {
+        if !self.chosen(i) {
+            return m;
+        }
+        out[m] = i as u32;
+        m + 1
     }
-    asked(query, xy, cx, cy, i)
-}
 
-// ---- the lists
-
-// Lists reference i at place m, where it is chosen; the places taken after it.
-fn list_at(
-    query: Query,
-    xy: &[f32],
-    kept: &[u8],
-    cx: f64,
-    cy: f64,
-    i: usize,
-    m: usize,
-    out: &mut [u32],
-) -> usize
-    requires { (2 * i + 2 ≤ length xy.now) × (i < length kept.now) × (m < length out.old) × (i < 16384) }
-    ensures { spec.room result out.new ≡ spec.list_entry (spec.chosen query xy.now kept.now cx cy) i (spec.room m out.old) }
-{
-    if !chosen(query, xy, kept, cx, cy, i) {
-        return m;
+    // Lists all chosen references in their order.
+    fn list(&self, out: &mut [u32]) -> usize
+        requires { self.now.n ≤ length out.old }
+        ensures { spec.Collected (spec.chosen self.now.query self.now.xy.now self.now.kept.now self.now.cx self.now.cy) self.now.n result out.old out.new }
+    {
+        let mut m = 0;
+        // By index: a reference is a place in two slices, and the place is what is listed.
+        for i in 0..self.n {
+            m = self.list_at(i, m, out);
+        }
+        m
     }
-    out[m] = i as u32;
-    m + 1
-}
 
-// Lists all chosen references in their order.
-fn list(query: Query, xy: &[f32], kept: &[u8], cx: f64, cy: f64, n: usize, out: &mut [u32]) -> usize
-    requires { (2 * n ≤ length xy.now) × (n ≤ length kept.now) × (n ≤ length out.old) × (n ≤ 16384) }
-    ensures { spec.Collected (spec.chosen query xy.now kept.now cx cy) n result out.old out.new }
-{
-    let mut m = 0;
-    for i in 0..n {
-        m = list_at(query, xy, kept, cx, cy, i, m, out);
+    // Lists all chosen references, the nearest first.
+    fn list_all(&self, out: &mut [u32]) -> usize
+        requires { self.now.n ≤ length out.old }
+        ensures all { spec.All (spec.before self.now.xy.now self.now.cx self.now.cy) (spec.chosen self.now.query self.now.xy.now self.now.kept.now self.now.cx self.now.cy) self.now.n result out.new }
+        ensures upper_bound { (result ≤ self.now.n) × spec.Rest result out.old out.new }
+    {
+        let m = self.list(out);
+        self.sort(m, out);
+        m
     }
-    m
-}
 
-// Lists all chosen references, the nearest first.
-fn list_all(
-    query: Query,
-    xy: &[f32],
-    kept: &[u8],
-    cx: f64,
-    cy: f64,
-    n: usize,
-    out: &mut [u32],
-) -> usize
-    requires { (2 * n ≤ length xy.now) × (n ≤ length kept.now) × (n ≤ length out.old) × (n ≤ 16384) × order.Strict (spec.before xy.now cx cy) n }
-    ensures all { spec.All (spec.before xy.now cx cy) (spec.chosen query xy.now kept.now cx cy) n result out.new }
-    ensures upper_bound { (result ≤ n) × spec.Rest result out.old out.new }
-{
-    let m = list(query, xy, kept, cx, cy, n, out);
-    sort(xy, cx, cy, n, m, out);
-    m
-}
-
-// Puts reference i at place k, and moves it to where it belongs among the first k + 1.
-fn put(xy: &[f32], cx: f64, cy: f64, n: usize, i: usize, k: usize, out: &mut [u32])
-    requires { (2 * n ≤ length xy.now) × (n ≤ 16384) × (i < n) × (k < length out.old) × order.Places n k out.old }
-    ensures { order.Sifted (spec.before xy.now cx cy) n 1 k (order.placed k i out.old) out.new }
-{
-    out[k] = i as u32;
-    sift(xy, cx, cy, n, 1, k, out);
-}
-
-// Offers reference i to the first three, m of which are there.
-fn offer(
-    query: Query,
-    xy: &[f32],
-    kept: &[u8],
-    cx: f64,
-    cy: f64,
-    n: usize,
-    i: usize,
-    m: usize,
-    out: &mut [u32],
-) -> usize
-    requires { (2 * n ≤ length xy.now) × (n ≤ length kept.now) × (n ≤ length out.old) × (n ≤ 16384) × (i < n) × (m ≤ i) × order.Places n m out.old }
-    ensures { spec.Offered (spec.before xy.now cx cy) (spec.chosen query xy.now kept.now cx cy) n i m out.old result out.new }
-{
-    if !chosen(query, xy, kept, cx, cy, i) {
-        return m;
+    // Puts reference i at place k, and moves it to where it belongs among the first k + 1.
+    fn put(&self, i: usize, k: usize, out: &mut [u32])
+        requires { (i < self.now.n) × (k < length out.old) × order.Places self.now.n k out.old }
+        ensures { order.Sifted (spec.before self.now.xy.now self.now.cx self.now.cy) self.now.n 1 k (order.placed k i out.old) out.new }
+    {
+        out[k] = i as u32;
+        self.sift(1, k, out);
     }
-    if m < 3 {
-        put(xy, cx, cy, n, i, m, out);
-        return m + 1;
-    }
-    if !before(xy, cx, cy, i, wide(out[2])) {
-        return m;
-    }
-    put(xy, cx, cy, n, i, 2, out);
-    m
-}
 
-// Lists the first three of the chosen references, all if fewer, the nearest first.
-fn nearest(
-    query: Query,
-    xy: &[f32],
-    kept: &[u8],
-    cx: f64,
-    cy: f64,
-    n: usize,
-    out: &mut [u32],
-) -> usize
-    requires { (2 * n ≤ length xy.now) × (n ≤ length kept.now) × (n ≤ length out.old) × (n ≤ 16384) × order.Strict (spec.before xy.now cx cy) n }
-    ensures first_three { spec.FirstThree (spec.before xy.now cx cy) (spec.chosen query xy.now kept.now cx cy) n result out.new }
-    ensures upper_bound { (result ≤ n) × spec.Rest result out.old out.new }
-{
-    let mut m = 0;
-    for i in 0..n {
-        m = offer(query, xy, kept, cx, cy, n, i, m, out);
+    // Offers reference i to the first three, m of which are there.
+    fn offer(&self, i: usize, m: usize, out: &mut [u32]) -> usize
+        requires { (self.now.n ≤ length out.old) × (i < self.now.n) × (m ≤ i) × order.Places self.now.n m out.old }
+        ensures { spec.Offered (spec.before self.now.xy.now self.now.cx self.now.cy) (spec.chosen self.now.query self.now.xy.now self.now.kept.now self.now.cx self.now.cy) self.now.n i m out.old result out.new }
+    {
+        if !self.chosen(i) {
+            return m;
+        }
+        if m < 3 {
+            self.put(i, m, out);
+            return m + 1;
+        }
+        if !self.before(i, wide(out[2])) {
+            return m;
+        }
+        self.put(i, 2, out);
+        m
     }
-    m
-}
 
-// Lists what the query asks for.
-fn find(query: Query, xy: &[f32], kept: &[u8], cx: f64, cy: f64, n: usize, out: &mut [u32]) -> usize
-    requires { (2 * n ≤ length xy.now) × (n ≤ length kept.now) × (n ≤ length out.old) × (n ≤ 16384) × order.Strict (spec.before xy.now cx cy) n }
-    ensures promised { spec.IsPromised query (spec.before xy.now cx cy) (spec.chosen query xy.now kept.now cx cy) n result out.new }
-    ensures upper_bound { (result ≤ n) × spec.Rest result out.old out.new }
-{
-    match query {
-        Query::Nearest => nearest(query, xy, kept, cx, cy, n, out),
-        Query::Within(_radius) => list_all(query, xy, kept, cx, cy, n, out),
-        Query::CutOff(_column) => list_all(query, xy, kept, cx, cy, n, out),
+    // Lists the first three of the chosen references, all if fewer, the nearest first.
+    fn nearest(&self, out: &mut [u32]) -> usize
+        requires { self.now.n ≤ length out.old }
+        ensures first_three { spec.FirstThree (spec.before self.now.xy.now self.now.cx self.now.cy) (spec.chosen self.now.query self.now.xy.now self.now.kept.now self.now.cx self.now.cy) self.now.n result out.new }
+        ensures upper_bound { (result ≤ self.now.n) × spec.Rest result out.old out.new }
+    {
+        let mut m = 0;
+        // By index: a reference is a place in two slices, and the place is what is listed.
+        for i in 0..self.n {
+            m = self.offer(i, m, out);
+        }
+        m
+    }
+
+    // Lists what the query asks for.
+    fn find(&self, out: &mut [u32]) -> usize
+        requires { self.now.n ≤ length out.old }
+        ensures promised { spec.IsPromised self.now.query (spec.before self.now.xy.now self.now.cx self.now.cy) (spec.chosen self.now.query self.now.xy.now self.now.kept.now self.now.cx self.now.cy) self.now.n result out.new }
+        ensures upper_bound { (result ≤ self.now.n) × spec.Rest result out.old out.new }
+    {
+        match self.query {
+            Query::Nearest => self.nearest(out),
+            Query::Within(_) => self.list_all(out),
+            Query::CutOff(_) => self.list_all(out),
+        }
     }
 }
 
 // ---- the refusals
 
 // Sentence 5: an odd number of floats, or fewer marks or places than references.
+#[tactic(auto, unfolding(crate::specs::Near::short))]
 fn short(floats: usize, marks: usize, places: usize) -> bool
     ensures { result ≡ spec.short floats marks places }
 {
-    if floats % 2 != 0 {
-        return true;
-    }
-    if marks < floats / 2 {
-        return true;
-    }
-    places < floats / 2
+    floats % 2 != 0 || marks < floats / 2 || places < floats / 2
 }
 
-// Reference i is misplaced.
-fn misplaced(side: usize, xy: &[f32], i: usize) -> bool
-    requires { (side ≤ 1024) × (2 * i + 2 ≤ length xy.now) }
-    ensures { result ≡ spec.misplaced_at side xy.now i }
-{
-    if references::bad_position(side, xy[2 * i]) {
-        return true;
-    }
-    references::bad_position(side, xy[2 * i + 1])
+// The ring of a card of at most 1,024 modules a side, in which the module and the column stand.
+#[derive(Clone, Copy, Debug)]
+struct Ring {
+    side: usize,
+    ghost most: { side ≤ 1024 },
 }
 
-// One of n references is misplaced.
-fn bad_positions(side: usize, xy: &[f32], n: usize) -> bool
-    requires { (side ≤ 1024) × (2 * n ≤ length xy.now) }
-    ensures { result ≡ spec.bad_positions side xy.now n }
-{
-    for i in 0..n {
-        if misplaced(side, xy, i) {
-            return true;
+impl Ring {
+    // Reference i is misplaced.
+    #[tactic(auto, unfolding(crate::specs::Near::misplaced_at))]
+    fn misplaced(self, xy: &[f32], i: usize) -> bool
+        requires { 2 * i + 2 ≤ length xy.now }
+        ensures { result ≡ spec.misplaced_at self.side xy.now i }
+    {
+        references::bad_position(self.side, xy[2 * i])
+            || references::bad_position(self.side, xy[2 * i + 1])
+    }
+
+    // One of n references is misplaced.
+    fn bad_positions(self, xy: &[f32], n: usize) -> bool
+        requires { 2 * n ≤ length xy.now }
+        ensures { result ≡ spec.bad_positions self.side xy.now n }
+    {
+        (0..n).any(|i| self.misplaced(xy, i))
+    }
+
+    // The query's column, where it has one, is outside the ring.
+    #[tactic(auto, unfolding(crate::specs::Near::bad_column))]
+    fn bad_column(self, query: Query) -> bool
+        ensures { result ≡ spec.bad_column self.side query }
+    {
+        match query {
+            Query::Nearest => false,
+            Query::Within(_) => false,
+            Query::CutOff(column) => places::outside_ring(self.side, column),
         }
     }
-    false
-}
 
-// The query's column, where it has one, is outside the ring.
-fn bad_column(side: usize, query: Query) -> bool
-    requires { side ≤ 1024 }
-    ensures { result ≡ spec.bad_column side query }
-{
-    match query {
-        Query::Nearest => false,
-        Query::Within(_radius) => false,
-        Query::CutOff(column) => places::outside_ring(side, column),
+    // The module at (x, y), or the query's column, is outside the ring.
+    #[tactic(auto, unfolding(crate::specs::Near::bad_module))]
+    fn bad_module(self, x: i32, y: i32, query: Query) -> bool
+        ensures { result ≡ spec.bad_module self.side x y query }
+    {
+        places::outside_ring(self.side, x)
+            || places::outside_ring(self.side, y)
+            || self.bad_column(query)
     }
-}
 
-// The module at (x, y), or the query's column, is outside the ring.
-fn bad_module(side: usize, x: i32, y: i32, query: Query) -> bool
-    requires { side ≤ 1024 }
-    ensures { result ≡ spec.bad_module side x y query }
-{
-    if places::outside_ring(side, x) {
-        return true;
+    // Sentence 7: a reference is misplaced, or the module or the column is outside the ring.
+    #[tactic(auto, unfolding(crate::specs::Near::bad_places))]
+    fn bad_places(self, xy: &[f32], n: usize, x: i32, y: i32, query: Query) -> bool
+        requires { 2 * n ≤ length xy.now }
+        ensures { result ≡ spec.bad_places self.side xy.now n x y query }
+    {
+        self.bad_positions(xy, n) || self.bad_module(x, y, query)
     }
-    if places::outside_ring(side, y) {
-        return true;
-    }
-    bad_column(side, query)
-}
-
-// Sentence 7: a reference is misplaced, or the module or the column is outside the ring.
-fn bad_places(side: usize, xy: &[f32], n: usize, x: i32, y: i32, query: Query) -> bool
-    requires { (side ≤ 1024) × (2 * n ≤ length xy.now) }
-    ensures { result ≡ spec.bad_places side xy.now n x y query }
-{
-    if bad_positions(side, xy, n) {
-        return true;
-    }
-    bad_module(side, x, y, query)
 }
 
 // A radius is negative or not finite.
 fn wild_radius(r: f32) -> bool
     ensures { result ≡ spec.wild_radius r }
 {
-    if 0.0 <= r {
-        return !(r < 1.0f32 / 0.0f32);
-    }
-    true
+    !((0.0 <= r) & (r < f32::INFINITY))
 }
 
 // Sentence 15: the query's radius, where it has one, is negative or not finite.
+#[tactic(auto, unfolding(crate::specs::Near::bad_radius))]
 fn bad_radius(query: Query) -> bool
     ensures { result ≡ spec.bad_radius query }
 {
     match query {
         Query::Nearest => false,
         Query::Within(radius) => wild_radius(radius),
-        Query::CutOff(_column) => false,
+        Query::CutOff(_) => false,
     }
 }
 
 // Refuses by the first sentence that holds.
+#[tactic(auto, unfolding(sentences::specs::Sentences::refusal, crate::specs::Near::sentences_of))]
 fn check(
     xy: &[f32],
     kept: &[u8],
@@ -433,7 +395,8 @@ fn check(
     if references::too_many(xy.len() / 2) {
         return Err(Refusal::Count);
     }
-    if bad_places(side, xy, xy.len() / 2, x, y, query) {
+    let ring = Ring { side };
+    if ring.bad_places(xy, xy.len() / 2, x, y, query) {
         return Err(Refusal::Place);
     }
     if bad_radius(query) {
@@ -459,6 +422,14 @@ pub fn near(
     ensures found { (said result).number ≡ 0 → spec.Found (spec.request xy.now kept.now side x y query out.old) out.new }
 {
     check(xy, kept, side, x, y, query, out)?;
-    let count = find(query, xy, kept, centre(x), centre(y), xy.len() / 2, out);
+    let search = Search {
+        query,
+        xy,
+        kept,
+        n: xy.len() / 2,
+        cx: centre(x),
+        cy: centre(y),
+    };
+    let count = search.find(out);
     Ok(count)
 }

@@ -28,9 +28,14 @@ returns-in_err-check c =
       found = λ e. absurd (not_given _ _ c.from_residual.ensures e);
     }
 
+pub invariant_of-search : goal.invariant_of-search
+invariant_of-search c =
+    let r = ready _ _ _ _ _ _ _ c.ranges.x c.ranges.y c.in_ok-check.ensures _ _ c.centre.ensures c.centre-2.ensures (λ i. c.type_inv.xy i) in
+    record { placed = r.0; marked = r.1; few = r.3; strict = r.4 }
+
 pub find-count-requires : goal.find-count-requires
 find-count-requires c =
-    ready _ _ _ _ _ _ _ c.ranges.x c.ranges.y c.in_ok-check.ensures _ _ c.centre.ensures c.centre-2.ensures (λ i. c.type_inv.xy i)
+    (ready _ _ _ _ _ _ _ c.ranges.x c.ranges.y c.in_ok-check.ensures _ _ c.centre.ensures c.centre-2.ensures (λ i. c.type_inv.xy i)).2
 
 pub returns : goal.returns
 returns c =

@@ -1,8 +1,8 @@
--- `near::list` meets its contract: after i turns those below i are listed.
+-- `near::Search::list` meets its contract: after i turns those below i are listed.
 -- Assumes nothing.
 use native.Mathlib.Omega.{arith}
 use Rattle.near.proofs.Listing.{collect_starts, collect_goes, collect_ends}
-use Rattle.near.proofs.list.Goals as goal
+use Rattle.near.proofs.Search.list.Goals as goal
 
 pub loop-i-init : goal.loop-i-init
 loop-i-init c = (omega arith, collect_starts _)
@@ -11,15 +11,12 @@ pub list_at-m-requires : goal.list_at-m-requires
 list_at-m-requires c =
     let s = c.requires in
     let w = c.loop-i.invariant.1 in
-    (omega arith, omega arith, omega (arith, w.under, w.rest.long), omega arith)
+    (omega arith, omega (arith, w.under, w.rest.long))
 
 pub loop-i-preserved : goal.loop-i-preserved
 loop-i-preserved c =
     let w = c.loop-i.invariant.1 in
     (omega arith, collect_goes w (omega (arith, w.under, w.rest.long)) c.list_at-m.ensures)
-
-pub shape_of-out : goal.shape_of-out
-shape_of-out c = c.loop-i.invariant.1.rest.long
 
 pub returns : goal.returns
 returns c = collect_ends c.loop-i.invariant.1 (omega arith)

@@ -1,11 +1,11 @@
--- `near::list` meets its contract: after i turns those below i are listed.
+-- `near::Search::list` meets its contract: after i turns those below i are listed.
 -- Assumes nothing.
 use Prim.Native.Nat.{◌-◌, ◌≤◌}
 use Rattle.near.specs.Near.{chosen, Collected}
-use Rattle.near.proofs.list.Given as goal
+use Rattle.near.proofs.Search.list.Given as goal
 
 abbrev pub invariant-loop-i : goal.invariant-loop-i
-invariant-loop-i l = (l.i ≤ l.n) × Collected (chosen l.query l.xy l.kept l.cx l.cy) l.i l.m l.initial.out l.out
+invariant-loop-i l = (l.i ≤ l.self.n) × Collected (chosen l.self.query l.self.xy.now l.self.kept.now l.self.cx l.self.cy) l.i l.m l.initial.out l.out
 
 abbrev pub decreases-loop-i : goal.decreases-loop-i
-decreases-loop-i l = l.n - l.i
+decreases-loop-i l = l.self.n - l.i

@@ -1,9 +1,9 @@
--- `near::offer` meets its contract: one case for each way out.
+-- `near::Search::offer` meets its contract: one case for each way out.
 -- Assumes nothing.
 use mathlib.Core.Path.{refl, sym, ap, ◌∙◌}
 use native.Mathlib.Omega.{arith}
 use Rattle.near.specs.Near.{before, passed, added, last, instead}
-use Rattle.near.proofs.offer.Goals as goal
+use Rattle.near.proofs.Search.offer.Goals as goal
 
 pub returns-then-not-chosen : goal.returns-then-not-chosen
 returns-then-not-chosen c = passed (sym c.chosen.ensures ∙ c.if-not-chosen.true) refl refl
@@ -11,7 +11,7 @@ returns-then-not-chosen c = passed (sym c.chosen.ensures ∙ c.if-not-chosen.tru
 pub put-requires : goal.put-requires
 put-requires c =
     let s = c.requires in
-    (s.0, s.3, s.4, omega arith, s.6)
+    (s.1, omega arith, s.3)
 
 pub returns-then-m-lt3 : goal.returns-then-m-lt3
 returns-then-m-lt3 c =
@@ -20,8 +20,8 @@ returns-then-m-lt3 c =
 pub before-requires : goal.before-requires
 before-requires c =
     let s = c.requires in
-    let w = s.6.below 2 (omega arith) in
-    (omega arith, omega (arith, c.wide.ensures))
+    let w = s.3.below 2 (omega arith) in
+    (s.1, omega (arith, c.wide.ensures))
 
 pub returns-then-not-before : goal.returns-then-not-before
 returns-then-not-before c =
@@ -31,7 +31,7 @@ returns-then-not-before c =
 pub put-requires-2 : goal.put-requires-2
 put-requires-2 c =
     let s = c.requires in
-    (s.0, s.3, s.4, omega arith, record { below = λ j h. s.6.below j (omega arith) })
+    (s.1, omega arith, record { below = λ j h. s.3.below j (omega arith) })
 
 pub returns : goal.returns
 returns c =

@@ -1,10 +1,9 @@
--- `near::sort` meets its contract: every pass leaves the same places, and the last one sorts them.
+-- `near::Search::sort` meets its contract: every pass leaves the same places, and the last one sorts them.
 -- Assumes nothing.
-use mathlib.Core.Path.{◌∙◌}
 use native.Mathlib.Omega.{arith}
 use Rattle.near.proofs.Mixing.{same, then, places_in}
 use Rattle.near.proofs.Sifting.{pass_last}
-use Rattle.near.proofs.sort.Goals as goal
+use Rattle.near.proofs.Search.sort.Goals as goal
 
 pub loop-gap-init : goal.loop-gap-init
 loop-gap-init c = same _ _
@@ -13,7 +12,7 @@ pub pass-requires : goal.pass-requires
 pass-requires c =
     let s = c.requires in
     let w = c.loop-gap.invariant in
-    (s.0, omega arith, omega (arith, w.long), places_in w s.2)
+    (omega arith, omega (arith, w.long), places_in w s.1)
 
 pub loop-gap-preserved : goal.loop-gap-preserved
 loop-gap-preserved c = then c.loop-gap.invariant c.pass.ensures.mixed
@@ -22,10 +21,7 @@ pub pass-requires-2 : goal.pass-requires-2
 pass-requires-2 c =
     let s = c.requires in
     let w = c.loop-gap.invariant in
-    (s.0, omega arith, omega (arith, w.long), places_in w s.2)
-
-pub shape_of-out : goal.shape_of-out
-shape_of-out c = c.pass-2.ensures.mixed.long ∙ c.loop-gap.invariant.long
+    (omega arith, omega (arith, w.long), places_in w s.1)
 
 pub returns : goal.returns
 returns c = pass_last c.loop-gap.invariant c.pass-2.ensures
