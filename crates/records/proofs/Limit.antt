@@ -2,7 +2,7 @@
 use mathlib.Core.Path.{◌≡◌, refl, sym, ap, ◌∙◌}
 use mathlib.Core.Bool.{Bool, true, false, not, cond, ◌||◌}
 use mathlib.Core.List.{List, [], ◌∷◌, ◌++◌}
-use Prim.Native.Nat.{ℕ, zero, suc, ◌*◌, ◌/◌, ◌%◌, ◌^◌, ◌<◌, ◌≤◌}
+use Prim.Native.Nat.{ℕ, zero, suc, ◌*◌, ◌/◌, ◌%◌, ◌<◌, ◌≤◌}
 use native.Mathlib.Omega.{arith}
 use borrow.Author.Tests.{le-ltb}
 use lib.Dec.{eqb}
@@ -21,7 +21,7 @@ use Rattle.measure.specs.Measure as measuring
 use Rattle.measure.specs.Measure.{measure_of, sentences_for, too_short}
 use Rattle.records.specs.declared.Reference.{Reference}
 use Rattle.records.specs.Records.{flattened, copied}
-use Rattle.records.proofs.Flattened.{as_many, none-cut}
+use Rattle.records.proofs.Flattened.{as_many, none-cut, flattened-length}
 
 -- ---- how many are copied
 
@@ -41,21 +41,16 @@ pub copied-few : (n : ℕ) → copied n ≤ 16384
 unfolding copied
 copied-few n = few (too_many n) n (few_in n)
 
-module _ (n m : ℕ) (flat : List Float) (e : m ≡ copied n) (l : length flat ≡ 131072) where
-  pub room : 8 * m ≤ length flat
-  room = omega (arith, copied-few n)
+-- the records that are copied fit in the array
+pub room : (n m : ℕ) → m ≡ copied n → (m ≤ n) × (8 * m ≤ 131072)
+room n m e = (omega (arith, copied-most n), omega (arith, copied-few n))
 
-  pub lent : 8 * m ≡ length (take (8 * m) flat)
-  lent = sym (length-take-le (8 * m) flat room)
-
-  pub all_lent : n ≤ 16384 → 8 * n ≤ length (take (8 * m) flat)
-  unfolding copied too_many
-  all_lent h =
-      let q : m ≡ n = e ∙ rw (le-ltb 16384 n h) in
-      omega (arith, lent)
-
-pub eight-fit : (n m : ℕ) → m ≡ copied n → 8 * m < 2 ^ 64
-eight-fit n m e = omega (arith, copied-few n)
+-- all are copied where there are not too many
+pub all_lent : (ps : List Reference) (zs : List Float) → zs ≡ flattened (take (copied (length ps)) ps) → length ps ≤ 16384 → 8 * length ps ≤ length zs
+unfolding copied too_many
+all_lent ps zs e h =
+    let q : copied (length ps) ≡ length ps = rw (le-ltb 16384 (length ps) h) in
+    omega (arith, ap length e, flattened-length (take (copied (length ps)) ps), length-take-le (copied (length ps)) ps (copied-most (length ps)))
 
 -- ---- a sentence that holds
 
@@ -79,22 +74,22 @@ module _ {A : Type 0} (refused : ℕ → A) (x y : A) where
   early [] more other (suc n) p h = refl
   early (s ∷ ss) more other n p h = one s.holds s.number _ _ p.0 (early ss more other n p.1 h)
 
--- ---- the floats that are handed on, zs being the array and ps the records
+-- ---- the floats zs that are handed on, ps being the records
 
-module _ (ps : List Reference) (zs : List Float) (laid : take (8 * copied (length ps)) zs ≡ flattened (take (copied (length ps)) ps)) where
+module _ (ps : List Reference) (zs : List Float) (laid : zs ≡ flattened (take (copied (length ps)) ps)) where
   all_copied : too_many (length ps) ≡ false → copied (length ps) ≡ length ps
   unfolding copied
   all_copied h = rw h
 
-  all_laid : too_many (length ps) ≡ false → take (8 * copied (length ps)) zs ≡ flattened ps
+  all_laid : too_many (length ps) ≡ false → zs ≡ flattened ps
   all_laid h = laid ∙ ap flattened (take_all (copied (length ps)) ps (omega (arith, all_copied h)))
 
   -- f does not look at the floats of too many records
-  same : {X : Type 0} (f : List Float → X) → (too_many (length ps) ≡ true → (a b : List Float) → f a ≡ f b) → f (take (8 * copied (length ps)) zs) ≡ f (flattened ps)
+  same : {X : Type 0} (f : List Float → X) → (too_many (length ps) ≡ true → (a b : List Float) → f a ≡ f b) → f (zs) ≡ f (flattened ps)
   same {X} f unread = either (too_many (length ps)) refl
     where
-      either : (b : Bool) → too_many (length ps) ≡ b → f (take (8 * copied (length ps)) zs) ≡ f (flattened ps)
-      either true h = unread h (take (8 * copied (length ps)) zs) (flattened ps)
+      either : (b : Bool) → too_many (length ps) ≡ b → f (zs) ≡ f (flattened ps)
+      either true h = unread h (zs) (flattened ps)
       either false h = ap f (all_laid h)
 
 as_flat : {X : Type 0} (ps : List Reference) (f : Bool → ℕ → X) → f false (length ps) ≡ f (not (eqb (length (flattened ps) % 8) 0)) (length (flattened ps) / 8)
@@ -113,8 +108,8 @@ module _ (n side version : ℕ) (kept : List ℕ) (scratch : List Float) where
       (early (fitting.turned_away (to_fit a)) (fitting.done (to_fit a)) (fitting.done (to_fit b)) ((2 when bad_side side) ∷ (5 when (false || short (length kept) (length scratch) n)) ∷ [])
       ((7 when bad_positions side a n) ∷ (8 when bad_colours a n) ∷ []) ((7 when bad_positions side b n) ∷ (8 when bad_colours b n) ∷ []) 6 (omega arith, (omega arith, tt)) (omega arith))
 
-module _ (ps : List Reference) (zs : List Float) (laid : take (8 * copied (length ps)) zs ≡ flattened (take (copied (length ps)) ps)) where
-  pub fit-laid : (side version : ℕ) (kept : List ℕ) (scratch : List Float) → fit_of (fitting.request (take (8 * copied (length ps)) zs) false (length ps) side version kept scratch) ≡ fit_of (fitting.flat_request (flattened ps) side version kept scratch)
+module _ (ps : List Reference) (zs : List Float) (laid : zs ≡ flattened (take (copied (length ps)) ps)) where
+  pub fit-laid : (side version : ℕ) (kept : List ℕ) (scratch : List Float) → fit_of (fitting.request (zs) false (length ps) side version kept scratch) ≡ fit_of (fitting.flat_request (flattened ps) side version kept scratch)
   fit-laid side version kept scratch =
       same ps zs laid (λ (fl : List Float). fit_of (fitting.request fl false (length ps) side version kept scratch)) (fit-unread (length ps) side version kept scratch)
       ∙ as_flat ps (λ (cut : Bool) (n : ℕ). fit_of (fitting.request (flattened ps) cut n side version kept scratch))
@@ -141,9 +136,9 @@ module _ (n side : ℕ) (model : IlluminationModel) (palette : List Float) (hues
       ((2 when bad_side side) ∷ (3 when bad_hues hues) ∷ (5 when too_short false palette hues (length scratch) n) ∷ []) (later a) (later b) 6
       (omega arith, (omega arith, (omega arith, tt))) (omega arith))
 
-module _ (ps : List Reference) (zs : List Float) (laid : take (8 * copied (length ps)) zs ≡ flattened (take (copied (length ps)) ps)) where
+module _ (ps : List Reference) (zs : List Float) (laid : zs ≡ flattened (take (copied (length ps)) ps)) where
   pub measure_laid : (side : ℕ) (model : IlluminationModel) (palette : List Float) (hues : ℕ) (scratch : List Float)
-      → measure_of (measuring.request (take (8 * copied (length ps)) zs) false (length ps) side model palette hues scratch) ≡ measure_of (measuring.flat_request (flattened ps) side model palette hues scratch)
+      → measure_of (measuring.request (zs) false (length ps) side model palette hues scratch) ≡ measure_of (measuring.flat_request (flattened ps) side model palette hues scratch)
   measure_laid side model palette hues scratch =
       same ps zs laid (λ (fl : List Float). measure_of (measuring.request fl false (length ps) side model palette hues scratch)) (measure_unread (length ps) side model palette hues scratch)
       ∙ as_flat ps (λ (cut : Bool) (n : ℕ). measure_of (measuring.request (flattened ps) cut n side model palette hues scratch))

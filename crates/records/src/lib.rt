@@ -22,7 +22,7 @@ use measure::Measurement;
 
 // A reference of known colour: its position in modules, the colour that was observed there, and the colour that was drawn.
 #[repr(C)]
-#[derive(Clone, Copy)]
+#[derive(Clone, Copy, Debug)]
 pub struct Reference {
     pub x: f32,
     pub y: f32,
@@ -50,13 +50,11 @@ fn put(flat: &mut [f32], i: usize, r: Reference)
 }
 
 // How many of n records are copied: none where there are more than 16,384, since the call is refused then.
+#[tactic(auto, unfolding(crate::specs::Records::copied))]
 fn copied(n: usize) -> usize
     ensures { result ≡ spec.copied n }
 {
-    if references::too_many(n) {
-        return 0;
-    }
-    n
+    if references::too_many(n) { 0 } else { n }
 }
 
 // Copies the first m records.
@@ -69,40 +67,16 @@ fn gather(refs: &[Reference], m: usize, flat: &mut [f32])
     }
 }
 
+// The floats of the records that are copied, at the start of the array.
+fn flatten<'a>(refs: &[Reference], flat: &'a mut [f32; 131072]) -> &'a [f32]
+    ensures { result.now ≡ spec.flattened (take (spec.copied (length refs.now)) refs.now) }
+{
+    let m = copied(refs.len());
+    gather(refs, m, flat);
+    &flat[..8 * m]
+}
+
 // ---- the calls
-
-// `fit` of n references, of which those that are copied stand at the start of flat.
-fn fit_copied(
-    flat: &mut [f32],
-    n: usize,
-    side: usize,
-    version: u8,
-    kept: &mut [u8],
-    scratch: &mut [f32],
-) -> Result<IlluminationModel, Refusal>
-    requires { length flat.old ≡ 131072 }
-    ensures { fitting.final (model_said result) kept.new scratch.new ≡ fitting.fit_of (fitting.request (take (8 * spec.copied n) flat.old) false n side version kept.old scratch.old) }
-{
-    let m = copied(n);
-    fit::fit_counted(&flat[..8 * m], n, side, version, kept, scratch)
-}
-
-// `measure` of n references, of which those that are copied stand at the start of flat.
-fn measure_copied(
-    flat: &mut [f32],
-    n: usize,
-    side: usize,
-    model: IlluminationModel,
-    palette: &[f32],
-    hues: usize,
-    scratch: &mut [f32],
-) -> Result<Measurement, Refusal>
-    requires { length flat.old ≡ 131072 }
-    ensures { measuring.final (said result) scratch.new ≡ measuring.measure_of (measuring.request (take (8 * spec.copied n) flat.old) false n side model palette.now hues scratch.old) }
-{
-    let m = copied(n);
-    measure::measure_counted(&flat[..8 * m], n, side, model, palette, hues, scratch)
-}
 
 // Fits the model to references for a card of this side and version, and marks those that were kept: what `fit::fit_flat` gives of
 // the same floats. Kept has a byte a reference. Scratch of 4 × references is all zero afterwards. The tails of both stay. Refused by
@@ -116,11 +90,9 @@ pub fn fit(
 ) -> Result<IlluminationModel, Refusal>
     ensures { fitting.final (model_said result) kept.new scratch.new ≡ fitting.fit_of (fitting.flat_request (spec.flattened refs.now) side version kept.old scratch.old) }
 {
-    let n = refs.len();
-    let m = copied(n);
     let mut flat = [0.0f32; 131072];
-    gather(refs, m, &mut flat);
-    fit_copied(&mut flat, n, side, version, kept, scratch)
+    let floats = flatten(refs, &mut flat);
+    fit::fit_counted(floats, refs.len(), side, version, kept, scratch)
 }
 
 // Measures the noise record from references, for a card of this side, corrected by the model, and counts those that have a mark:
@@ -136,9 +108,7 @@ pub fn measure(
 ) -> Result<Measurement, Refusal>
     ensures { measuring.final (said result) scratch.new ≡ measuring.measure_of (measuring.flat_request (spec.flattened refs.now) side model palette.now hues scratch.old) }
 {
-    let n = refs.len();
-    let m = copied(n);
     let mut flat = [0.0f32; 131072];
-    gather(refs, m, &mut flat);
-    measure_copied(&mut flat, n, side, model, palette, hues, scratch)
+    let floats = flatten(refs, &mut flat);
+    measure::measure_counted(floats, refs.len(), side, model, palette, hues, scratch)
 }

@@ -1,16 +1,10 @@
 -- `records::fit` meets its contract: what was copied is fitted, and that is the fit of all. Assumes nothing.
-use Rattle.std.proofs.Common.{◌≡◌, ℕ, ◌*◌, take, length, subst, ◌∙◌, arith}
-use Rattle.records.specs.Records.{flattened}
-use Rattle.records.proofs.Limit.{copied-most, copied-few, fit-laid}
+use Rattle.std.proofs.Common.{◌∙◌}
+use Rattle.records.proofs.Limit.{all_lent, fit-laid}
 use Rattle.records.proofs.fit.Goals as goal
 
-pub gather-requires : goal.gather-requires
-gather-requires c =
-    let n = length c.args.refs.now in
-    (omega (arith, copied-most n, c.copied-m.ensures), omega (arith, copied-few n, c.copied-m.ensures))
+pub fit_counted-requires : goal.fit_counted-requires
+fit_counted-requires c = all_lent _ _ c.flatten-floats.ensures
 
 pub returns : goal.returns
-returns c =
-    let ps = c.args.refs.now in
-    let laid = subst (λ (m : ℕ). take (8 * m) c.gather.new.flat ≡ flattened (take m ps)) c.copied-m.ensures c.gather.ensures in
-    c.fit_copied.ensures ∙ fit-laid ps c.gather.new.flat laid _ _ _ _
+returns c = c.fit_counted.ensures ∙ fit-laid c.args.refs.now _ c.flatten-floats.ensures _ _ _ _
