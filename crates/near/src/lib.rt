@@ -61,6 +61,8 @@ fn wide(i: u32) -> usize
 
 // What is searched: n references, their positions and marks, as they are seen from the centre (cx, cy). Which of two references comes
 // before the other is a strict order of them.
+// Facts: that a reference or a listed place is below n is asked of an argument, which has no struct; and `out` is the caller's slice, whose
+// rest stays: a struct of it, with the fact that it has n places, would have one field.
 #[derive(Clone, Copy, Debug)]
 struct Search<'a> {
     query: Query,
@@ -190,8 +192,6 @@ impl Search<'_> {
     }
 
     // ---- the lists
-    //
-    // Facts: `out` is the caller's slice, whose rest stays; a struct of it with the fact that it has n places would be of one field.
 
     // Lists reference i at place m, where it is chosen; the places taken after it.
     #[tactic(auto, unfolding(crate::specs::Near::list_entry))]
@@ -259,6 +259,7 @@ impl Search<'_> {
     }
 
     // Lists the first three of the chosen references, all if fewer, the nearest first.
+    // Twin: of `list`, whose turns only add: a walk over both would ask of its step what each of the two promises of a turn.
     fn nearest(&self, out: &mut [u32]) -> usize
         requires { self.now.n ≤ length out.old }
         ensures first_three { spec.FirstThree (spec.before self.now.xy.now self.now.cx self.now.cy) (spec.chosen self.now.query self.now.xy.now self.now.kept.now self.now.cx self.now.cy) self.now.n result out.new }

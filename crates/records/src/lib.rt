@@ -98,6 +98,7 @@ pub fn fit(
 // Measures the noise record from references, for a card of this side, corrected by the model, and counts those that have a mark:
 // what `measure::measure_flat` gives of the same floats. Scratch of 4 × references is all zero afterwards, and its tail stays. Refused by 2, 3, 5 (the
 // palette or scratch too short), 6, 7, 8, 10 and 12; scratch is untouched then.
+// Twin: of `fit`: one over both would take the call as a closure, and no proof knows what that leaves in the slices it holds.
 pub fn measure(
     refs: &[Reference],
     side: usize,
