@@ -4,19 +4,22 @@ use mathlib.Core.Bool.{false}
 use mathlib.Core.List.{List}
 use Prim.Native.Nat.{ℕ, ◌+◌, ◌^◌, ◌≤◌, ◌<◌}
 use native.Mathlib.Omega.{arith}
+use borrow.Author.Rules.{sfits_of}
+use mir.Syntax.{w32}
+use mir.Val.{to_z, of_z}
+use mir.Facts.{to_z-of_z}
 use borrow.Author.Tests.{leb-false, ltb-false}
 use lib.Dec.{T, ltb, le→leb, lt→ltb}
 use lib.IntN.{ℤ, pos, negsuc}
+use lib.Signed.{mag}
 use lib.ListN.{length, get_or}
 use lib.Ieee.{binary32, in_float}
 use Rattle.loops.proofs.Laws.{any_up-false}
 use Rattle.sentences.proofs.Laws.{neither}
 use Rattle.places.specs.Places.{outside, misplaced_at, bad_places}
 use Rattle.places.proofs.Placed.{in_ring}
+use Rattle.layout.specs.Groups.{Positions}
 use Rattle.observed.specs.Colours.{Exact}
-
-pub exact_at : (xs : List ℤ) (m i : ℕ) → Exact xs m → i < m → T (in_float binary32 (get_or xs i (pos 0)))
-exact_at xs m i e h = e.at i h
 
 below : (side n : ℕ) → side ≤ 1024 → n < side + 6 → n ≤ 2 ^ 24
 below side n s h = omega arith
@@ -38,3 +41,19 @@ module _ (side grid : ℕ) (xs ys : List ℤ) (s : side ≤ 1024) (h : bad_place
 
   pub exact_ys : Exact ys (length xs)
   exact_ys = record { at = λ i l. in-float side (get_or ys i (pos 0)) s (in_ring side grid i (get_or xs i (pos 0)) (get_or ys i (pos 0)) (placed i l)).1 }
+
+-- a coordinate that the code reads
+as_read : (v : ℤ) → T (in_float binary32 v) → mag v < 2 ^ 31 → T (in_float binary32 (to_z w32 (of_z w32 v)))
+as_read v t f = rw (to_z-of_z (sfits_of {w = w32} {z = v} f)) t
+
+module _ (side grid : ℕ) (xs ys : List ℤ) (i : ℕ) (p : Positions side grid xs ys) (h : i < length xs) where
+  pub exact_x : mag (get_or xs i (pos 0)) < 2 ^ 31 → T (in_float binary32 (to_z w32 (of_z w32 (get_or xs i (pos 0)))))
+  exact_x f = as_read (get_or xs i (pos 0)) ((exact_xs side grid xs ys p.side-most p.places-good).at i h) f
+
+  pub exact_y : mag (get_or ys i (pos 0)) < 2 ^ 31 → T (in_float binary32 (to_z w32 (of_z w32 (get_or ys i (pos 0)))))
+  exact_y f = as_read (get_or ys i (pos 0)) ((exact_ys side grid xs ys p.side-most p.places-good).at i h) f
+
+-- a cell's size
+pub size_in : (n : ℕ) → n ≤ 16 → T (in_float binary32 (pos n))
+unfolding in_float
+size_in n h = le→leb n (2 ^ 24) (omega arith)

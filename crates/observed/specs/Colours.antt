@@ -43,6 +43,13 @@ module_spot xs ys raw i = record { x = centre (get_or xs i (pos 0)); y = centre 
 unfoldable pub cell_spot : ℕ → List ℕ → List ℕ → List Float → ℕ → Spot
 cell_spot size cxs cys raw i = record { x = cell_centre size (get_or cxs i 0); y = cell_centre size (get_or cys i 0); colour = linear_at raw i }
 
+-- the corrected colour of a spot, and of spot i of those that `spots` gives
+unfoldable pub corrected_spot : IlluminationModel → Spot → Linear
+corrected_spot model s = (corrected model s.x s.y s.colour).colour
+
+unfoldable pub spot_colour : IlluminationModel → (ℕ → Spot) → ℕ → Linear
+spot_colour model spots i = corrected_spot model (spots i)
+
 -- ---- the colours that have a mark: a channel's gain, where they stand, was held
 
 unfoldable pub held_module : IlluminationModel → List ℤ → List ℤ → ℕ → Bool
@@ -50,6 +57,13 @@ held_module model xs ys i = held_at model (centre (get_or xs i (pos 0))) (centre
 
 unfoldable pub held_cell : IlluminationModel → ℕ → List ℕ → List ℕ → ℕ → Bool
 held_cell model size cxs cys i = held_at model (cell_centre size (get_or cxs i 0)) (cell_centre size (get_or cys i 0))
+
+unfoldable pub held_spot : IlluminationModel → (ℕ → Spot) → ℕ → Bool
+held_spot model spots i = held_at model (spots i).x (spots i).y
+
+-- `held` of the spots before `from`, and those of the k spots from there on
+abbrev pub held_from : IlluminationModel → (ℕ → Spot) → ℕ → ℕ → ℕ → ℕ
+held_from model spots from k held = for_up from (from + k) (raise (held_spot model spots)) held
 
 -- how many of the first m modules have one, and of the first c cells
 abbrev pub held_module_count : IlluminationModel → List ℤ → List ℤ → ℕ → ℕ

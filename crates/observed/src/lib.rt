@@ -1,26 +1,128 @@
 // The colours of a card's modules and cells: where each stands, how it was observed, and the colour corrected. `demod`, which
 // scores a card, looks with it for colours that break sentence 12 and then writes the corrected ones, counting those that have a
-// mark.
+// mark. Modules and cells differ in where a colour stands, and in nothing else: both are `Spots`.
 #![tactic(auto)]
 
-ghost use Rattle.std.specs.Prelude.{◌≡◌, ◌+◌, ◌*◌, ◌<◌, ◌≤◌, T, pos, length, get_or};
+ghost use Rattle.std.specs.Prelude.{◌≡◌, ℕ, ◌+◌, ◌*◌, ◌<◌, ◌≤◌, T, length};
 ghost use Rattle.std.specs.Float.{binary32};
 ghost use Rattle.std.specs.Float.Ieee.{in_float};
-ghost use Rattle.color.specs.Palette.{linear_at};
+ghost use Rattle.color.specs.Palette.{wild_linear};
 ghost use Rattle.illum.specs.Correct.{rounded};
+ghost use Rattle.illum.specs.Reach.{Typed, reach_of};
+ghost use Rattle.observed.specs.declared.Spot.{Spot};
 ghost use Rattle.observed.specs.Entries as entry;
-ghost use Rattle.observed.specs.Entries.{Block, onwards};
+ghost use Rattle.observed.specs.Entries.{onwards};
 ghost use Rattle.observed.specs.Colours as spec;
-ghost use Rattle.observed.specs.Ready.{Sampled};
 
+use color::Linear;
 use color::palette::linear_at;
-use color::{Lab, Linear};
-use illum::{IlluminationModel, Unrounded};
+use illum::{IlluminationModel, Span, Unrounded};
+use layout::{Cells, Modules};
 
-// ---- lists of three numbers an entry
+// ---- a colour as it was observed
 
-// Core: writes three numbers at the places of entry i.
-pub fn put_three(l: &mut [f32], i: usize, x: f32, y: f32, z: f32)
+// Where a colour stands, and the colour as it was observed.
+#[derive(Clone, Copy, Debug)]
+pub struct Spot {
+    pub x: f32,
+    pub y: f32,
+    pub colour: Linear,
+}
+
+// Core: colours that were observed, each at its spot.
+pub trait Spots {
+    ghost count: { Self → ℕ };
+    ghost spots: { Self → ℕ → Spot };
+
+    // How many there are.
+    fn len(&self) -> usize
+        ensures { result ≡ count self.now };
+
+    // The spot of colour i.
+    fn spot(&self, i: usize) -> Spot
+        requires { i < count self.now }
+        ensures { result ≡ spots self.now i };
+}
+
+// The centre of a module.
+#[tactic(auto, using(crate::proofs::Literals::half), unfolding(crate::specs::Colours::centre))]
+fn centre(v: i32) -> f32
+    requires { T (in_float binary32 v) }
+    ensures { result ≡ spec.centre v }
+{
+    v as f32 + 0.5
+}
+
+// The centre of a cell of size by size modules.
+#[tactic(auto, using(color::proofs::Numbers::n2, crate::proofs::Places::size_in), unfolding(crate::specs::Colours::cell_centre))]
+fn cell_centre(size: usize, cx: u16) -> f32
+    requires { size ≤ 16 }
+    ensures { result ≡ spec.cell_centre size cx }
+{
+    cx as f32 * size as f32 + size as f32 / 2.0
+}
+
+// A card's modules with their colours, three numbers each, as they were observed.
+#[derive(Clone, Copy, Debug)]
+pub struct SeenModules<'a> {
+    pub modules: Modules<'a>,
+    pub raw: &'a [f32],
+    ghost three: { 3 * length modules.xs.now ≤ length raw.now },
+}
+
+// A module's colour stands at its centre.
+impl Spots for SeenModules<'_> {
+    ghost count = { λ m. length m.modules.xs.now };
+    ghost spots = { λ m. spec.module_spot m.modules.xs.now m.modules.ys.now m.raw.now };
+
+    fn len(&self) -> usize {
+        self.modules.len()
+    }
+
+    #[tactic(auto, using(crate::proofs::Places::exact_x, crate::proofs::Places::exact_y), unfolding(crate::specs::Colours::module_spot))]
+    fn spot(&self, i: usize) -> Spot {
+        Spot {
+            x: centre(self.modules.xs[i]),
+            y: centre(self.modules.ys[i]),
+            colour: linear_at(self.raw, i),
+        }
+    }
+}
+
+// A card's cells of size by size modules with their colours, three numbers each, as they were observed.
+#[derive(Clone, Copy, Debug)]
+pub struct SeenCells<'a> {
+    pub size: usize,
+    pub cells: Cells<'a>,
+    pub raw: &'a [f32],
+    ghost size_most: { size ≤ 16 },
+    ghost most: { length cells.cxs.now ≤ 1048576 },
+    ghost three: { 3 * length cells.cxs.now ≤ length raw.now },
+}
+
+// A cell's colour stands at its centre.
+impl Spots for SeenCells<'_> {
+    ghost count = { λ c. length c.cells.cxs.now };
+    ghost spots = { λ c. spec.cell_spot c.size c.cells.cxs.now c.cells.cys.now c.raw.now };
+
+    fn len(&self) -> usize {
+        self.cells.len()
+    }
+
+    #[tactic(auto, unfolding(crate::specs::Colours::cell_spot))]
+    fn spot(&self, i: usize) -> Spot {
+        Spot {
+            x: cell_centre(self.size, self.cells.cxs[i]),
+            y: cell_centre(self.size, self.cells.cys[i]),
+            colour: linear_at(self.raw, i),
+        }
+    }
+}
+
+// ---- the corrected colours
+
+// Writes three numbers at the places of entry i.
+fn put_three(l: &mut [f32], i: usize, x: f32, y: f32, z: f32)
     requires { 3 * i + 2 < length l.old }
     ensures { l.new ≡ entry.put_three l.old i x y z }
 {
@@ -29,80 +131,8 @@ pub fn put_three(l: &mut [f32], i: usize, x: f32, y: f32, z: f32)
     l[3 * i + 2] = z;
 }
 
-// Core: Lab j of a list that has three numbers for each.
-pub fn lab_at(labs: &[f32], j: usize) -> Lab
-    requires { 3 * j + 2 < length labs.now }
-    ensures { result ≡ entry.lab_at labs.now j }
-{
-    Lab {
-        l: labs[3 * j],
-        a: labs[3 * j + 1],
-        b: labs[3 * j + 2],
-    }
-}
-
-// ---- a colour as it was observed
-
-// The centre of a module.
-fn centre(v: i32) -> f32
-    requires { T (in_float binary32 v) }
-    ensures { result ≡ spec.centre v }
-{
-    v as f32 + 0.5
-}
-
-fn centre_at(vs: &[i32], i: usize) -> f32
-    requires { (i < length vs.now) × T (in_float binary32 (get_or vs.now i (pos 0))) }
-    ensures { result ≡ spec.centre (get_or vs.now i (pos 0)) }
-{
-    centre(vs[i])
-}
-
-// The centre of a cell of size by size modules.
-fn cell_centre(size: usize, cx: u16) -> f32
-    requires { size ≤ 16 }
-    ensures { result ≡ spec.cell_centre size cx }
-{
-    cx as f32 * size as f32 + size as f32 / 2.0
-}
-
-// Where a colour stands, and the colour as it was observed.
-#[derive(Clone, Copy)]
-pub struct Spot {
-    pub x: f32,
-    pub y: f32,
-    pub colour: Linear,
-}
-
-// Module i, observed at its centre.
-fn module_spot(xs: &[i32], ys: &[i32], raw: &[f32], i: usize) -> Spot
-    requires { (i < length xs.now) × (i < length ys.now) × T (in_float binary32 (get_or xs.now i (pos 0))) × T (in_float binary32 (get_or ys.now i (pos 0))) × (3 * i + 2 < length raw.now) }
-    ensures { result ≡ spec.module_spot xs.now ys.now raw.now i }
-{
-    let colour = linear_at(raw, i);
-    Spot {
-        x: centre_at(xs, i),
-        y: centre_at(ys, i),
-        colour,
-    }
-}
-
-// Cell i, observed at its centre.
-fn cell_spot(size: usize, cxs: &[u16], cys: &[u16], raw: &[f32], i: usize) -> Spot
-    requires { (size ≤ 16) × (i < length cxs.now) × (i < length cys.now) × (3 * i + 2 < length raw.now) }
-    ensures { result ≡ spec.cell_spot size cxs.now cys.now raw.now i }
-{
-    let colour = linear_at(raw, i);
-    Spot {
-        x: cell_centre(size, cxs[i]),
-        y: cell_centre(size, cys[i]),
-        colour,
-    }
-}
-
-// ---- the corrected colours
-
 // A corrected colour, rounded to f32, at the places of entry i.
+#[tactic(auto, unfolding(illum::specs::Correct::rounded))]
 fn put_rows(l: &mut [f32], i: usize, v: Unrounded)
     requires { 3 * i + 2 < length l.old }
     ensures { l.new ≡ spec.put_colour l.old i (rounded v) }
@@ -116,93 +146,64 @@ fn put_rows(l: &mut [f32], i: usize, v: Unrounded)
     );
 }
 
-// Core: writes the corrected colour of every module, and says how many of them have a mark. (All colours first and the scores after
-// take less time than both in one loop.)
-pub fn write_colours(
+// Core: writes the corrected colours of the n spots from `from` on to the front of `colours`, three numbers each. `held` of the
+// spots before have a mark; says how many have one with these. (All colours first and the scores after take less time than both in
+// one loop.)
+// By index: a corrected colour is three numbers of a flat list that C lends, and no element of it.
+pub fn correct<S: Spots>(
     model: IlluminationModel,
-    xs: &[i32],
-    ys: &[i32],
-    raw: &[f32],
-    colours: &mut [f32],
-) -> usize
-    requires { Sampled xs.now ys.now raw.now × (3 * length xs.now ≤ length colours.old) }
-    ensures { (colours.new ≡ spec.write_colours (spec.module_colour model xs.now ys.now raw.now) (length xs.now) colours.old) × (result ≡ spec.held_module_count model xs.now ys.now (length xs.now)) }
-{
-    let mut held = 0;
-    for i in 0..xs.len() {
-        let s = module_spot(xs, ys, raw, i);
-        let d = illum::unshade(model, s.x, s.y, s.colour);
-        held = illum::count_held(d, held);
-        put_rows(colours, i, illum::rows(model, d));
-    }
-    held
-}
-
-// Core: corrects the colours of n cells, from cell `from` on, into `room`, three numbers each. `held` of the cells before have a mark;
-// says how many have one with these.
-pub fn correct_cells(
-    model: IlluminationModel,
-    size: usize,
-    cxs: &[u16],
-    cys: &[u16],
-    raw: &[f32],
+    seen: &S,
     from: usize,
     n: usize,
     held: usize,
-    room: &mut [f32],
+    colours: &mut [f32],
 ) -> usize
-    requires { (size ≤ 16) × (held ≤ from) × (from + n ≤ length cxs.now) × (from + n ≤ length cys.now) × (3 * (from + n) ≤ length raw.now) × (3 * n ≤ length room.old) }
-    ensures { Block linear_at (onwards (spec.cell_colour model size cxs.now cys.now raw.now) from) n room.new × (result ≡ spec.held_onwards model size cxs.now cys.now from n held) × (result ≤ from + n) }
+    requires { (held ≤ from) × (from + n ≤ S.count seen.now) × (from + n ≤ 1048576) × (3 * n ≤ length colours.old) }
+    ensures { (colours.new ≡ spec.write_colours (onwards (spec.spot_colour model (S.spots seen.now)) from) n colours.old) × (result ≡ spec.held_from model (S.spots seen.now) from n held) × (result ≤ from + n) }
 {
     let mut k = held;
     for j in 0..n {
-        let s = cell_spot(size, cxs, cys, raw, from + j);
+        let s = seen.spot(from + j);
         let d = illum::unshade(model, s.x, s.y, s.colour);
         k = illum::count_held(d, k);
-        put_rows(room, j, illum::rows(model, d));
+        put_rows(colours, j, illum::rows(model, d));
     }
     k
 }
 
 // ---- sentence 12
 
-// Core: sentence 12, of modules.
-pub fn bad_module_colours(model: IlluminationModel, xs: &[i32], ys: &[i32], raw: &[f32]) -> bool
-    requires { Sampled xs.now ys.now raw.now }
-    ensures { result ≡ spec.wild_colours (spec.module_colour model xs.now ys.now raw.now) (length xs.now) }
-{
-    let reach = illum::reach(model);
-    for i in 0..xs.len() {
-        let s = module_spot(xs, ys, raw, i);
-        if !illum::within(reach, s.x, s.y, s.colour) {
-            let d = illum::unshade(model, s.x, s.y, s.colour);
-            if illum::wild_mix(model, d) {
-                return true;
-            }
-        }
-    }
-    false
+// A model with the positions at which no moderate colour breaks sentence 12.
+#[derive(Clone, Copy)]
+struct Reach {
+    model: IlluminationModel,
+    span: Span,
+    ghost reached: { (span ≡ reach_of model) × Typed model },
 }
 
-// Core: sentence 12, of cells.
-pub fn bad_cell_colours(
-    model: IlluminationModel,
-    size: usize,
-    cxs: &[u16],
-    cys: &[u16],
-    raw: &[f32],
-) -> bool
-    requires { (size ≤ 16) × (length cxs.now ≡ length cys.now) × (3 * length cxs.now ≤ length raw.now) }
-    ensures { result ≡ spec.wild_colours (spec.cell_colour model size cxs.now cys.now raw.now) (length cxs.now) }
+impl Reach {
+    // Sentence 12, of one spot: its corrected colour is wild.
+    #[tactic(auto, using(crate::proofs::Corrected::spot_wild, crate::proofs::Corrected::in_reach_tame))]
+    fn breaks(&self, s: Spot) -> bool
+        ensures { result ≡ wild_linear (spec.corrected_spot self.now.model s) }
+    {
+        !illum::within(self.span, s.x, s.y, s.colour)
+            && illum::wild_mix(self.model, illum::unshade(self.model, s.x, s.y, s.colour))
+    }
+}
+
+// Core: sentence 12: a corrected colour is wild.
+// By index: no list holds spots, and `any` with a test that calls a bound's method has no proof here.
+pub fn any_wild<S: Spots>(model: IlluminationModel, seen: &S) -> bool
+    ensures { result ≡ spec.wild_colours (spec.spot_colour model (S.spots seen.now)) (S.count seen.now) }
 {
-    let reach = illum::reach(model);
-    for i in 0..cxs.len() {
-        let s = cell_spot(size, cxs, cys, raw, i);
-        if !illum::within(reach, s.x, s.y, s.colour) {
-            let d = illum::unshade(model, s.x, s.y, s.colour);
-            if illum::wild_mix(model, d) {
-                return true;
-            }
+    let reach = Reach {
+        model,
+        span: illum::reach(model),
+    };
+    for i in 0..seen.len() {
+        if reach.breaks(seen.spot(i)) {
+            return true;
         }
     }
     false
