@@ -6,7 +6,10 @@ use mathlib.Core.List.{List}
 use Prim.Native.Nat.{ℕ, ◌+◌}
 use lib.IntN.{ℤ}
 use lib.Ieee.{Float}
-use Rattle.loops.specs.Loops.{raise}
+use native.Mathlib.Nat.{zero-add}
+use Rattle.loops.specs.Loops.{for_up, raise}
+use Rattle.loops.proofs.Laws.{for_up_same}
+use Rattle.color.specs.declared.Linear.{Linear}
 use Rattle.color.specs.Palette.{wild_linear}
 use Rattle.illum.specs.declared.IlluminationModel.{IlluminationModel}
 use Rattle.illum.specs.declared.Unshaded.{Unshaded}
@@ -19,7 +22,7 @@ use Rattle.illum.proofs.Marks.{counts-position}
 use Rattle.illum.proofs.Rounded.{rows-mixed}
 use Rattle.observed.specs.declared.Spot.{Spot}
 use Rattle.observed.specs.Entries.{onwards}
-use Rattle.observed.specs.Colours.{module_spot, cell_spot, module_colour, cell_colour, corrected_spot, spot_colour, put_colour, colour_at, held_module, held_cell, held_spot, wild_colour_at}
+use Rattle.observed.specs.Colours.{module_spot, cell_spot, module_colour, cell_colour, corrected_spot, spot_colour, put_colour, colour_at, write_colours, held_module, held_module_count, held_cell, held_spot, held_from, wild_colour_at}
 
 module _ (model : IlluminationModel) (s : Spot) (d : Unshaded) (ed : d ≡ unshaded model s.x s.y s.colour) where
   spot_mixed : (mixed model d).colour ≡ corrected_spot model s
@@ -65,3 +68,15 @@ module _ (model : IlluminationModel) (size : ℕ) (cxs cys : List ℕ) (raw : Li
   pub cells-held : held_spot model (cell_spot size cxs cys raw) ≡ held_cell model size cxs cys
   unfolding held_spot cell_spot held_cell
   cells-held = refl
+
+-- ---- all modules, from the first on
+
+module _ (model : IlluminationModel) (xs ys : List ℤ) (raw : List Float) (m : ℕ) where
+  pub modules_written : (before after : List Float) → after ≡ write_colours (onwards (spot_colour model (module_spot xs ys raw)) 0) m before → after ≡ write_colours (module_colour model xs ys raw) m before
+  unfolding onwards colour_at
+  modules_written before after e =
+      e ∙ for_up_same (colour_at (onwards (spot_colour model (module_spot xs ys raw)) 0)) (colour_at (module_colour model xs ys raw)) m 0 before
+      (λ j l h s. ap (put_colour s j) (ap (spot_colour model (module_spot xs ys raw)) (zero-add j) ∙ ap (λ (f : ℕ → Linear). f j) (module_colours model xs ys raw)))
+
+  pub modules_counted : (r : ℕ) → r ≡ held_from model (module_spot xs ys raw) 0 m 0 → r ≡ held_module_count model xs ys m
+  modules_counted r e = e ∙ ap (λ (f : ℕ → Bool). for_up 0 (0 + m) (raise f) 0) (modules-held model xs ys raw) ∙ ap (λ (k : ℕ). for_up 0 k (raise (held_module model xs ys)) 0) (zero-add m)

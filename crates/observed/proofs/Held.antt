@@ -1,42 +1,48 @@
--- What a block's list holds, entry by entry: a turn that puts entry j leaves the entries before it, so one more is held. Assumes nothing.
-use mathlib.Core.Path.{◌≡◌, ◌∙◌}
+-- What a block's list holds, entry by entry: a list whose first n entries are written holds them, and a list that colours are put into holds these. Assumes nothing.
+use mathlib.Core.Path.{◌≡◌, refl, ◌∙◌}
 use mathlib.Core.Logic.{⊎_elim}
-use mathlib.Core.List.{List}
-use Prim.Native.Nat.{ℕ, ◌+◌, ◌*◌, ◌≤◌, ◌<◌}
+use mathlib.Core.List.{List, ◌++◌}
+use Prim.Native.Nat.{ℕ, suc, ◌+◌, ◌*◌, ◌≤◌, ◌<◌, zero-le}
 use native.Mathlib.Omega.{arith}
 use native.Mathlib.Nat.{eq-or-lt_of_le}
-use lib.ListN.{length, set}
-use lib.Seq.{get_or-set_same, get_or-set_other}
-use lib.Ieee.{Float, nan}
+use lib.ListN.{length, get_or, take, drop, get_or-append}
+use lib.Seq.{length-take-le}
+use lib.Ieee.{Float}
+use Rattle.loops.proofs.Laws.{for_up_to}
 use Rattle.color.specs.declared.Linear.{Linear}
-use Rattle.color.specs.declared.Lab.{Lab}
 use Rattle.color.specs.Palette.{linear_at}
-use Rattle.observed.specs.Entries.{put_three, number_at, lab_at, Block}
-use Rattle.observed.specs.Colours.{put_colour}
-use Rattle.observed.proofs.Threes.{colour-own, colour-other, lab-own, lab-other}
+use Rattle.observed.specs.Entries.{Block}
+use Rattle.observed.specs.Colours.{put_colour, colour_at, write_colours}
+use Rattle.observed.proofs.Threes.{three-long, colour-own, colour-other}
 
-module _ {A : Type 0} (read : List Float → ℕ → A) (f : ℕ → A) where
-  -- nothing yet
-  pub none-held : (room : List Float) → Block read f 0 room
-  none-held room = record { at = λ j h. absurd (omega arith) }
+-- a loop over the first n entries came to their end, and wrote each of them
+pub front_held : {A : Type 0} (d : A) (f : ℕ → A) (n i : ℕ) (l s : List A) → n ≤ length l → length s ≡ length (take n l) → length (take n l) ≤ i → ((j : ℕ) → j < i → get_or s j d ≡ f j) →
+    Block (λ (t : List A) (j : ℕ). get_or t j d) f n (s ++ drop n l)
+front_held d f n i l s h e past done =
+    let r = length-take-le n l h in
+    record { at = λ j q. get_or-append s (drop n l) d j (omega arith) ∙ done j (omega arith) }
 
-  -- one entry more, the others as they were
-  one_held : (j : ℕ) (room after : List Float) → Block read f j room → read after j ≡ f j → ((i : ℕ) → (i ≡ j → ⊥) → read after i ≡ read room i) → Block read f (j + 1) after
-  one_held j room after p e o =
+module _ (colour : ℕ → Linear) (l : List Float) where
+  record Written (i : ℕ) (s : List Float) : Type 0 where
+    long : length s ≡ length l
+    held : (j : ℕ) → j < i → linear_at s j ≡ colour j
+
+  start : Written 0 l
+  start = record { long = refl; held = λ j h. absurd (omega arith) }
+
+  next : (i : ℕ) (s : List Float) → 3 * i + 2 < length l → Written i s → Written (suc i) (colour_at colour i s)
+  unfolding colour_at
+  next i s h p =
       record {
-        at = λ i h. ⊎_elim (λ (u : i ≡ j). rw u e) (λ (u : i < j). o i (λ v. omega arith) ∙ p.at i u) (eq-or-lt_of_le (let z : i ≤ j = omega arith in z));
+        long = three-long s i (colour i).r (colour i).g (colour i).b ∙ p.long;
+        held = λ j q.
+            ⊎_elim (λ (e : j ≡ i). rw e (colour-own s i (colour i).r (colour i).g (colour i).b (omega (arith, p.long))))
+            (λ (u : j < i). colour-other s i (colour i).r (colour i).g (colour i).b j (λ e. omega arith) ∙ p.held j u)
+            (eq-or-lt_of_le (let z : j ≤ i = omega arith in z));
       }
 
-  -- those below j are enough for those below n
-  pub all_held : (j n : ℕ) (room : List Float) → Block read f j room → n ≤ j → Block read f n room
-  all_held j n room p h = record { at = λ i l. p.at i (omega arith) }
-
-module _ (j : ℕ) (room after : List Float) where
-  pub number-held : (f : ℕ → Float) (v : Float) → Block number_at f j room → after ≡ set room j v → v ≡ f j → j < length room → Block number_at f (j + 1) after
-  number-held f v p e h l = rw e (one_held number_at f j room (set room j v) p (get_or-set_same room j v nan l ∙ h) (λ i d. get_or-set_other room j i v nan d))
-
-  pub colour-held : (f : ℕ → Linear) (c : Linear) → Block linear_at f j room → after ≡ put_colour room j c → c ≡ f j → 3 * j + 2 < length room → Block linear_at f (j + 1) after
-  colour-held f c p e h l = rw e (one_held linear_at f j room (put_colour room j c) p (colour-own room j c.r c.g c.b l ∙ h) (colour-other room j c.r c.g c.b))
-
-  pub lab-held : (f : ℕ → Lab) (c : Lab) → Block lab_at f j room → after ≡ put_three room j c.l c.a c.b → c ≡ f j → 3 * j + 2 < length room → Block lab_at f (j + 1) after
-  lab-held f c p e h l = rw e (one_held lab_at f j room (put_three room j c.l c.a c.b) p (lab-own room j c.l c.a c.b l ∙ h) (lab-other room j c.l c.a c.b))
+  -- n colours are put
+  pub colours_held : (n : ℕ) → 3 * n ≤ length l → Block linear_at colour n (write_colours colour n l)
+  colours_held n h =
+      let w = for_up_to Written (colour_at colour) n 0 l zero-le start (λ i q r s p. next i s (omega arith) p) in
+      record { at = w.held }

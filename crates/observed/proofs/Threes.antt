@@ -1,4 +1,4 @@
--- Three numbers put at the places of an entry: they stand there, as a colour or a Lab is read, and the other entries and the length stay. Assumes nothing.
+-- Three numbers put at the places of an entry: they stand there, as a colour is read, and the other entries and the length stay. Assumes nothing.
 use mathlib.Core.Path.{◌≡◌, ◌∙◌}
 use mathlib.Core.List.{List}
 use Prim.Native.Nat.{ℕ, ◌+◌, ◌*◌, ◌<◌}
@@ -6,9 +6,9 @@ use native.Mathlib.Omega.{arith}
 use lib.ListN.{length, get_or, set, length-set}
 use lib.Seq.{get_or-set_same, get_or-set_other}
 use lib.Ieee.{Float, nan}
-use Rattle.color.specs.Color.{linear, lab}
+use Rattle.color.specs.Color.{linear}
 use Rattle.color.specs.Palette.{linear_at}
-use Rattle.observed.specs.Entries.{put_three, lab_at}
+use Rattle.observed.specs.Entries.{put_three}
 
 module _ (l : List Float) (i : ℕ) (x y z : Float) where
   pub three-long : length (put_three l i x y z) ≡ length l
@@ -33,10 +33,6 @@ module _ (l : List Float) (i : ℕ) (x y z : Float) where
     unfolding linear_at
     colour-other = rw (other_0, other_1, other_2)
 
-    pub lab-other : lab_at (put_three l i x y z) j ≡ lab_at l j
-    unfolding lab_at
-    lab-other = rw (other_0, other_1, other_2)
-
   -- the entry itself
   module _ (h : 3 * i + 2 < length l) where
     own_0 : get_or (put_three l i x y z) (3 * i) nan ≡ x
@@ -54,7 +50,3 @@ module _ (l : List Float) (i : ℕ) (x y z : Float) where
     pub colour-own : linear_at (put_three l i x y z) i ≡ linear x y z
     unfolding linear_at
     colour-own = rw (own_0, own_1, own_2)
-
-    pub lab-own : lab_at (put_three l i x y z) i ≡ lab x y z
-    unfolding lab_at
-    lab-own = rw (own_0, own_1, own_2)

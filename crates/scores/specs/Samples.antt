@@ -22,6 +22,6 @@ unfoldable pub reliability_of : ChannelStats → List Float → ℕ → (ℕ →
 reliability_of n palette hues colour j = reliability n (linear_to_lab (colour j)) palette hues
 
 -- the samples of k colours
-pub record Samples (n : ChannelStats) (palette : List Float) (hues : ℕ) (colour : ℕ → Linear) (k : ℕ) (labs weights : List Float) : Type 0 where
+pub record Samples (n : ChannelStats) (palette : List Float) (hues : ℕ) (colour : ℕ → Linear) (k : ℕ) (labs : List Lab) (weights : List Float) : Type 0 where
   pub sampled : Block lab_at (lab_of colour) k labs
   pub believed : Block number_at (reliability_of n palette hues colour) k weights

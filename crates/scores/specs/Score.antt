@@ -59,10 +59,10 @@ abbrev pub luma_block : ChannelStats → List Float → ℕ → (ℕ → Linear)
 luma_block n palette hues colour from k l = for_up from (from + k) (luma_at n palette hues colour) l
 
 -- the score of module from + j, by sample j of a block
-unfoldable pub put_luma : ChannelStats → List Float → List Float → ℕ → ℕ → List Float → List Float
+unfoldable pub put_luma : ChannelStats → List Lab → List Float → ℕ → ℕ → List Float → List Float
 put_luma n labs weights from j l = set l (from + j) (weighed (luma_llr n (lab_at labs j).l) (number_at weights j))
 
-abbrev pub put_lumas : ChannelStats → List Float → List Float → ℕ → ℕ → List Float → List Float
+abbrev pub put_lumas : ChannelStats → List Lab → List Float → ℕ → ℕ → List Float → List Float
 put_lumas n labs weights from k l = for_up 0 k (put_luma n labs weights from) l
 
 -- scores that are not weighted
@@ -107,11 +107,11 @@ unfoldable pub drawn_at : List ℕ → List ℕ → ℕ → Cell
 drawn_at cxs cys e = cond (ltb e (length cxs)) (At (get_or cxs e 0) (get_or cys e 0)) Unmasked
 
 -- entry first + j, by sample j of a block
-unfoldable pub put_entry : ChannelStats → List Float → ℕ → List ℕ → List ℕ → List Float → List Float → ℕ → ℕ → List Float → List Float
+unfoldable pub put_entry : ChannelStats → List Float → ℕ → List ℕ → List ℕ → List Lab → List Float → ℕ → ℕ → List Float → List Float
 put_entry n palette hues cxs cys labs weights first j chroma =
     write_sample n palette hues (drawn_at cxs cys (first + j)) (lab_at labs j) (number_at weights j) (first + j) chroma
 
-abbrev pub put_entries : ChannelStats → List Float → ℕ → List ℕ → List ℕ → List Float → List Float → ℕ → ℕ → List Float → List Float
+abbrev pub put_entries : ChannelStats → List Float → ℕ → List ℕ → List ℕ → List Lab → List Float → ℕ → ℕ → List Float → List Float
 put_entries n palette hues cxs cys labs weights first k chroma = for_up 0 k (put_entry n palette hues cxs cys labs weights first) chroma
 
 -- cell i is entry i

@@ -6,37 +6,28 @@ ghost use Rattle.std.specs.Prelude.{◌≡◌, true, ◌+◌, ◌-◌, ◌*◌, 
 ghost use Rattle.limits.specs.Chroma.{weighted, symbol_bits, chroma_length, ring_modules};
 ghost use Rattle.color.specs.Color.{linear_to_lab};
 ghost use Rattle.color.specs.Palette.{linear_at};
-ghost use Rattle.observed.specs.Entries.{lab_at, number_at};
 ghost use Rattle.observed.specs.Colours as colour;
-ghost use Rattle.observed.specs.Ready.{Sampled};
 ghost use Rattle.scores.specs.Score as spec;
 ghost use Rattle.scores.specs.Score.{sheet};
-ghost use Rattle.scores.specs.Ready.{Palette, Tables, ChromaCard, Modules};
+ghost use Rattle.scores.specs.Ready.{layout_of};
 
 use color::palette::linear_at;
-use color::{Linear, Xyz, linear_to_xyz, xyz_to_lab};
+use color::{Lab, Linear, Xyz, linear_to_xyz, xyz_to_lab};
 use illum::IlluminationModel;
-use layout::Layout;
+use layout::Modules;
 use modulate::Cell;
-use observed::lab_at;
-use samples::{block_size, write_samples};
+use observed::{SeenCells, SeenModules};
+use samples::Samples;
 use stats::ChannelStats;
 
-mod samples;
+pub use samples::Meter;
 
-// Core: the chroma noise of each palette colour.
-pub fn sigmas_of(noise: ChannelStats, palette: &[f32], hues: usize) -> [f32; 32]
-    requires { Palette hues palette.now }
-    ensures { Tables noise palette.now hues result }
-{
-    let mut sigmas = [0.0f32; 32];
-    noise.palette_sigmas(palette, hues, &mut sigmas);
-    sigmas
-}
+mod samples;
 
 // ---- luma
 
 // A score, weighed by the reliability of its sample.
+#[tactic(auto, unfolding(crate::specs::Score::weighed))]
 fn weigh(llr: f32, weight: f32) -> f32
     ensures { result ≡ spec.weighed llr weight }
 {
@@ -61,135 +52,73 @@ fn plain_lumas(noise: ChannelStats, colours: &[f32], n: usize, luma: &mut [f32])
     requires { (3 * n ≤ length colours.now) × (n ≤ length luma.old) }
     ensures { luma.new ≡ spec.plain_lumas noise (linear_at colours.now) n luma.old }
 {
-    for i in 0..n {
-        luma[i] = noise.luma_llr_of(lightness(linear_at(colours, i)));
+    for (i, score) in luma[..n].iter_mut().enumerate() {
+        *score = noise.luma_llr_of(lightness(linear_at(colours, i)));
     }
 }
 
-// Writes the luma score of module from + j, of sample j.
-fn put_luma(
-    noise: ChannelStats,
-    labs: &[f32],
-    weights: &[f32],
-    from: usize,
-    j: usize,
-    luma: &mut [f32],
-)
-    requires { (3 * j + 2 < length labs.now) × (j < length weights.now) × (from + j < length luma.old) }
-    ensures { luma.new ≡ spec.put_luma noise labs.now weights.now from j luma.old }
-{
-    let lab = lab_at(labs, j);
-    let llr = noise.luma_llr_of(lab.l);
-    luma[from + j] = weigh(llr, weights[j]);
-}
-
-// Those of n modules, of the samples from the first on.
-fn put_lumas(
-    noise: ChannelStats,
-    labs: &[f32],
-    weights: &[f32],
-    from: usize,
-    n: usize,
-    luma: &mut [f32],
-)
-    requires { (3 * n ≤ length labs.now) × (n ≤ length weights.now) × (from + n ≤ length luma.old) }
-    ensures { luma.new ≡ spec.put_lumas noise labs.now weights.now from n luma.old }
-{
-    for j in 0..n {
-        put_luma(noise, labs, weights, from, j, luma);
+impl Samples {
+    // Writes the luma scores of the modules from `from` on, one a sample.
+    fn put_lumas(&self, noise: ChannelStats, from: usize, luma: &mut [f32])
+        requires { from + self.now.n ≤ length luma.old }
+        ensures { luma.new ≡ spec.put_lumas noise self.now.labs self.now.weights from self.now.n luma.old }
+    {
+        for j in 0..self.n {
+            let llr = noise.luma_llr_of(self.labs[j].l);
+            luma[from + j] = weigh(llr, self.weights[j]);
+        }
     }
 }
 
-// The luma scores of a block of modules.
-fn luma_block(
-    noise: ChannelStats,
-    palette: &[f32],
-    hues: usize,
-    sigmas: &[f32],
-    colours: &[f32],
-    from: usize,
-    n: usize,
-    luma: &mut [f32],
-)
-    requires { (weighted hues ≡ true) × Tables noise palette.now hues sigmas.now × (n ≤ 16) × (3 * (from + n) ≤ length colours.now) × (from + n ≤ length luma.old) }
-    ensures { luma.new ≡ spec.luma_block noise palette.now hues (linear_at colours.now) from n luma.old }
-{
-    let mut labs = [0.0f32; 48];
-    let mut weights = [0.0f32; 16];
-    write_samples(
-        noise,
-        palette,
-        hues,
-        sigmas,
-        colours,
-        from,
-        n,
-        &mut labs,
-        &mut weights,
-    );
-    put_lumas(noise, &labs, &weights, from, n, luma);
-}
-
-// Writes the luma scores of the first n modules, each weighted by the reliability of its colour.
-fn weighted_lumas(
-    noise: ChannelStats,
-    palette: &[f32],
-    hues: usize,
-    sigmas: &[f32],
-    colours: &[f32],
-    n: usize,
-    luma: &mut [f32],
-)
-    requires { (weighted hues ≡ true) × Tables noise palette.now hues sigmas.now × (3 * n ≤ length colours.now) × (n ≤ length luma.old) }
-    ensures { luma.new ≡ spec.write_lumas noise palette.now hues (linear_at colours.now) n luma.old }
-{
-    let mut from = 0;
-    while from < n {
-        let k = block_size(from, n);
-        luma_block(noise, palette, hues, sigmas, colours, from, k, luma);
-        from = from + k;
+impl Meter<'_> {
+    // The luma scores of a block of modules.
+    fn luma_block(&self, colours: &[f32], from: usize, n: usize, luma: &mut [f32])
+        requires { (weighted self.now.channel.palette.hues ≡ true) × (n ≤ 16) × (3 * (from + n) ≤ length colours.now) × (from + n ≤ length luma.old) }
+        ensures { luma.new ≡ spec.luma_block self.now.channel.noise self.now.channel.palette.numbers.now self.now.channel.palette.hues (linear_at colours.now) from n luma.old }
+    {
+        Samples::of(self, colours, from, n).put_lumas(self.channel.noise, from, luma);
     }
-}
 
-// Writes the luma scores of the first n modules.
-fn write_lumas(
-    noise: ChannelStats,
-    palette: &[f32],
-    hues: usize,
-    sigmas: &[f32],
-    colours: &[f32],
-    n: usize,
-    luma: &mut [f32],
-)
-    requires { Tables noise palette.now hues sigmas.now × (3 * n ≤ length colours.now) × (n ≤ length luma.old) }
-    ensures { luma.new ≡ spec.write_lumas noise palette.now hues (linear_at colours.now) n luma.old }
-{
-    if limits::weighted(hues) {
-        weighted_lumas(noise, palette, hues, sigmas, colours, n, luma);
-    } else {
-        plain_lumas(noise, colours, n, luma);
+    // Writes the luma scores of the first n modules, each weighted by the reliability of its colour.
+    fn weighted_lumas(&self, colours: &[f32], n: usize, luma: &mut [f32])
+        requires { (weighted self.now.channel.palette.hues ≡ true) × (3 * n ≤ length colours.now) × (n ≤ length luma.old) }
+        ensures { luma.new ≡ spec.write_lumas self.now.channel.noise self.now.channel.palette.numbers.now self.now.channel.palette.hues (linear_at colours.now) n luma.old }
+    {
+        for from in (0..n).step_by(16) {
+            self.luma_block(colours, from, usize::min(16, n - from), luma);
+        }
     }
-}
 
-// Core: writes the corrected colour and the luma score of every module, and says how many modules have a mark.
-pub fn write_modules(
-    noise: ChannelStats,
-    palette: &[f32],
-    hues: usize,
-    sigmas: &[f32],
-    model: IlluminationModel,
-    xs: &[i32],
-    ys: &[i32],
-    raw: &[f32],
-    luma: &mut [f32],
-    colours: &mut [f32],
-) -> usize
-    requires { Tables noise palette.now hues sigmas.now × Sampled xs.now ys.now raw.now × (length xs.now ≤ length luma.old) × (3 * length xs.now ≤ length colours.old) }
-    ensures { (sheet luma.new colours.new ≡ spec.write_modules noise palette.now hues (colour.module_colour model xs.now ys.now raw.now) (length xs.now) (sheet luma.old colours.old)) × (result ≡ colour.held_module_count model xs.now ys.now (length xs.now)) }
-{
-    let held = observed::write_colours(model, xs, ys, raw, colours);
-    write_lumas(noise, palette, hues, sigmas, colours, xs.len(), luma);
-    held
+    // Writes the luma scores of the first n modules.
+    fn write_lumas(&self, colours: &[f32], n: usize, luma: &mut [f32])
+        requires { (3 * n ≤ length colours.now) × (n ≤ length luma.old) }
+        ensures { luma.new ≡ spec.write_lumas self.now.channel.noise self.now.channel.palette.numbers.now self.now.channel.palette.hues (linear_at colours.now) n luma.old }
+    {
+        if limits::weighted(self.channel.palette.hues) {
+            self.weighted_lumas(colours, n, luma);
+        } else {
+            plain_lumas(self.channel.noise, colours, n, luma);
+        }
+    }
+
+    // Core: writes the corrected colour and the luma score of every module, and says how many modules have a mark.
+    pub fn write_modules(
+        &self,
+        model: IlluminationModel,
+        seen: &SeenModules,
+        luma: &mut [f32],
+        colours: &mut [f32],
+    ) -> usize
+        requires { (length seen.now.modules.xs.now ≤ length luma.old) × (3 * length seen.now.modules.xs.now ≤ length colours.old) }
+        ensures { let m = seen.now.modules in
+            (sheet luma.new colours.new ≡ spec.write_modules self.now.channel.noise self.now.channel.palette.numbers.now self.now.channel.palette.hues (colour.module_colour model m.xs.now m.ys.now seen.now.raw.now) (length m.xs.now) (sheet luma.old colours.old))
+            × (result ≡ colour.held_module_count model m.xs.now m.ys.now (length m.xs.now)) }
+    {
+        let n = seen.modules.len();
+        let held = observed::correct(model, seen, 0, n, 0, colours);
+        self.write_lumas(colours, n, luma);
+        held
+    }
 }
 
 // ---- chroma
@@ -201,299 +130,148 @@ fn chroma_score(v: f32, weight: f32) -> f32
     float::clamp(weigh(v, weight), -20.0, 20.0)
 }
 
-fn put_score(bits: &[f32], weight: f32, at: usize, b: usize, chroma: &mut [f32])
-    requires { (b < length bits.now) × (at + b < length chroma.old) }
-    ensures { chroma.new ≡ spec.put_score bits.now weight at b chroma.old }
-{
-    chroma[at + b] = chroma_score(bits[b], weight);
-}
-
+// Writes the scores of n bits at the places from `at` on.
 fn put_scores(bits: &[f32], weight: f32, n: usize, at: usize, chroma: &mut [f32])
     requires { (n ≤ length bits.now) × (at + n ≤ length chroma.old) }
     ensures { chroma.new ≡ spec.put_scores bits.now weight n at chroma.old }
 {
-    for b in 0..n {
-        put_score(bits, weight, at, b, chroma);
+    for (b, &bit) in bits[..n].iter().enumerate() {
+        chroma[at + b] = chroma_score(bit, weight);
     }
 }
 
-// Writes the scores of entry e of the chroma list, of sample j.
-fn write_entry(
-    noise: ChannelStats,
-    palette: &[f32],
-    hues: usize,
-    cell: Cell,
-    labs: &[f32],
-    weights: &[f32],
-    j: usize,
-    e: usize,
-    chroma: &mut [f32],
-)
-    requires { Palette hues palette.now × (3 * j + 2 < length labs.now) × (j < length weights.now) × (e * symbol_bits hues + symbol_bits hues ≤ length chroma.old) }
-    ensures { chroma.new ≡ spec.write_sample noise palette.now hues cell (lab_at labs.now j) (number_at weights.now j) e chroma.old }
-{
-    let lab = lab_at(labs, j);
-    let mut ll = [0.0f32; 16];
-    noise.hue_log_likelihoods_of(lab, palette, hues, &mut ll);
-    let mut bits = [0.0f32; 4];
-    modulate::bit_llrs(&ll, cell, hues, &mut bits);
-    let n = limits::symbol_bits(hues);
-    put_scores(&bits, weights[j], n, e * n, chroma);
-}
-
-// Where entry e is drawn: on cell e, or past the cells on a ring module, on which no mask lies.
-fn drawn_at(cxs: &[u16], cys: &[u16], e: usize) -> Cell
-    requires { length cxs.now ≡ length cys.now }
-    ensures { result ≡ spec.drawn_at cxs.now cys.now e }
-{
-    if e < cxs.len() {
-        return Cell::At(cxs[e], cys[e]);
-    }
-    Cell::Unmasked
-}
-
-// Writes the scores of entry first + j, of sample j.
-fn put_entry(
-    noise: ChannelStats,
-    palette: &[f32],
-    hues: usize,
-    cxs: &[u16],
-    cys: &[u16],
-    labs: &[f32],
-    weights: &[f32],
-    first: usize,
-    j: usize,
-    chroma: &mut [f32],
-)
-    requires { Palette hues palette.now × (length cxs.now ≡ length cys.now) × (3 * j + 2 < length labs.now) × (j < length weights.now) × (first + j ≤ 2097152) × ((first + j) * symbol_bits hues + symbol_bits hues ≤ length chroma.old) }
-    ensures { chroma.new ≡ spec.put_entry noise palette.now hues cxs.now cys.now labs.now weights.now first j chroma.old }
-{
-    let e = first + j;
-    let cell = drawn_at(cxs, cys, e);
-    write_entry(noise, palette, hues, cell, labs, weights, j, e, chroma);
-}
-
-// Those of n entries, of the samples from the first on.
-fn put_entries(
-    noise: ChannelStats,
-    palette: &[f32],
-    hues: usize,
-    cxs: &[u16],
-    cys: &[u16],
-    labs: &[f32],
-    weights: &[f32],
-    first: usize,
-    n: usize,
-    chroma: &mut [f32],
-)
-    requires { Palette hues palette.now × (length cxs.now ≡ length cys.now) × (3 * n ≤ length labs.now) × (n ≤ length weights.now) × (first + n ≤ 2097152) × ((first + n) * symbol_bits hues ≤ length chroma.old) }
-    ensures { chroma.new ≡ spec.put_entries noise palette.now hues cxs.now cys.now labs.now weights.now first n chroma.old }
-{
-    for j in 0..n {
-        put_entry(
-            noise, palette, hues, cxs, cys, labs, weights, first, j, chroma,
-        );
+impl Meter<'_> {
+    // Writes the scores of entry e of the chroma list, of a sample and its weight.
+    fn write_entry(&self, cell: Cell, lab: Lab, weight: f32, e: usize, chroma: &mut [f32])
+        requires { e * symbol_bits self.now.channel.palette.hues + symbol_bits self.now.channel.palette.hues ≤ length chroma.old }
+        ensures { chroma.new ≡ spec.write_sample self.now.channel.noise self.now.channel.palette.numbers.now self.now.channel.palette.hues cell lab weight e chroma.old }
+    {
+        let hues = self.channel.palette.hues;
+        let mut ll = [0.0f32; 16];
+        self.channel.hue_log_likelihoods_of(lab, &mut ll);
+        let mut bits = [0.0f32; 4];
+        modulate::bit_llrs(&ll, cell, hues, &mut bits);
+        let n = limits::symbol_bits(hues);
+        put_scores(&bits, weight, n, e * n, chroma);
     }
 }
 
-// The chroma scores of a block of cells. `held` of the cells before have a mark; says how many have one with these.
-fn cell_block(
-    layout: Layout,
-    noise: ChannelStats,
-    palette: &[f32],
-    sigmas: &[f32],
-    model: IlluminationModel,
-    cxs: &[u16],
-    cys: &[u16],
-    raw: &[f32],
-    from: usize,
-    n: usize,
-    held: usize,
-    chroma: &mut [f32],
-) -> usize
-    requires { ChromaCard layout noise palette.now sigmas.now cxs.now cys.now × (n ≤ 16) × (held ≤ from) × (from + n ≤ length cxs.now) × (3 * (from + n) ≤ length raw.now) × ((from + n) * symbol_bits layout.hues ≤ length chroma.old) }
-    ensures { (chroma.new ≡ spec.cell_block noise palette.now layout.hues cxs.now cys.now (colour.cell_colour model layout.size cxs.now cys.now raw.now) from n chroma.old) × (result ≡ colour.held_onwards model layout.size cxs.now cys.now from n held) × (result ≤ from + n) }
-{
-    let mut room = [0.0f32; 48];
-    let after = observed::correct_cells(
-        model,
-        layout.size,
-        cxs,
-        cys,
-        raw,
-        from,
-        n,
-        held,
-        &mut room,
-    );
-    let mut labs = [0.0f32; 48];
-    let mut weights = [0.0f32; 16];
-    write_samples(
-        noise,
-        palette,
-        layout.hues,
-        sigmas,
-        &room,
-        0,
-        n,
-        &mut labs,
-        &mut weights,
-    );
-    put_entries(
-        noise,
-        palette,
-        layout.hues,
-        cxs,
-        cys,
-        &labs,
-        &weights,
-        from,
-        n,
-        chroma,
-    );
-    after
+// A card whose chroma is scored: its cells as they were observed, and its modules with their corrected colours.
+#[derive(Clone, Copy, Debug)]
+pub struct ChromaCard<'a> {
+    pub meter: Meter<'a>,
+    pub seen: SeenCells<'a>,
+    pub modules: Modules<'a>,
+    pub colours: &'a [f32],
+    ghost three: { 3 * length modules.xs.now ≤ length colours.now },
 }
 
-// The chroma scores of all cells. Says how many cells have a mark.
-fn write_cells(
-    layout: Layout,
-    noise: ChannelStats,
-    palette: &[f32],
-    sigmas: &[f32],
-    model: IlluminationModel,
-    cxs: &[u16],
-    cys: &[u16],
-    raw: &[f32],
-    chroma: &mut [f32],
-) -> usize
-    requires { ChromaCard layout noise palette.now sigmas.now cxs.now cys.now × (3 * length cxs.now ≤ length raw.now) × (length cxs.now * symbol_bits layout.hues ≤ length chroma.old) }
-    ensures { (chroma.new ≡ spec.write_cells noise palette.now layout.hues cxs.now cys.now (colour.cell_colour model layout.size cxs.now cys.now raw.now) (length cxs.now) chroma.old) × (result ≡ colour.held_cells model layout.size cxs.now cys.now (length cxs.now)) }
-{
-    let mut from = 0;
-    let mut held = 0;
-    while from < cxs.len() {
-        let n = block_size(from, cxs.len());
-        held = cell_block(
-            layout, noise, palette, sigmas, model, cxs, cys, raw, from, n, held, chroma,
-        );
-        from = from + n;
+impl ChromaCard<'_> {
+    // Where entry e is drawn: on cell e, or past the cells on a ring module, on which no mask lies.
+    #[tactic(auto, using(crate::proofs::Chroma::on_cell, crate::proofs::Chroma::on_ring))]
+    fn drawn_at(&self, e: usize) -> Cell
+        ensures { result ≡ spec.drawn_at self.now.seen.cells.cxs.now self.now.seen.cells.cys.now e }
+    {
+        let cells = self.seen.cells;
+        if e < cells.cxs.len() {
+            return Cell::At(cells.cxs[e], cells.cys[e]);
+        }
+        Cell::Unmasked
     }
-    held
-}
 
-// The chroma scores of a block of ring modules, whose corrected colours stand in `colours`.
-fn ring_block(
-    layout: Layout,
-    noise: ChannelStats,
-    palette: &[f32],
-    sigmas: &[f32],
-    cxs: &[u16],
-    cys: &[u16],
-    colours: &[f32],
-    from: usize,
-    n: usize,
-    chroma: &mut [f32],
-)
-    requires { ChromaCard layout noise palette.now sigmas.now cxs.now cys.now × (n ≤ 16) × (layout.grid ≤ from) × (from + n ≤ 1048576) × (3 * (from + n) ≤ length colours.now) × ((length cxs.now + (from + n - layout.grid)) * symbol_bits layout.hues ≤ length chroma.old) }
-    ensures { chroma.new ≡ spec.ring_block noise palette.now layout.hues (length cxs.now) layout.grid (linear_at colours.now) from n chroma.old }
-{
-    let mut labs = [0.0f32; 48];
-    let mut weights = [0.0f32; 16];
-    write_samples(
-        noise,
-        palette,
-        layout.hues,
-        sigmas,
-        colours,
-        from,
-        n,
-        &mut labs,
-        &mut weights,
-    );
-    let first = cxs.len() + (from - layout.grid);
-    put_entries(
-        noise,
-        palette,
-        layout.hues,
-        cxs,
-        cys,
-        &labs,
-        &weights,
-        first,
-        n,
-        chroma,
-    );
-}
-
-// The chroma scores of the ring modules, those from module `grid` on, of m modules.
-fn write_rings(
-    layout: Layout,
-    noise: ChannelStats,
-    palette: &[f32],
-    sigmas: &[f32],
-    cxs: &[u16],
-    cys: &[u16],
-    colours: &[f32],
-    m: usize,
-    chroma: &mut [f32],
-)
-    requires { ChromaCard layout noise palette.now sigmas.now cxs.now cys.now × Modules layout m colours.now × ((length cxs.now + (m - layout.grid)) * symbol_bits layout.hues ≤ length chroma.old) }
-    ensures { chroma.new ≡ spec.write_rings noise palette.now layout.hues (length cxs.now) layout.grid (linear_at colours.now) m chroma.old }
-{
-    let mut from = layout.grid;
-    while from < m {
-        let n = block_size(from, m);
-        ring_block(
-            layout, noise, palette, sigmas, cxs, cys, colours, from, n, chroma,
-        );
-        from = from + n;
+    // Writes the scores of the entries from `first` on, one a sample.
+    fn put_entries(&self, samples: &Samples, first: usize, chroma: &mut [f32])
+        requires { (first + samples.now.n ≤ 2097152) × ((first + samples.now.n) * symbol_bits self.now.meter.channel.palette.hues ≤ length chroma.old) }
+        ensures { let c = self.now.meter.channel in let s = self.now.seen.cells in
+            chroma.new ≡ spec.put_entries c.noise c.palette.numbers.now c.palette.hues s.cxs.now s.cys.now samples.now.labs samples.now.weights first samples.now.n chroma.old }
+    {
+        for j in 0..samples.n {
+            let e = first + j;
+            self.meter.write_entry(self.drawn_at(e), samples.labs[j], samples.weights[j], e, chroma);
+        }
     }
-}
 
-// The chroma scores of ring modules, which carry chroma only at cell size 1.
-fn ring_chroma(
-    layout: Layout,
-    noise: ChannelStats,
-    palette: &[f32],
-    sigmas: &[f32],
-    cxs: &[u16],
-    cys: &[u16],
-    colours: &[f32],
-    m: usize,
-    chroma: &mut [f32],
-)
-    requires { ChromaCard layout noise palette.now sigmas.now cxs.now cys.now × Modules layout m colours.now × (chroma_length layout.hues (length cxs.now) (ring_modules m layout.grid) layout.size ≤ length chroma.old) }
-    ensures { chroma.new ≡ spec.ring_chroma layout noise palette.now (length cxs.now) (linear_at colours.now) m chroma.old }
-{
-    if layout.size == 1 {
-        write_rings(layout, noise, palette, sigmas, cxs, cys, colours, m, chroma);
+    // The chroma scores of a block of cells. `held` of the cells before have a mark; says how many have one with these.
+    fn cell_block(
+        &self,
+        model: IlluminationModel,
+        from: usize,
+        n: usize,
+        held: usize,
+        chroma: &mut [f32],
+    ) -> usize
+        requires { (n ≤ 16) × (held ≤ from) × (from + n ≤ length self.now.seen.cells.cxs.now) × ((from + n) * symbol_bits self.now.meter.channel.palette.hues ≤ length chroma.old) }
+        ensures { let c = self.now.meter.channel in let s = self.now.seen in
+            (chroma.new ≡ spec.cell_block c.noise c.palette.numbers.now c.palette.hues s.cells.cxs.now s.cells.cys.now (colour.cell_colour model s.size s.cells.cxs.now s.cells.cys.now s.raw.now) from n chroma.old)
+            × (result ≡ colour.held_onwards model s.size s.cells.cxs.now s.cells.cys.now from n held) × (result ≤ from + n) }
+    {
+        let mut room = [0.0f32; 48];
+        let after = observed::correct(model, &self.seen, from, n, held, &mut room);
+        self.put_entries(&Samples::of(&self.meter, &room, 0, n), from, chroma);
+        after
     }
-}
 
-// Core: the chroma scores: with chroma on those of the cells, then those of the ring modules. The corrected colours of the m modules stand in `colours`.
-// Says how many cells have a mark: none with chroma off, where they are not corrected. Ring modules were counted with the modules.
-pub fn write_chroma(
-    layout: Layout,
-    noise: ChannelStats,
-    palette: &[f32],
-    sigmas: &[f32],
-    model: IlluminationModel,
-    colours: &[f32],
-    m: usize,
-    cxs: &[u16],
-    cys: &[u16],
-    craw: &[f32],
-    chroma: &mut [f32],
-) -> usize
-    requires { ChromaCard layout noise palette.now sigmas.now cxs.now cys.now × Modules layout m colours.now × (3 * length cxs.now ≤ length craw.now) × (chroma_length layout.hues (length cxs.now) (ring_modules m layout.grid) layout.size ≤ length chroma.old) }
-    ensures { (chroma.new ≡ spec.chroma_written layout noise palette.now (linear_at colours.now) m cxs.now cys.now (colour.cell_colour model layout.size cxs.now cys.now craw.now) chroma.old) × (result ≡ spec.chroma_held layout model cxs.now cys.now) }
-{
-    if limits::chroma_on(layout.hues) {
-        let held = write_cells(
-            layout, noise, palette, sigmas, model, cxs, cys, craw, chroma,
-        );
-        ring_chroma(layout, noise, palette, sigmas, cxs, cys, colours, m, chroma);
-        return held;
+    // The chroma scores of all cells. Says how many cells have a mark.
+    fn write_cells(&self, model: IlluminationModel, chroma: &mut [f32]) -> usize
+        requires { length self.now.seen.cells.cxs.now * symbol_bits self.now.meter.channel.palette.hues ≤ length chroma.old }
+        ensures { let c = self.now.meter.channel in let s = self.now.seen in
+            (chroma.new ≡ spec.write_cells c.noise c.palette.numbers.now c.palette.hues s.cells.cxs.now s.cells.cys.now (colour.cell_colour model s.size s.cells.cxs.now s.cells.cys.now s.raw.now) (length s.cells.cxs.now) chroma.old)
+            × (result ≡ colour.held_cells model s.size s.cells.cxs.now s.cells.cys.now (length s.cells.cxs.now)) }
+    {
+        let n = self.seen.cells.len();
+        let mut held = 0;
+        for from in (0..n).step_by(16) {
+            held = self.cell_block(model, from, usize::min(16, n - from), held, chroma);
+        }
+        held
     }
-    0
+
+    // The chroma scores of a block of ring modules.
+    fn ring_block(&self, from: usize, n: usize, chroma: &mut [f32])
+        requires { (n ≤ 16) × (self.now.modules.grid ≤ from) × (from + n ≤ length self.now.modules.xs.now) × ((length self.now.seen.cells.cxs.now + (from + n - self.now.modules.grid)) * symbol_bits self.now.meter.channel.palette.hues ≤ length chroma.old) }
+        ensures { let c = self.now.meter.channel in
+            chroma.new ≡ spec.ring_block c.noise c.palette.numbers.now c.palette.hues (length self.now.seen.cells.cxs.now) self.now.modules.grid (linear_at self.now.colours.now) from n chroma.old }
+    {
+        let first = self.seen.cells.len() + (from - self.modules.grid);
+        self.put_entries(&Samples::of(&self.meter, self.colours, from, n), first, chroma);
+    }
+
+    // The chroma scores of the ring modules, those that are listed after the grid modules.
+    fn write_rings(&self, chroma: &mut [f32])
+        requires { (length self.now.seen.cells.cxs.now + (length self.now.modules.xs.now - self.now.modules.grid)) * symbol_bits self.now.meter.channel.palette.hues ≤ length chroma.old }
+        ensures { let c = self.now.meter.channel in
+            chroma.new ≡ spec.write_rings c.noise c.palette.numbers.now c.palette.hues (length self.now.seen.cells.cxs.now) self.now.modules.grid (linear_at self.now.colours.now) (length self.now.modules.xs.now) chroma.old }
+    {
+        let m = self.modules.len();
+        for from in (self.modules.grid..m).step_by(16) {
+            self.ring_block(from, usize::min(16, m - from), chroma);
+        }
+    }
+
+    // The chroma scores of ring modules, which carry chroma only at cell size 1.
+    fn ring_chroma(&self, chroma: &mut [f32])
+        requires { chroma_length self.now.meter.channel.palette.hues (length self.now.seen.cells.cxs.now) (ring_modules (length self.now.modules.xs.now) self.now.modules.grid) self.now.seen.size ≤ length chroma.old }
+        ensures { let c = self.now.meter.channel in
+            chroma.new ≡ spec.ring_chroma (layout_of self.now.modules.side c.palette.hues self.now.seen.size self.now.modules.grid) c.noise c.palette.numbers.now (length self.now.seen.cells.cxs.now) (linear_at self.now.colours.now) (length self.now.modules.xs.now) chroma.old }
+    {
+        if self.seen.size == 1 {
+            self.write_rings(chroma);
+        }
+    }
+
+    // Core: the chroma scores: with chroma on those of the cells, then those of the ring modules.
+    // Says how many cells have a mark: none with chroma off, where they are not corrected. Ring modules were counted with the modules.
+    pub fn write(&self, model: IlluminationModel, chroma: &mut [f32]) -> usize
+        requires { chroma_length self.now.meter.channel.palette.hues (length self.now.seen.cells.cxs.now) (ring_modules (length self.now.modules.xs.now) self.now.modules.grid) self.now.seen.size ≤ length chroma.old }
+        ensures { let c = self.now.meter.channel in let s = self.now.seen in let l = layout_of self.now.modules.side c.palette.hues s.size self.now.modules.grid in
+            (chroma.new ≡ spec.chroma_written l c.noise c.palette.numbers.now (linear_at self.now.colours.now) (length self.now.modules.xs.now) s.cells.cxs.now s.cells.cys.now (colour.cell_colour model s.size s.cells.cxs.now s.cells.cys.now s.raw.now) chroma.old)
+            × (result ≡ spec.chroma_held l model s.cells.cxs.now s.cells.cys.now) }
+    {
+        if limits::chroma_on(self.meter.channel.palette.hues) {
+            let held = self.write_cells(model, chroma);
+            self.ring_chroma(chroma);
+            return held;
+        }
+        0
+    }
 }

@@ -1,29 +1,24 @@
--- `plain_lumas` meets its contract: what is left from i on gives the same. Assumes nothing.
+-- `plain_lumas` meets its contract: the score of each module stands at its place. Assumes nothing.
 use mathlib.Core.Path.{◌≡◌}
-use mathlib.Core.List.{List}
-use borrow.Author.Rules.{rules}
-use Prim.Native.Nat.{ℕ}
-use lib.ListN.{set}
-use lib.Ieee.{Float}
-use Rattle.loops.proofs.Laws.{turn_to, loops}
-use Rattle.color.specs.declared.Linear.{Linear}
+use mathlib.Core.List.{List, ◌++◌}
+use Prim.Native.Nat.{ℕ, ◌≤◌, ◌<◌}
+use native.Mathlib.Omega.{arith}
+use lib.ListN.{length, get_or, take, drop}
+use lib.Seq.{length-take-le}
+use lib.Ieee.{Float, nan}
 use Rattle.color.specs.Color.{linear_to_lab}
 use Rattle.color.specs.Palette.{linear_at}
 use Rattle.stats.specs.declared.ChannelStats.{ChannelStats}
 use Rattle.stats.specs.Noise.{luma_llr}
-use Rattle.scores.specs.Score.{plain_luma}
+use Rattle.stats.proofs.Front.{front_replaced}
+use Rattle.scores.specs.Score.{plain_luma, plain_lumas}
 use Rattle.scores.proofs.plain_lumas.Goals as goal
 
-wrote : (n : ChannelStats) (colours : List Float) (i : ℕ) (luma : List Float) (c : Linear) (l v : Float) → v ≡ luma_llr n l → l ≡ (linear_to_lab c).l → c ≡ linear_at colours i →
-    set luma i v ≡ plain_luma n (linear_at colours) i luma
+all_written : (noise : ChannelStats) (colours : List Float) (n i : ℕ) (luma s : List Float) → n ≤ length luma → length s ≡ length (take n luma) → length (take n luma) ≤ i →
+    ((j : ℕ) → j < i → get_or s j nan ≡ luma_llr noise (linear_to_lab (linear_at colours j)).l) → s ++ drop n luma ≡ plain_lumas noise (linear_at colours) n luma
 unfolding plain_luma
-wrote n colours i luma c l v e el ec = rw (e, el, ec)
-
-pub loop-i-preserved : goal.loop-i-preserved
-loop-i-preserved c = (search rules, search (turn_to, wrote))
-
-pub loop-i-init : goal.loop-i-init
-loop-i-init c = search (loops, rules)
+all_written noise colours n i luma s l long past done =
+    front_replaced nan n (λ j v. luma_llr noise (linear_to_lab (linear_at colours j)).l) luma s l long (λ j q. done j (let p = length-take-le n luma l in omega arith))
 
 pub returns : goal.returns
-returns c = search (loops, rules)
+returns c = all_written _ _ _ _ _ _ c.requires.1 c.loop-i.auto.score-items c.loop-i-test.false c.loop-i.invariant

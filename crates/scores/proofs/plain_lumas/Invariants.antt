@@ -1,15 +1,12 @@
--- `plain_lumas` meets its contract: what is left from i on gives the same. Assumes nothing.
+-- `plain_lumas` meets its contract: the score of each module stands at its place. Assumes nothing.
 use mathlib.Core.Path.{◌≡◌}
-use Prim.Native.Nat.{◌-◌}
-use lib.ListN.{length}
-use Rattle.loops.proofs.Laws.{Left}
+use Prim.Native.Nat.{ℕ, ◌<◌}
+use lib.ListN.{get_or}
+use lib.Ieee.{nan}
+use Rattle.color.specs.Color.{linear_to_lab}
 use Rattle.color.specs.Palette.{linear_at}
-use Rattle.scores.specs.Score.{plain_luma, plain_lumas}
+use Rattle.stats.specs.Noise.{luma_llr}
 use Rattle.scores.proofs.plain_lumas.Given as goal
 
 abbrev pub invariant-loop-i : goal.invariant-loop-i
-invariant-loop-i l =
-    (length l.luma ≡ length l.initial.luma) × Left (plain_luma l.noise (linear_at l.colours)) l.n l.i l.luma (plain_lumas l.noise (linear_at l.colours) l.n l.initial.luma)
-
-abbrev pub decreases-loop-i : goal.decreases-loop-i
-decreases-loop-i l = l.n - l.i
+invariant-loop-i l = (j : ℕ) → j < l.i → get_or l.score-items j nan ≡ luma_llr l.noise (linear_to_lab (linear_at l.colours j)).l
