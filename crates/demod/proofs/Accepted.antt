@@ -23,12 +23,11 @@ use Rattle.illum.specs.Refusals.{bad_model}
 use Rattle.stats.specs.declared.ChannelStats.{ChannelStats}
 use Rattle.stats.specs.Calls.{short_palette, bad_noise_numbers, bad_numbers, bad_sigmas}
 use Rattle.stats.proofs.Passed.{palette-long}
-use Rattle.observed.specs.Ready.{Sampled}
+use Rattle.demod.specs.Ready.{Seen}
 use Rattle.demod.specs.declared.ScoreReport.{ScoreReport}
 use Rattle.answers.specs.Answers.{gives}
 use Rattle.demod.specs.Call.{bad_module_lengths, bad_cell_lengths, short_chroma, bad_lengths, bad_inputs, bad_corrected, Request, module_colours, cell_colours, sentences_of, report_of, turned_away, done, scored_of}
 use Rattle.observed.specs.Colours.{wild_colour_at, wild_colours}
-use Rattle.observed.proofs.Places.{exact_xs, exact_ys}
 
 equal : (a b : ℕ) → not (eqb a b) ≡ false → a ≡ b
 equal a b h = eqb-true a b (not-false (eqb a b) h)
@@ -65,6 +64,21 @@ lengths_in l xs ys raw cxs cys craw palette luma colours chroma h =
       chroma-long = ltb-false (length chroma) (chroma_length l.hues (length cxs) (ring_modules m l.grid) l.size) c.1;
     }
 
+-- past 7
+pub seen-in : (l : Layout) (xs ys : List ℤ) (raw : List Float) (cxs cys : List ℕ) (craw palette luma colours chroma : List Float) →
+    Shaped l → Lengths l xs ys raw cxs cys craw palette luma colours chroma → Placed l xs ys cxs cys → Seen l xs ys raw cxs cys craw
+seen-in l xs ys raw cxs cys craw palette luma colours chroma s g p =
+    record {
+      shaped = s;
+      placed = record { side-most = s.side-most; pairs = g.pairs.modules; places-good = p.places-good };
+      grid-most = p.grid-most;
+      most = p.modules-most;
+      raw-three = g.raw-three;
+      cells-pair = g.pairs.cells;
+      cells-most = p.cells-most;
+      craw-three = g.craw-three;
+    }
+
 -- 8
 pub record Inputs (raw : List Float) (m : ℕ) (craw : List Float) (c : ℕ) (n : ChannelStats) (palette : List Float) (hues : ℕ) : Type 0 where
   pub raw-tame : wild_in raw (3 * m) ≡ false
@@ -97,7 +111,7 @@ pub record Accepted (q : Request) : Type 0 where
   pub shaped : Shaped q.layout
   pub lengths : Lengths q.layout q.xs q.ys q.raw q.cxs q.cys q.craw q.palette q.luma q.colours q.chroma
   pub placed : Placed q.layout q.xs q.ys q.cxs q.cys
-  pub sampled : Sampled q.xs q.ys q.raw
+  pub seen : Seen q.layout q.xs q.ys q.raw q.cxs q.cys q.craw
   pub inputs : Inputs q.raw (length q.xs) q.craw (length q.cxs) q.noise q.palette q.layout.hues
   pub sigmas : bad_sigmas q.noise ≡ false
   pub model : bad_model q.model ≡ false
@@ -153,13 +167,7 @@ module _ (q : Request) where
           shaped = is_shaped;
           lengths = long;
           placed = is_placed;
-          sampled =
-              record {
-                pairs = long.pairs.modules;
-                xs_exact = exact_xs q.layout.side q.layout.grid q.xs q.ys is_shaped.side-most is_placed.places-good;
-                ys_exact = exact_ys q.layout.side q.layout.grid q.xs q.ys is_shaped.side-most is_placed.places-good;
-                raw-three = long.raw-three;
-              };
+          seen = seen-in q.layout q.xs q.ys q.raw q.cxs q.cys q.craw q.palette q.luma q.colours q.chroma is_shaped long is_placed;
           inputs = inputs_in q.raw (length q.xs) q.craw (length q.cxs) q.noise q.palette q.layout.hues (none 8);
           sigmas = none 9;
           model = none 10;

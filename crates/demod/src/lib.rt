@@ -8,210 +8,204 @@
 
 ghost use Rattle.std.specs.Prelude.{◌≡◌, ◌*◌, ◌≤◌, Ok, length};
 ghost use Rattle.sentences.specs.Sentences.{refusal};
-ghost use Rattle.layout.specs.Groups.{Shaped};
 ghost use Rattle.answers.specs.Answers.{outcome_number};
 ghost use Rattle.color.specs.Palette.{palette_len};
-ghost use Rattle.observed.specs.Colours.{module_colour, cell_colour};
-ghost use Rattle.observed.specs.Ready.{Sampled};
-ghost use Rattle.demod.specs.Ready.{Scorable};
+ghost use Rattle.observed.specs.Colours.{module_colour, cell_colour, wild_colours};
+ghost use Rattle.demod.specs.Ready.{Seen, Scorable};
 ghost use Rattle.demod.specs.Call as call;
 ghost use Rattle.demod.specs.Call.{request, sentences_of, final, done, scored_of};
 
 use answers::Refusal;
 use color::palette::wild_in;
 use illum::IlluminationModel;
-use layout::Layout;
-use stats::ChannelStats;
+use layout::{Cells, Layout, Modules};
+use observed::{SeenCells, SeenModules};
+use scores::{ChromaCard, Meter};
+use stats::{Channel, ChannelStats};
 
 // What `score` reports: how many modules and how many cells have a mark, a channel's gain, where they stand, being held at 0.05. A
 // ring module that carries chroma is one module. With chroma off no cell is corrected, and none has a mark.
 #[repr(C)]
-#[derive(Clone, Copy)]
+#[derive(Clone, Copy, Debug, PartialEq, Eq)]
 pub struct ScoreReport {
     pub held_modules: usize,
     pub held_cells: usize,
 }
 
+// A card as a call is handed it, before anything is known of it. Its lists are slices side by side, since the C interface lends them
+// so.
+#[derive(Clone, Copy)]
+struct Card<'a> {
+    layout: Layout,
+    xs: &'a [i32],
+    ys: &'a [i32],
+    raw: &'a [f32],
+    cxs: &'a [u16],
+    cys: &'a [u16],
+    craw: &'a [f32],
+    palette: &'a [f32],
+    model: IlluminationModel,
+    noise: ChannelStats,
+}
+
 // ---- the sentences
 
-// Sentence 5, of modules.
-#[tactic(auto, unfolding(crate::specs::Call::bad_module_lengths))]
-fn bad_module_lengths(xs: &[i32], ys: &[i32], raw: &[f32], luma: &[f32], colours: &[f32]) -> bool
-    ensures { result ≡ call.bad_module_lengths (length xs.now) (length ys.now) (length raw.now) (length luma.now) (length colours.now) }
-{
-    xs.len() != ys.len()
-        || raw.len() < 3 * xs.len()
-        || luma.len() < xs.len()
-        || colours.len() < 3 * xs.len()
-}
-
-// Sentence 5, of cells.
-#[tactic(auto, unfolding(crate::specs::Call::bad_cell_lengths))]
-fn bad_cell_lengths(cxs: &[u16], cys: &[u16], raw: &[f32]) -> bool
-    ensures { result ≡ call.bad_cell_lengths (length cxs.now) (length cys.now) (length raw.now) }
-{
-    cxs.len() != cys.len() || raw.len() < 3 * cxs.len()
-}
-
-// Sentence 5, of the chroma scores.
-#[tactic(auto, unfolding(crate::specs::Call::short_chroma))]
-fn short_chroma(layout: Layout, chroma: &[f32], modules: usize, cells: usize) -> bool
-    ensures { result ≡ call.short_chroma layout (length chroma.now) modules cells }
-{
-    let ring = limits::ring_modules(modules, layout.grid);
-    limits::below_chroma(chroma.len(), layout.hues, cells, ring, layout.size)
-}
-
-// Sentence 8, of the raw colours of m modules and c cells, of the palette and of the noise record.
-#[tactic(auto, unfolding(crate::specs::Call::bad_inputs))]
-fn bad_inputs(
-    raw: &[f32],
-    m: usize,
-    craw: &[f32],
-    c: usize,
-    noise: ChannelStats,
-    palette: &[f32],
-    hues: usize,
-) -> bool
-    requires { (3 * m ≤ length raw.now) × (3 * c ≤ length craw.now) × (palette_len hues ≤ length palette.now) }
-    ensures { result ≡ call.bad_inputs raw.now m craw.now c noise palette.now hues }
-{
-    wild_in(raw, 3 * m) || wild_in(craw, 3 * c) || stats::bad_numbers(noise, palette, hues)
-}
-
-// Sentence 12: of modules, and with chroma on of cells.
-#[tactic(auto, unfolding(crate::specs::Call::bad_corrected))]
-fn bad_corrected(
-    layout: Layout,
-    model: IlluminationModel,
-    xs: &[i32],
-    ys: &[i32],
-    raw: &[f32],
-    cxs: &[u16],
-    cys: &[u16],
-    craw: &[f32],
-) -> bool
-    requires { Shaped layout × Sampled xs.now ys.now raw.now × (length cxs.now ≡ length cys.now) × (3 * length cxs.now ≤ length craw.now) }
-    ensures { result ≡ call.bad_corrected layout.hues (module_colour model xs.now ys.now raw.now) (length xs.now) (cell_colour model layout.size cxs.now cys.now craw.now) (length cxs.now) }
-{
-    observed::bad_module_colours(model, xs, ys, raw)
-        || limits::chroma_on(layout.hues)
-            && observed::bad_cell_colours(model, layout.size, cxs, cys, craw)
-}
-
-// Sentence 5.
-#[tactic(auto, unfolding(crate::specs::Call::bad_lengths))]
-fn bad_lengths(
-    layout: Layout,
-    xs: &[i32],
-    ys: &[i32],
-    raw: &[f32],
-    cxs: &[u16],
-    cys: &[u16],
-    craw: &[f32],
-    palette: &[f32],
-    luma: &[f32],
-    colours: &[f32],
-    chroma: &[f32],
-) -> bool
-    ensures { result ≡ call.bad_lengths layout xs.now ys.now raw.now cxs.now cys.now craw.now palette.now luma.now colours.now chroma.now }
-{
-    bad_module_lengths(xs, ys, raw, luma, colours)
-        || bad_cell_lengths(cxs, cys, craw)
-        || stats::short_palette(palette, layout.hues)
-        || short_chroma(layout, chroma, xs.len(), cxs.len())
-}
-
-// Whether a card passes that is scored. Refused: 2, 3, 4, 5, 6, 7, 8, 9, 10, 12.
-fn check(
-    layout: Layout,
-    xs: &[i32],
-    ys: &[i32],
-    raw: &[f32],
-    cxs: &[u16],
-    cys: &[u16],
-    craw: &[f32],
-    palette: &[f32],
-    model: IlluminationModel,
-    noise: ChannelStats,
-    luma: &[f32],
-    colours: &[f32],
-    chroma: &[f32],
-) -> Result<(), Refusal>
-    ensures { outcome_number result ≡ refusal (sentences_of (request layout xs.now ys.now raw.now cxs.now cys.now craw.now palette.now model noise luma.now colours.now chroma.now)) }
-{
-    layout::check_shape(layout)?;
-    if bad_lengths(
-        layout, xs, ys, raw, cxs, cys, craw, palette, luma, colours, chroma,
-    ) {
-        return Err(Refusal::Length);
+impl<'a> Card<'a> {
+    // Sentence 5, of modules.
+    #[tactic(auto, unfolding(crate::specs::Call::bad_module_lengths))]
+    fn bad_module_lengths(&self, luma: &[f32], colours: &[f32]) -> bool
+        ensures { result ≡ call.bad_module_lengths (length self.now.xs.now) (length self.now.ys.now) (length self.now.raw.now) (length luma.now) (length colours.now) }
+    {
+        self.xs.len() != self.ys.len()
+            || self.raw.len() < 3 * self.xs.len()
+            || luma.len() < self.xs.len()
+            || colours.len() < 3 * self.xs.len()
     }
-    layout::check_placement(layout, xs, ys, cxs, cys)?;
-    if bad_inputs(raw, xs.len(), craw, cxs.len(), noise, palette, layout.hues) {
-        return Err(Refusal::Number);
+
+    // Sentence 5, of cells.
+    #[tactic(auto, unfolding(crate::specs::Call::bad_cell_lengths))]
+    fn bad_cell_lengths(&self) -> bool
+        ensures { result ≡ call.bad_cell_lengths (length self.now.cxs.now) (length self.now.cys.now) (length self.now.craw.now) }
+    {
+        self.cxs.len() != self.cys.len() || self.craw.len() < 3 * self.cxs.len()
     }
-    if stats::bad_sigmas(noise) {
-        return Err(Refusal::Sigma);
+
+    // Sentence 5, of the chroma scores.
+    #[tactic(auto, unfolding(crate::specs::Call::short_chroma))]
+    fn short_chroma(&self, chroma: &[f32]) -> bool
+        ensures { result ≡ call.short_chroma self.now.layout (length chroma.now) (length self.now.xs.now) (length self.now.cxs.now) }
+    {
+        let layout = self.layout;
+        let ring = limits::ring_modules(self.xs.len(), layout.grid);
+        limits::below_chroma(chroma.len(), layout.hues, self.cxs.len(), ring, layout.size)
     }
-    if illum::bad_model(model) {
-        return Err(Refusal::Model);
+
+    // Sentence 5.
+    #[tactic(auto, unfolding(crate::specs::Call::bad_lengths))]
+    fn bad_lengths(&self, luma: &[f32], colours: &[f32], chroma: &[f32]) -> bool
+        ensures { let c = self.now in result ≡ call.bad_lengths c.layout c.xs.now c.ys.now c.raw.now c.cxs.now c.cys.now c.craw.now c.palette.now luma.now colours.now chroma.now }
+    {
+        self.bad_module_lengths(luma, colours)
+            || self.bad_cell_lengths()
+            || stats::short_palette(self.palette, self.layout.hues)
+            || self.short_chroma(chroma)
     }
-    if bad_corrected(layout, model, xs, ys, raw, cxs, cys, craw) {
-        return Err(Refusal::Corrected);
+
+    // Sentence 8, of the raw colours of modules and cells, of the palette and of the noise record.
+    #[tactic(auto, unfolding(crate::specs::Call::bad_inputs))]
+    fn bad_inputs(&self) -> bool
+        requires { (3 * length self.now.xs.now ≤ length self.now.raw.now) × (3 * length self.now.cxs.now ≤ length self.now.craw.now) × (palette_len self.now.layout.hues ≤ length self.now.palette.now) }
+        ensures { let c = self.now in result ≡ call.bad_inputs c.raw.now (length c.xs.now) c.craw.now (length c.cxs.now) c.noise c.palette.now c.layout.hues }
+    {
+        wild_in(self.raw, 3 * self.xs.len())
+            || wild_in(self.craw, 3 * self.cxs.len())
+            || Channel::new(self.noise, self.palette, self.layout.hues).has_bad_numbers()
     }
-    Ok(())
+
+    // Its modules with their colours, where 2 to 7 are passed.
+    fn modules(&self) -> SeenModules<'a>
+        requires { let c = self.now in Seen c.layout c.xs.now c.ys.now c.raw.now c.cxs.now c.cys.now c.craw.now }
+        ensures places { let m = result.modules in (m.side ≡ self.now.layout.side) × (m.grid ≡ self.now.layout.grid) × (m.xs.now ≡ self.now.xs.now) × (m.ys.now ≡ self.now.ys.now) }
+        ensures colours { result.raw.now ≡ self.now.raw.now }
+    {
+        SeenModules {
+            modules: Modules::new(self.layout.side, self.layout.grid, self.xs, self.ys),
+            raw: self.raw,
+        }
+    }
+
+    // Its cells with theirs.
+    fn cells(&self) -> SeenCells<'a>
+        requires { let c = self.now in Seen c.layout c.xs.now c.ys.now c.raw.now c.cxs.now c.cys.now c.craw.now }
+        ensures places { (result.size ≡ self.now.layout.size) × (result.cells.cxs.now ≡ self.now.cxs.now) × (result.cells.cys.now ≡ self.now.cys.now) }
+        ensures colours { result.raw.now ≡ self.now.craw.now }
+    {
+        SeenCells {
+            size: self.layout.size,
+            cells: Cells::new(self.cxs, self.cys),
+            raw: self.craw,
+        }
+    }
+
+    // Sentence 12, of modules.
+    #[tactic(auto, using(crate::proofs::Wild::wild_modules))]
+    fn wild_modules(&self) -> bool
+        requires { let c = self.now in Seen c.layout c.xs.now c.ys.now c.raw.now c.cxs.now c.cys.now c.craw.now }
+        ensures { let c = self.now in result ≡ wild_colours (module_colour c.model c.xs.now c.ys.now c.raw.now) (length c.xs.now) }
+    {
+        observed::any_wild(self.model, &self.modules())
+    }
+
+    // Sentence 12, of cells.
+    #[tactic(auto, using(crate::proofs::Wild::wild_cells))]
+    fn wild_cells(&self) -> bool
+        requires { let c = self.now in Seen c.layout c.xs.now c.ys.now c.raw.now c.cxs.now c.cys.now c.craw.now }
+        ensures { let c = self.now in result ≡ wild_colours (cell_colour c.model c.layout.size c.cxs.now c.cys.now c.craw.now) (length c.cxs.now) }
+    {
+        observed::any_wild(self.model, &self.cells())
+    }
+
+    // Sentence 12: of modules, and with chroma on of cells.
+    #[tactic(auto, unfolding(crate::specs::Call::bad_corrected))]
+    fn bad_corrected(&self) -> bool
+        requires { let c = self.now in Seen c.layout c.xs.now c.ys.now c.raw.now c.cxs.now c.cys.now c.craw.now }
+        ensures { let c = self.now in result ≡ call.bad_corrected c.layout.hues (module_colour c.model c.xs.now c.ys.now c.raw.now) (length c.xs.now) (cell_colour c.model c.layout.size c.cxs.now c.cys.now c.craw.now) (length c.cxs.now) }
+    {
+        self.wild_modules() || limits::chroma_on(self.layout.hues) && self.wild_cells()
+    }
+
+    // Whether it passes, to be scored into these lists. Refused: 2, 3, 4, 5, 6, 7, 8, 9, 10, 12.
+    fn check(&self, luma: &[f32], colours: &[f32], chroma: &[f32]) -> Result<(), Refusal>
+        ensures { let c = self.now in outcome_number result ≡ refusal (sentences_of (request c.layout c.xs.now c.ys.now c.raw.now c.cxs.now c.cys.now c.craw.now c.palette.now c.model c.noise luma.now colours.now chroma.now)) }
+    {
+        layout::check_shape(self.layout)?;
+        if self.bad_lengths(luma, colours, chroma) {
+            return Err(Refusal::Length);
+        }
+        layout::check_placement(self.layout, self.xs, self.ys, self.cxs, self.cys)?;
+        if self.bad_inputs() {
+            return Err(Refusal::Number);
+        }
+        if stats::bad_sigmas(self.noise) {
+            return Err(Refusal::Sigma);
+        }
+        if illum::bad_model(self.model) {
+            return Err(Refusal::Model);
+        }
+        if self.bad_corrected() {
+            return Err(Refusal::Corrected);
+        }
+        Ok(())
+    }
 }
 
 // ---- the call
 
-// Writes what an accepted call writes: the modules' colours and luma scores, and then the chroma scores. Says what the call reports.
-fn write_scores(
-    layout: Layout,
-    xs: &[i32],
-    ys: &[i32],
-    raw: &[f32],
-    cxs: &[u16],
-    cys: &[u16],
-    craw: &[f32],
-    palette: &[f32],
-    model: IlluminationModel,
-    noise: ChannelStats,
-    luma: &mut [f32],
-    colours: &mut [f32],
-    chroma: &mut [f32],
-) -> ScoreReport
-    requires { Scorable layout xs.now ys.now raw.now cxs.now cys.now craw.now palette.now luma.old colours.old chroma.old }
-    ensures { final (Ok result) luma.new colours.new chroma.new ≡ done (request layout xs.now ys.now raw.now cxs.now cys.now craw.now palette.now model noise luma.old colours.old chroma.old) }
-{
-    let sigmas = scores::sigmas_of(noise, palette, layout.hues);
-    let held_modules = scores::write_modules(
-        noise,
-        palette,
-        layout.hues,
-        &sigmas,
-        model,
-        xs,
-        ys,
-        raw,
-        luma,
-        colours,
-    );
-    let held_cells = scores::write_chroma(
-        layout,
-        noise,
-        palette,
-        &sigmas,
-        model,
-        colours,
-        xs.len(),
-        cxs,
-        cys,
-        craw,
-        chroma,
-    );
-    ScoreReport {
-        held_modules,
-        held_cells,
+impl Card<'_> {
+    // Writes what an accepted call writes: the modules' colours and luma scores, and then the chroma scores. Says what the call reports.
+    fn write_scores(
+        &self,
+        luma: &mut [f32],
+        colours: &mut [f32],
+        chroma: &mut [f32],
+    ) -> ScoreReport
+        requires { let c = self.now in Scorable c.layout c.xs.now c.ys.now c.raw.now c.cxs.now c.cys.now c.craw.now c.palette.now luma.old colours.old chroma.old }
+        ensures { let c = self.now in final (Ok result) luma.new colours.new chroma.new ≡ done (request c.layout c.xs.now c.ys.now c.raw.now c.cxs.now c.cys.now c.craw.now c.palette.now c.model c.noise luma.old colours.old chroma.old) }
+    {
+        let meter = Meter::new(Channel::new(self.noise, self.palette, self.layout.hues));
+        let seen = self.modules();
+        let held_modules = meter.write_modules(self.model, &seen, luma, colours);
+        let card = ChromaCard {
+            meter,
+            seen: self.cells(),
+            modules: seen.modules,
+            colours,
+        };
+        let held_cells = card.write(self.model, chroma);
+        ScoreReport {
+            held_modules,
+            held_cells,
+        }
     }
 }
 
@@ -237,10 +231,18 @@ pub fn score(
 ) -> Result<ScoreReport, Refusal>
     ensures { final result luma.new colours.new chroma.new ≡ scored_of (request layout xs.now ys.now raw.now cxs.now cys.now craw.now palette.now model noise luma.old colours.old chroma.old) }
 {
-    check(
-        layout, xs, ys, raw, cxs, cys, craw, palette, model, noise, luma, colours, chroma,
-    )?;
-    Ok(write_scores(
-        layout, xs, ys, raw, cxs, cys, craw, palette, model, noise, luma, colours, chroma,
-    ))
+    let card = Card {
+        layout,
+        xs,
+        ys,
+        raw,
+        cxs,
+        cys,
+        craw,
+        palette,
+        model,
+        noise,
+    };
+    card.check(luma, colours, chroma)?;
+    Ok(card.write_scores(luma, colours, chroma))
 }

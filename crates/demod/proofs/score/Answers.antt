@@ -34,13 +34,10 @@ scorable layout xs ys raw cxs cys craw palette model noise luma colours chroma e
     let a = accepted (request layout xs ys raw cxs cys craw palette model noise luma colours chroma) e in
     let l = a.lengths in
     record {
-      shaped = a.shaped;
-      sampled = a.sampled;
-      modules = record { grid-most = a.placed.grid-most; most = a.placed.modules-most; colours-three = l.places };
-      cells = record { pairs = l.pairs.cells; most = a.placed.cells-most };
-      craw-three = l.craw-three;
+      seen = a.seen;
       palette-long = l.palette-long;
       luma-long = l.scores;
+      colours-three = l.places;
       chroma-long = l.chroma-long;
     }
 

@@ -9,15 +9,14 @@ use lib.Ieee.{Float}
 use Rattle.sentences.specs.Sentences.{refusal}
 use Rattle.sentences.proofs.Laws.{sentences}
 use Rattle.layout.specs.declared.Layout.{Layout}
-use Rattle.layout.specs.Groups.{shape, placement, Shaped, Placed}
+use Rattle.layout.specs.Groups.{shape, placement}
 use Rattle.answers.proofs.Answers.{ahead_on}
 use Rattle.layout.proofs.Laws.{shape-sound, shaped, placed, layouts}
 use Rattle.color.specs.Palette.{palette_len}
-use Rattle.observed.specs.Colours.{Exact}
+use Rattle.demod.specs.Ready.{Seen}
 use Rattle.demod.specs.Call.{bad_lengths, sentences_of}
-use Rattle.observed.proofs.Places.{exact_xs, exact_ys}
-use Rattle.demod.proofs.Accepted.{Lengths, lengths_in}
-use Rattle.demod.proofs.check.Goals as goal
+use Rattle.demod.proofs.Accepted.{Lengths, lengths_in, seen-in}
+use Rattle.demod.proofs.Card.check.Goals as goal
 
 module _ (l : Layout) (xs ys : List ℤ) (raw : List Float) (cxs cys : List ℕ) (craw palette luma colours chroma : List Float) (r : Bool)
     (e : r ≡ bad_lengths l xs ys raw cxs cys craw palette luma colours chroma) (f : r ≡ false) where
@@ -39,19 +38,8 @@ module _ (l : Layout) (xs ys : List ℤ) (raw : List Float) (cxs cys : List ℕ)
   palette-long : palette_len l.hues ≤ length palette
   palette-long = long.palette-long
 
-module _ (l : Layout) (xs ys : List ℤ) (cxs cys : List ℕ) (s : Shaped l) (p : Placed l xs ys cxs cys) where
-  x_in : Exact xs (length xs)
-  x_in = exact_xs l.side l.grid xs ys s.side-most p.places-good
-
-  y_in : Exact ys (length xs)
-  y_in = exact_ys l.side l.grid xs ys s.side-most p.places-good
-
-module _ (l : Layout) (xs ys : List ℤ) (cxs cys : List ℕ) (e : 0 ≡ refusal (shape l)) (f : 0 ≡ refusal (placement l xs ys cxs cys)) where
-  x_exact : Exact xs (length xs)
-  x_exact = x_in l xs ys cxs cys (shaped l 0 e refl) (placed l xs ys cxs cys 0 f refl)
-
-  y_exact : Exact ys (length xs)
-  y_exact = y_in l xs ys cxs cys (shaped l 0 e refl) (placed l xs ys cxs cys 0 f refl)
+  is_seen : 0 ≡ refusal (shape l) → 0 ≡ refusal (placement l xs ys cxs cys) → Seen l xs ys raw cxs cys craw
+  is_seen s p = seen-in l xs ys raw cxs cys craw palette luma colours chroma (shaped l 0 s refl) long (placed l xs ys cxs cys 0 p refl)
 
 pub check_placement-requires : goal.check_placement-requires
 check_placement-requires c = (shaped _ 0 c.in_ok-check_shape.ensures refl, record { modules = search (modules-pair); cells = search (cells-pair) })
@@ -60,10 +48,7 @@ pub bad_inputs-requires : goal.bad_inputs-requires
 bad_inputs-requires c = (search (raw-three), search (craw-three), search (palette-long))
 
 pub bad_corrected-requires : goal.bad_corrected-requires
-bad_corrected-requires c =
-    let s = c.in_ok-check_shape.ensures in
-    let p = c.in_ok-check_placement.ensures in
-    (shaped _ 0 s refl, record { pairs = search (modules-pair); xs_exact = x_exact _ _ _ _ _ s p; ys_exact = y_exact _ _ _ _ _ s p; raw-three = search (raw-three) }, search (cells-pair), search (craw-three))
+bad_corrected-requires c = is_seen _ _ _ _ _ _ _ _ _ _ _ _ c.bad_lengths.ensures c.if-bad_lengths.false c.in_ok-check_shape.ensures c.in_ok-check_placement.ensures
 
 pub returns-in_err-check_shape : goal.returns-in_err-check_shape
 unfolding sentences_of

@@ -19,7 +19,7 @@ use Rattle.answers.specs.Answers.{gives}
 use Rattle.demod.specs.Call.{Request, request, module_colours, cell_colours, report_of, answering, final, done, written_modules}
 use Rattle.scores.proofs.Written.{modules_are}
 use Rattle.scores.proofs.Apart.{chroma_same}
-use Rattle.demod.proofs.write_scores.Goals as goal
+use Rattle.demod.proofs.Card.write_scores.Goals as goal
 
 module _ (layout : Layout) (xs ys : List ℤ) (raw : List Float) (cxs cys : List ℕ) (craw palette : List Float) (model : IlluminationModel) (noise : ChannelStats) (luma colours chroma : List Float)
     (s : Scorable layout xs ys raw cxs cys craw palette luma colours chroma) (luma' colours' chroma' : List Float) where
@@ -37,7 +37,7 @@ module _ (layout : Layout) (xs ys : List ℤ) (raw : List Float) (cxs cys : List
     colour_is : (j : ℕ) → j < length xs → linear_at colours' j ≡ module_colours q j
     colour_is j i =
         ap (λ (s : Sheet). linear_at s.colours j) h
-        ∙ (modules_are noise palette layout.hues (module_colours q) luma colours (length xs) s.luma-long s.modules.colours-three).coloured j i
+        ∙ (modules_are noise palette layout.hues (module_colours q) luma colours (length xs) s.luma-long s.colours-three).coloured j i
 
     wrote : (a b : ℕ) → a ≡ held_module_count model xs ys (length xs) → b ≡ chroma_held layout model cxs cys
         → chroma' ≡ chroma_written layout noise palette (linear_at colours') (length xs) cxs cys (cell_colours q) chroma → final (Ok (report a b)) luma' colours' chroma' ≡ done q
@@ -46,12 +46,13 @@ module _ (layout : Layout) (xs ys : List ℤ) (raw : List Float) (cxs cys : List
         ∙ ap (λ (s : Sheet). answering (gives (report_of q)) s.luma s.colours chroma') h
         ∙ ap (answering (gives (report_of q)) (written_modules q).luma (written_modules q).colours) (k ∙ chroma_same layout noise palette (linear_at colours') (module_colours q) (length xs) cxs cys (cell_colours q) chroma colour_is)
 
-pub sigmas_of-sigmas-requires : goal.sigmas_of-sigmas-requires
-sigmas_of-sigmas-requires c = record { hues-good = search rules; palette-long = search rules }
-
-pub write_chroma-held_cells-requires : goal.write_chroma-held_cells-requires
-write_chroma-held_cells-requires c =
-    (record { shaped = search rules; tables = search rules; cells = search rules }, record { grid-most = search rules; most = search rules; colours-three = search rules }, search rules, search rules)
-
 pub returns : goal.returns
-returns c = search (wrote)
+returns c =
+    let n = c.new.ensures in
+    let t = c.new-meter.ensures in
+    let p = c.modules-seen.ensures.places in
+    let r = c.modules-seen.ensures.colours in
+    let k = c.cells.ensures.places in
+    let m = rw (t, n.0, n.1, n.2, p.2, p.3, r) at c.write_modules-held_modules.ensures in
+    let e = rw (t, n.0, n.1, n.2, p.0, p.1, p.2, k.0, k.1, k.2, c.cells.ensures.colours) at c.write-held_cells.ensures in
+    wrote _ _ _ _ _ _ _ _ _ _ _ _ _ c.requires _ _ _ m.0 _ _ m.1 e.1 e.0
