@@ -183,12 +183,7 @@ impl<'a> Card<'a> {
 
 impl Card<'_> {
     // Writes what an accepted call writes: the modules' colours and luma scores, and then the chroma scores. Says what the call reports.
-    fn write_scores(
-        &self,
-        luma: &mut [f32],
-        colours: &mut [f32],
-        chroma: &mut [f32],
-    ) -> ScoreReport
+    fn write_scores(&self, luma: &mut [f32], colours: &mut [f32], chroma: &mut [f32]) -> ScoreReport
         requires { let c = self.now in Scorable c.layout c.xs.now c.ys.now c.raw.now c.cxs.now c.cys.now c.craw.now c.palette.now luma.old colours.old chroma.old }
         ensures { let c = self.now in final (Ok result) luma.new colours.new chroma.new ≡ done (request c.layout c.xs.now c.ys.now c.raw.now c.cxs.now c.cys.now c.craw.now c.palette.now c.model c.noise luma.old colours.old chroma.old) }
     {

@@ -1,4 +1,3 @@
--- `Entries` is lists of one or three numbers an entry, `Colours` the modules' and cells' colours as they were observed and as they are corrected, `Ready` what its functions ask.
+-- `Entries` is lists of a number, three or a Lab an entry, and `Colours` the modules' and cells' colours as they were observed and as they are corrected.
 pub mod Entries
 pub mod Colours
-pub mod Ready

@@ -32,6 +32,7 @@ pub struct Spot {
 // Core: colours that were observed, each at its spot.
 pub trait Spots {
     ghost count: { Self → ℕ };
+
     ghost spots: { Self → ℕ → Spot };
 
     // How many there are.
@@ -73,6 +74,7 @@ pub struct SeenModules<'a> {
 // A module's colour stands at its centre.
 impl Spots for SeenModules<'_> {
     ghost count = { λ m. length m.modules.xs.now };
+
     ghost spots = { λ m. spec.module_spot m.modules.xs.now m.modules.ys.now m.raw.now };
 
     fn len(&self) -> usize {
@@ -103,6 +105,7 @@ pub struct SeenCells<'a> {
 // A cell's colour stands at its centre.
 impl Spots for SeenCells<'_> {
     ghost count = { λ c. length c.cells.cxs.now };
+
     ghost spots = { λ c. spec.cell_spot c.size c.cells.cxs.now c.cells.cys.now c.raw.now };
 
     fn len(&self) -> usize {

@@ -17,10 +17,9 @@ use illum::IlluminationModel;
 use layout::Modules;
 use modulate::Cell;
 use observed::{SeenCells, SeenModules};
+pub use samples::Meter;
 use samples::Samples;
 use stats::ChannelStats;
-
-pub use samples::Meter;
 
 mod samples;
 
@@ -187,7 +186,13 @@ impl ChromaCard<'_> {
     {
         for j in 0..samples.n {
             let e = first + j;
-            self.meter.write_entry(self.drawn_at(e), samples.labs[j], samples.weights[j], e, chroma);
+            self.meter.write_entry(
+                self.drawn_at(e),
+                samples.labs[j],
+                samples.weights[j],
+                e,
+                chroma,
+            );
         }
     }
 
@@ -233,7 +238,11 @@ impl ChromaCard<'_> {
             chroma.new ≡ spec.ring_block c.noise c.palette.numbers.now c.palette.hues (length self.now.seen.cells.cxs.now) self.now.modules.grid (linear_at self.now.colours.now) from n chroma.old }
     {
         let first = self.seen.cells.len() + (from - self.modules.grid);
-        self.put_entries(&Samples::of(&self.meter, self.colours, from, n), first, chroma);
+        self.put_entries(
+            &Samples::of(&self.meter, self.colours, from, n),
+            first,
+            chroma,
+        );
     }
 
     // The chroma scores of the ring modules, those that are listed after the grid modules.
