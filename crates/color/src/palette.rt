@@ -83,6 +83,14 @@ impl<'a> Palette<'a> {
         2 * self.hues
     }
 
+    // Core: the place of the light colour of hue h; that of the dark one is h.
+    pub fn light(&self, h: usize) -> usize
+        requires { h < self.now.hues }
+        ensures { (result ≡ self.now.hues + h) × (result < 2 * self.now.hues) }
+    {
+        self.hues + h
+    }
+
     // Core: the mean lightness of the dark level, 0, or of the light one, 1.
     #[tactic(auto, unfolding(crate::specs::Palette::level_l))]
     pub fn level(&self, level: usize) -> f32

@@ -2,16 +2,15 @@
 // colours lie within half a sigma of its drawn ones is read as it was drawn.
 #![tactic(auto)]
 
-ghost use Rattle.std.specs.Prelude.{◌≡◌, ◌*◌, ◌<◌, ◌≤◌, length};
+ghost use Rattle.std.specs.Prelude.{◌≡◌, ◌*◌, ◌<◌};
 ghost use Rattle.answers.specs.Answers.{said};
-ghost use Rattle.color.specs.Palette.{palette_len};
 ghost use Rattle.margin.specs.Margin as spec;
 ghost use Rattle.margin.specs.Calls as call;
 
 use answers::Refusal;
 use color::Lab;
-use color::palette::{hue_ab, palette_lab};
-use stats::ChannelStats;
+use color::palette::Palette;
+use stats::{Channel, ChannelStats};
 
 // The settings of the margin check: how far from 0 the luma score of every palette colour must lie half a
 // sigma off. Thirteen is document 01's; Nine is the second one, of which the read guarantee asks besides
@@ -54,171 +53,155 @@ fn sigmas_fit(noise: ChannelStats) -> bool
         && noise.sigma_ab_light <= 1000.0
 }
 
-// What the check reads: a noise record, and a palette that has the numbers of its hues.
-#[derive(Clone, Copy)]
-struct Channel<'a> {
-    noise: ChannelStats,
-    palette: &'a [f32],
-    hues: usize,
-    ghost long: { palette_len hues ≤ length palette.now },
-}
+// ---- what the check reads of a channel
 
-impl Channel<'_> {
-    // Whether the L of palette colour i is at most 256 in magnitude.
-    #[tactic(auto, unfolding(crate::specs::Margin::colour_fits))]
-    fn colour_fits(&self, i: usize) -> bool
-        requires { i < 2 * self.now.hues }
-        ensures { result ≡ spec.colour_fits self.now.palette.now self.now.hues i }
-    {
-        level_fits(palette_lab(self.palette, self.hues, i).l)
-    }
+// Facts: a hue or a colour's place comes from the loop over all of them, which is its bound; a struct of a place and its palette
+// would be as many words at each use.
 
-    // Whether the L of every palette colour is.
-    fn colours_fit(&self) -> bool
-        ensures { result ≡ spec.colours_fit self.now.palette.now self.now.hues }
-    {
-        (0..2 * self.hues).all(|i| self.colour_fits(i))
-    }
-
-    // Whether l0, l1 and the L of every palette colour are.
-    #[tactic(auto, unfolding(crate::specs::Margin::levels_fit))]
-    fn levels_fit(&self) -> bool
-        ensures { result ≡ spec.levels_fit self.now.noise self.now.palette.now self.now.hues }
-    {
-        level_fits(self.noise.l0) && level_fits(self.noise.l1) && self.colours_fit()
-    }
-
-    // Whether the dark colour of hue h, half a sigma up, still scores the threshold.
-    #[tactic(auto, using(crate::proofs::Literals::literals), unfolding(crate::specs::Margin::dark_clear))]
-    fn dark_clear(&self, threshold: f32, h: usize) -> bool
-        requires { h < self.now.hues }
-        ensures { result ≡ spec.dark_clear threshold self.now.noise self.now.palette.now self.now.hues h }
-    {
-        let c = palette_lab(self.palette, self.hues, h);
-        threshold <= self.noise.luma_llr_of(c.l + self.noise.sigma_l / 2.0)
-    }
-
-    // Whether that of every hue does.
-    fn darks_clear(&self, threshold: f32) -> bool
-        ensures { result ≡ spec.darks_clear threshold self.now.noise self.now.palette.now self.now.hues }
-    {
-        (0..self.hues).all(|h| self.dark_clear(threshold, h))
-    }
-
-    // Whether the light colour of hue h, half a sigma down, still scores minus the threshold.
-    #[tactic(auto, using(crate::proofs::Literals::literals), unfolding(crate::specs::Margin::light_clear))]
-    fn light_clear(&self, threshold: f32, h: usize) -> bool
-        requires { h < self.now.hues }
-        ensures { result ≡ spec.light_clear threshold self.now.noise self.now.palette.now self.now.hues h }
-    {
-        let c = palette_lab(self.palette, self.hues, self.hues + h);
-        self.noise.luma_llr_of(c.l - self.noise.sigma_l / 2.0) <= -threshold
-    }
-
-    // Whether that of every hue does.
-    fn lights_clear(&self, threshold: f32) -> bool
-        ensures { result ≡ spec.lights_clear threshold self.now.noise self.now.palette.now self.now.hues }
-    {
-        (0..self.hues).all(|h| self.light_clear(threshold, h))
-    }
-
-    // Whether a and b of a colour differ from the point of hue h by at most s.
-    #[tactic(auto, unfolding(crate::specs::Margin::near))]
-    fn near(&self, c: Lab, s: f32, h: usize) -> bool
-        requires { h < self.now.hues }
-        ensures { result ≡ spec.near self.now.palette.now c s h }
-    {
-        let point = hue_ab(self.palette, self.hues, h);
-        float::abs(c.a - point.a) <= s && float::abs(c.b - point.b) <= s
-    }
-
-    // Whether a or b differs from it by more than 4 × s.
-    #[tactic(auto, using(crate::proofs::Literals::literals), unfolding(crate::specs::Margin::far))]
-    fn far(&self, c: Lab, s: f32, h: usize) -> bool
-        requires { h < self.now.hues }
-        ensures { result ≡ spec.far self.now.palette.now c s h }
-    {
-        let point = hue_ab(self.palette, self.hues, h);
-        4.0 * s < float::abs(c.a - point.a) || 4.0 * s < float::abs(c.b - point.b)
-    }
-
-    // Whether h is the colour's own hue, or the colour is far from h.
-    #[tactic(auto, unfolding(crate::specs::Margin::other_far))]
-    fn other_far(&self, c: Lab, s: f32, own: usize, h: usize) -> bool
-        requires { h < self.now.hues }
-        ensures { result ≡ spec.other_far self.now.palette.now c s own h }
-    {
-        h == own || self.far(c, s, h)
-    }
-
-    // Whether the colour is far from every hue but its own.
-    fn others_far(&self, c: Lab, s: f32, own: usize) -> bool
-        ensures { result ≡ spec.others_far self.now.palette.now self.now.hues c s own }
-    {
-        (0..self.hues).all(|h| self.other_far(c, s, own, h))
-    }
-
-    // Whether palette colour i is near the point of its own hue and far from every other.
-    #[tactic(auto, unfolding(crate::specs::Margin::apart))]
-    fn apart(&self, i: usize, own: usize) -> bool
-        requires { (i < 2 * self.now.hues) × (own < self.now.hues) }
-        ensures { result ≡ spec.apart self.now.noise self.now.palette.now self.now.hues i own }
-    {
-        let c = palette_lab(self.palette, self.hues, i);
-        let s = self.noise.sigma_ab_of(c.l);
-        self.near(c, s, own) && self.others_far(c, s, own)
-    }
-
-    // Whether both colours of hue h are.
-    #[tactic(auto, unfolding(crate::specs::Margin::hue_clear))]
-    fn hue_clear(&self, h: usize) -> bool
-        requires { h < self.now.hues }
-        ensures { result ≡ spec.hue_clear self.now.noise self.now.palette.now self.now.hues h }
-    {
-        self.apart(h, h) && self.apart(self.hues + h, h)
-    }
-
-    // Whether both colours of every hue are.
-    fn hues_clear(&self) -> bool
-        ensures { result ≡ spec.hues_clear self.now.noise self.now.palette.now self.now.hues }
-    {
-        (0..self.hues).all(|h| self.hue_clear(h))
-    }
-
-    // With chroma on, whether the colours of every hue are.
-    #[tactic(auto, unfolding(crate::specs::Margin::chroma_clear))]
-    fn chroma_clear(&self) -> bool
-        ensures { result ≡ spec.chroma_clear self.now.noise self.now.palette.now self.now.hues }
-    {
-        !limits::chroma_on(self.hues) || self.hues_clear()
-    }
-
-    // The whole check at a threshold.
-    #[tactic(auto, unfolding(crate::specs::Margin::in_margin))]
-    fn clear(&self, threshold: f32) -> bool
-        ensures { result ≡ spec.in_margin threshold self.now.noise self.now.palette.now self.now.hues }
-    {
-        self.noise.l0 < self.noise.l1
-            && self.levels_fit()
-            && sigmas_fit(self.noise)
-            && self.darks_clear(threshold)
-            && self.lights_clear(threshold)
-            && self.chroma_clear()
-    }
-}
-
-// Core: the margin check at any threshold, of a palette that is long enough.
-pub fn in_margin(threshold: f32, noise: ChannelStats, palette: &[f32], hues: usize) -> bool
-    requires { palette_len hues ≤ length palette.now }
-    ensures { result ≡ spec.in_margin threshold noise palette.now hues }
+// Whether the L of palette colour i is at most 256 in magnitude.
+#[tactic(auto, unfolding(crate::specs::Margin::colour_fits))]
+fn colour_fits(palette: &Palette, i: usize) -> bool
+    requires { i < 2 * palette.now.hues }
+    ensures { result ≡ spec.colour_fits palette.now.numbers.now palette.now.hues i }
 {
-    Channel {
-        noise,
-        palette,
-        hues,
-    }
-    .clear(threshold)
+    level_fits(palette.lab(i).l)
 }
+
+// Whether the L of every palette colour is.
+fn colours_fit(palette: &Palette) -> bool
+    ensures { result ≡ spec.colours_fit palette.now.numbers.now palette.now.hues }
+{
+    (0..2 * palette.hues).all(|i| colour_fits(palette, i))
+}
+
+// Whether l0, l1 and the L of every palette colour are.
+#[tactic(auto, unfolding(crate::specs::Margin::levels_fit))]
+fn levels_fit(channel: &Channel) -> bool
+    ensures { result ≡ spec.levels_fit channel.now.noise channel.now.palette.numbers.now channel.now.palette.hues }
+{
+    level_fits(channel.noise.l0) && level_fits(channel.noise.l1) && colours_fit(&channel.palette)
+}
+
+// Whether the dark colour of hue h, half a sigma up, still scores the threshold.
+#[tactic(auto, using(crate::proofs::Literals::literals), unfolding(crate::specs::Margin::dark_clear))]
+fn dark_clear(channel: &Channel, threshold: f32, h: usize) -> bool
+    requires { h < channel.now.palette.hues }
+    ensures { result ≡ spec.dark_clear threshold channel.now.noise channel.now.palette.numbers.now channel.now.palette.hues h }
+{
+    let c = channel.palette.lab(h);
+    threshold <= channel.noise.luma_llr_of(c.l + channel.noise.sigma_l / 2.0)
+}
+
+// Whether that of every hue does.
+fn darks_clear(channel: &Channel, threshold: f32) -> bool
+    ensures { result ≡ spec.darks_clear threshold channel.now.noise channel.now.palette.numbers.now channel.now.palette.hues }
+{
+    (0..channel.palette.hues).all(|h| dark_clear(channel, threshold, h))
+}
+
+// Whether the light colour of hue h, half a sigma down, still scores minus the threshold.
+#[tactic(auto, using(crate::proofs::Literals::literals), unfolding(crate::specs::Margin::light_clear))]
+fn light_clear(channel: &Channel, threshold: f32, h: usize) -> bool
+    requires { h < channel.now.palette.hues }
+    ensures { result ≡ spec.light_clear threshold channel.now.noise channel.now.palette.numbers.now channel.now.palette.hues h }
+{
+    let c = channel.palette.lab(channel.palette.light(h));
+    channel.noise.luma_llr_of(c.l - channel.noise.sigma_l / 2.0) <= -threshold
+}
+
+// Whether that of every hue does.
+fn lights_clear(channel: &Channel, threshold: f32) -> bool
+    ensures { result ≡ spec.lights_clear threshold channel.now.noise channel.now.palette.numbers.now channel.now.palette.hues }
+{
+    (0..channel.palette.hues).all(|h| light_clear(channel, threshold, h))
+}
+
+// Whether a and b of a colour differ from the point of hue h by at most s.
+#[tactic(auto, unfolding(crate::specs::Margin::near))]
+fn near(palette: &Palette, c: Lab, s: f32, h: usize) -> bool
+    requires { h < palette.now.hues }
+    ensures { result ≡ spec.near palette.now.numbers.now c s h }
+{
+    let point = palette.point(h);
+    float::abs(c.a - point.a) <= s && float::abs(c.b - point.b) <= s
+}
+
+// Whether a or b differs from it by more than 4 × s.
+#[tactic(auto, using(crate::proofs::Literals::literals), unfolding(crate::specs::Margin::far))]
+fn far(palette: &Palette, c: Lab, s: f32, h: usize) -> bool
+    requires { h < palette.now.hues }
+    ensures { result ≡ spec.far palette.now.numbers.now c s h }
+{
+    let point = palette.point(h);
+    4.0 * s < float::abs(c.a - point.a) || 4.0 * s < float::abs(c.b - point.b)
+}
+
+// Whether h is the colour's own hue, or the colour is far from h.
+#[tactic(auto, unfolding(crate::specs::Margin::other_far))]
+fn other_far(palette: &Palette, c: Lab, s: f32, own: usize, h: usize) -> bool
+    requires { h < palette.now.hues }
+    ensures { result ≡ spec.other_far palette.now.numbers.now c s own h }
+{
+    h == own || far(palette, c, s, h)
+}
+
+// Whether the colour is far from every hue but its own.
+fn others_far(palette: &Palette, c: Lab, s: f32, own: usize) -> bool
+    ensures { result ≡ spec.others_far palette.now.numbers.now palette.now.hues c s own }
+{
+    (0..palette.hues).all(|h| other_far(palette, c, s, own, h))
+}
+
+// Whether palette colour i is near the point of its own hue and far from every other.
+#[tactic(auto, unfolding(crate::specs::Margin::apart))]
+fn apart(channel: &Channel, i: usize, own: usize) -> bool
+    requires { (i < 2 * channel.now.palette.hues) × (own < channel.now.palette.hues) }
+    ensures { result ≡ spec.apart channel.now.noise channel.now.palette.numbers.now channel.now.palette.hues i own }
+{
+    let palette = &channel.palette;
+    let c = palette.lab(i);
+    let s = channel.noise.sigma_ab_of(c.l);
+    near(palette, c, s, own) && others_far(palette, c, s, own)
+}
+
+// Whether both colours of hue h are.
+#[tactic(auto, unfolding(crate::specs::Margin::hue_clear))]
+fn hue_clear(channel: &Channel, h: usize) -> bool
+    requires { h < channel.now.palette.hues }
+    ensures { result ≡ spec.hue_clear channel.now.noise channel.now.palette.numbers.now channel.now.palette.hues h }
+{
+    apart(channel, h, h) && apart(channel, channel.palette.light(h), h)
+}
+
+// Whether both colours of every hue are.
+fn hues_clear(channel: &Channel) -> bool
+    ensures { result ≡ spec.hues_clear channel.now.noise channel.now.palette.numbers.now channel.now.palette.hues }
+{
+    (0..channel.palette.hues).all(|h| hue_clear(channel, h))
+}
+
+// With chroma on, whether the colours of every hue are.
+#[tactic(auto, unfolding(crate::specs::Margin::chroma_clear))]
+fn chroma_clear(channel: &Channel) -> bool
+    ensures { result ≡ spec.chroma_clear channel.now.noise channel.now.palette.numbers.now channel.now.palette.hues }
+{
+    !limits::chroma_on(channel.palette.hues) || hues_clear(channel)
+}
+
+// Core: the margin check of a channel, at any threshold.
+#[tactic(auto, unfolding(crate::specs::Margin::in_margin))]
+pub fn in_margin(threshold: f32, channel: &Channel) -> bool
+    ensures { result ≡ spec.in_margin threshold channel.now.noise channel.now.palette.numbers.now channel.now.palette.hues }
+{
+    channel.noise.l0 < channel.noise.l1
+        && levels_fit(channel)
+        && sigmas_fit(channel.noise)
+        && darks_clear(channel, threshold)
+        && lights_clear(channel, threshold)
+        && chroma_clear(channel)
+}
+
+// ---- the calls
 
 // The margin check at a setting: whether every dark and light colour still scores 13, or 9, half a sigma
 // off, and, with chroma on, every colour stands near its hue's point and far from the others. Refused: 3, 5,
@@ -232,7 +215,14 @@ pub fn margin_at(
     ensures { said result ≡ call.margin_at_answer least noise palette.now hues }
 {
     stats::check(noise, palette, hues)?;
-    Ok(in_margin(f32::from(least), noise, palette, hues))
+    let channel = Channel {
+        noise,
+        palette: Palette {
+            numbers: palette,
+            hues,
+        },
+    };
+    Ok(in_margin(f32::from(least), &channel))
 }
 
 // The margin check of document 01, at 13. Refused: 3, 5, 8, 9.

@@ -14,8 +14,8 @@ use Rattle.margin.proofs.margin_at.Goals as goal
 at_least : (n : ChannelStats) (palette : List Float) (hues : ℕ) (r : Bool) (v w : Float) → r ≡ in_margin v n palette hues → v ≡ w → r ≡ in_margin w n palette hues
 at_least n palette hues r v w e f = rw f at e
 
-pub in_margin-requires : goal.in_margin-requires
-in_margin-requires c = past _ _ _ c.in_ok-check.ensures
+pub invariant_of-channel : goal.invariant_of-channel
+invariant_of-channel c = record { long = past _ _ _ c.in_ok-check.ensures }
 
 pub returns-in_err-check : goal.returns-in_err-check
 returns-in_err-check c = search (turned_away, c.in_err-check.ensures)

@@ -1,15 +1,15 @@
--- `Channel::lights_clear` meets its contract: `all` of the hues is the definition's test of each. Assumes nothing.
+-- `hues_clear` meets its contract: `all` of the hues is the definition's test of each. Assumes nothing.
 use mathlib.Core.Path.{refl}
 use borrow.Author.Rules.{rules}
 use borrow.Author.Tests.{tests}
 use Rattle.std.proofs.lemmas.Iterator.{YieldsList-from_range}
 use Rattle.std.proofs.lemmas.Iterator.Search.{all_from_yields_List}
-use Rattle.margin.specs.Margin.{light_clear}
+use Rattle.margin.specs.Margin.{hue_clear}
 use Rattle.margin.proofs.Every.{every_listed}
-use Rattle.margin.proofs.Channel.lights_clear.Goals as goal
+use Rattle.margin.proofs.hues_clear.Goals as goal
 
 pub returns : goal.returns
 returns c =
     let at = c in
-    let test = light_clear at.args.threshold at.args.self.now.noise at.args.self.now.palette.now at.args.self.now.hues in
+    let test = hue_clear at.args.channel.now.noise at.args.channel.now.palette.numbers.now at.args.channel.now.palette.hues in
     every_listed test _ _ (all_from_yields_List test _ _ _ at.all.ensures.ran (YieldsList-from_range 0 _ _ refl refl) (λ x b q k. search (rules, tests)))
