@@ -9,35 +9,28 @@ ghost use Rattle.std.specs.Prelude.{◌≡◌, false, ◌+◌, ◌<◌, ◌≤�
 ghost use Rattle.sentences.specs.Sentences.{refusal};
 ghost use Rattle.limits.specs.Limits.{bad_hues};
 ghost use Rattle.answers.specs.Answers.{outcome_number, ended};
-ghost use Rattle.color.specs.Palette.{palette_len};
 ghost use Rattle.counts.specs.Counts as spec;
 ghost use Rattle.counts.specs.Calls as call;
 
 use answers::Refusal;
+use color::palette::Palette;
 use color::{Lab, Srgb8};
-use stats::ChannelStats;
+use stats::{Channel, ChannelStats};
 
 // ---- the colours
 
-// Colour i: the bytes 0, 8, .., 248 in each channel, red slowest and blue fastest.
-fn colour_at(i: usize) -> Srgb8
-    requires { i < 32768 }
-    ensures { result ≡ spec.colour_at i }
-{
-    Srgb8 {
-        r: (8 * (i / 1024)) as u8,
-        g: (8 * (i / 32 % 32)) as u8,
-        b: (8 * (i % 32)) as u8,
-    }
-}
-
-// Colour i in Lab, as scoring takes a sample under the unit model. That model leaves each of the colours bit for bit,
-// whatever its side and terms and wherever the colour stands, so nothing is corrected here.
+// Colour i in Lab, as scoring takes a sample under the unit model: its bytes are 0, 8, .., 248 in each channel, red slowest
+// and blue fastest. That model leaves each of the colours bit for bit, whatever its side and terms and wherever the colour
+// stands, so nothing is corrected here.
 fn sample_at(i: usize) -> Lab
     requires { i < 32768 }
     ensures { (result ≡ spec.sample_at i) × spec.UnitLeaves }
 {
-    color::srgb8_to_lab(colour_at(i))
+    color::srgb8_to_lab(Srgb8 {
+        r: (8 * (i / 1024)) as u8,
+        g: (8 * (i / 32 % 32)) as u8,
+        b: (8 * (i % 32)) as u8,
+    })
 }
 
 // ---- the hue
@@ -55,10 +48,9 @@ fn highest(likelihoods: &[f32], hues: usize) -> usize
     requires { (0 < hues) × (hues ≤ length likelihoods.now) }
     ensures { (result ≡ spec.highest_of likelihoods.now hues) × spec.Highest likelihoods.now hues result }
 {
-    // over places and not elements: the best so far is a place
     let mut best = 0;
-    for h in 1..hues {
-        if beats(likelihoods[h], likelihoods[best]) {
+    for (h, &likelihood) in likelihoods[..hues].iter().enumerate() {
+        if beats(likelihood, likelihoods[best]) {
             best = h;
         }
     }
@@ -67,48 +59,47 @@ fn highest(likelihoods: &[f32], hues: usize) -> usize
 
 // ---- the class and the counts
 
-// What tells colours apart: a noise record, and a palette of one of the five hue counts that has the numbers of its hues.
-#[derive(Clone, Copy)]
-struct Channel<'a> {
-    noise: ChannelStats,
-    palette: &'a [f32],
-    hues: usize,
-    ghost hue_count: { bad_hues hues ≡ false },
-    ghost long: { palette_len hues ≤ length palette.now },
+// A channel that divides colours into classes: its hue count is one of the five that cards have.
+#[derive(Clone, Copy, Debug)]
+struct Division<'a> {
+    channel: Channel<'a>,
+    ghost hue_count: { bad_hues channel.palette.hues ≡ false },
 }
 
-impl Channel<'_> {
+impl Division<'_> {
     // The hue class of a sample: its likeliest hue, and 0 with chroma off.
     fn hue_class(&self, sample: Lab) -> usize
-        ensures { result ≡ spec.hue_class self.now.noise self.now.palette.now self.now.hues sample }
+        ensures { result ≡ spec.hue_class self.now.channel.noise self.now.channel.palette.numbers.now self.now.channel.palette.hues sample }
     {
-        if !limits::chroma_on(self.hues) {
+        let hues = self.channel.palette.hues;
+        if !limits::chroma_on(hues) {
             return 0;
         }
         let mut likelihoods = [0.0f32; 16];
-        self.noise
-            .hue_log_likelihoods_of(sample, self.palette, self.hues, &mut likelihoods);
-        highest(&likelihoods, self.hues)
+        self.channel
+            .hue_log_likelihoods_of(sample, &mut likelihoods);
+        highest(&likelihoods, hues)
     }
 
     // The class of a sample: dark by hue, then light by hue, then the last.
     fn class_of(&self, sample: Lab) -> usize
-        ensures { (result ≡ spec.class_of self.now.noise self.now.palette.now self.now.hues sample) × spec.Class self.now.noise self.now.hues sample result }
+        ensures { (result ≡ spec.class_of self.now.channel.noise self.now.channel.palette.numbers.now self.now.channel.palette.hues sample) × spec.Class self.now.channel.noise self.now.channel.palette.hues sample result }
     {
-        let v = self.noise.luma_llr_of(sample.l);
+        let hues = self.channel.palette.hues;
+        let v = self.channel.noise.luma_llr_of(sample.l);
         if 0.0 < v {
             self.hue_class(sample)
         } else if v < 0.0 {
-            limits::hue_classes(self.hues) + self.hue_class(sample)
+            limits::hue_classes(hues) + self.hue_class(sample)
         } else {
-            2 * limits::hue_classes(self.hues)
+            2 * limits::hue_classes(hues)
         }
     }
 
     // Counts colour i in its class.
     fn count_one(&self, i: usize, out: &mut [u32])
-        requires { (i < 32768) × spec.Sums (spec.classes self.now.hues) i out.old }
-        ensures { (out.new ≡ spec.count_at self.now.noise self.now.palette.now self.now.hues i out.old) × spec.Sums (spec.classes self.now.hues) (i + 1) out.new }
+        requires { (i < 32768) × spec.Sums (spec.classes self.now.channel.palette.hues) i out.old }
+        ensures { (out.new ≡ spec.count_at self.now.channel.noise self.now.channel.palette.numbers.now self.now.channel.palette.hues i out.old) × spec.Sums (spec.classes self.now.channel.palette.hues) (i + 1) out.new }
     {
         let class = self.class_of(sample_at(i));
         out[class] += 1;
@@ -116,12 +107,22 @@ impl Channel<'_> {
 
     // Counts every colour.
     fn count_all(&self, out: &mut [u32])
-        requires { spec.Sums (spec.classes self.now.hues) 0 out.old }
-        ensures { (out.new ≡ spec.count_all self.now.noise self.now.palette.now self.now.hues out.old) × spec.Sums (spec.classes self.now.hues) 32768 out.new }
+        requires { spec.Sums (spec.classes self.now.channel.palette.hues) 0 out.old }
+        ensures { (out.new ≡ spec.count_all self.now.channel.noise self.now.channel.palette.numbers.now self.now.channel.palette.hues out.old) × spec.Sums (spec.classes self.now.channel.palette.hues) 32768 out.new }
     {
+        // By index: the colours are numbers, and stand in no list.
         for i in 0..32768 {
             self.count_one(i, out);
         }
+    }
+
+    // The counts, in room that is long enough.
+    fn counts_of(&self, out: &mut [u32])
+        requires { spec.classes self.now.channel.palette.hues ≤ length out.old }
+        ensures { (out.new ≡ spec.counted self.now.channel.noise self.now.channel.palette.numbers.now self.now.channel.palette.hues out.old) × spec.Divides self.now.channel.noise self.now.channel.palette.numbers.now self.now.channel.palette.hues out.old out.new }
+    {
+        out[..classes(self.channel.palette.hues)].fill(0);
+        self.count_all(out);
     }
 }
 
@@ -155,21 +156,14 @@ fn check(noise: ChannelStats, palette: &[f32], hues: usize, out: &[u32]) -> Resu
     if short(palette, hues, out) {
         return Err(Refusal::Length);
     }
-    stats::Channel::new(noise, palette, hues).check_figures()
-}
-
-// Core: the counts, of a palette and room that are long enough.
-pub fn counts_of(noise: ChannelStats, palette: &[f32], hues: usize, out: &mut [u32])
-    requires { (bad_hues hues ≡ false) × (palette_len hues ≤ length palette.now) × (spec.classes hues ≤ length out.old) }
-    ensures { (out.new ≡ spec.counted noise palette.now hues out.old) × spec.Divides noise palette.now hues out.old out.new }
-{
-    out[..classes(hues)].fill(0);
     let channel = Channel {
         noise,
-        palette,
-        hues,
+        palette: Palette {
+            numbers: palette,
+            hues,
+        },
     };
-    channel.count_all(out);
+    channel.check_figures()
 }
 
 // Counts how the 32,768 sRGB colours whose bytes are multiples of 8 divide among the palette's levels and hues, under the
@@ -185,6 +179,15 @@ pub fn colour_counts(
     ensures { (ended result out.new ≡ call.counts_of noise palette.now hues out.old) × call.Accepted result noise palette.now hues out.old out.new }
 {
     check(noise, palette, hues, out)?;
-    counts_of(noise, palette, hues, out);
+    let division = Division {
+        channel: Channel {
+            noise,
+            palette: Palette {
+                numbers: palette,
+                hues,
+            },
+        },
+    };
+    division.counts_of(out);
     Ok(())
 }

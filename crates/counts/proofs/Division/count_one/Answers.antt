@@ -1,4 +1,4 @@
--- `Channel::count_one` meets its contract: one entry is raised by one, and so the sum. Assumes nothing.
+-- `Division::count_one` meets its contract: one entry is raised by one, and so the sum. Assumes nothing.
 use mathlib.Core.Path.{◌≡◌}
 use mathlib.Core.List.{List}
 use Prim.Native.Nat.{ℕ, ◌+◌}
@@ -8,7 +8,7 @@ use Rattle.color.specs.declared.Lab.{Lab}
 use Rattle.stats.specs.declared.ChannelStats.{ChannelStats}
 use Rattle.counts.specs.Counts.{sample_at, class_of, count_at}
 use Rattle.counts.proofs.Sums.{one_more, entry-below}
-use Rattle.counts.proofs.Channel.count_one.Goals as goal
+use Rattle.counts.proofs.Division.count_one.Goals as goal
 
 counts : (n : ChannelStats) (palette : List Float) (k i : ℕ) (out : List ℕ) (s : Lab) (c : ℕ) →
     s ≡ sample_at i → c ≡ class_of n palette k s → set out c (get_or out c 0 + 1) ≡ count_at n palette k i out

@@ -1,6 +1,6 @@
--- `Channel::class_of` meets its contract: a return for each answer of the two tests, and what the class says. Assumes nothing.
+-- `Division::class_of` meets its contract: a return for each answer of the two tests, and what the class says. Assumes nothing.
 use Rattle.counts.proofs.Levels.{dark_class, light_class, last_class, dark-says, light-says, last_says, light-fits, last_fits}
-use Rattle.counts.proofs.Channel.class_of.Goals as goal
+use Rattle.counts.proofs.Division.class_of.Goals as goal
 
 pub returns-then-v : goal.returns-then-v
 returns-then-v c = (search (dark_class), search (dark-says))

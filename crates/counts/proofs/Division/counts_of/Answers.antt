@@ -1,4 +1,4 @@
--- `counts_of` meets its contract: the entries are cleared, and every colour counted. Assumes nothing.
+-- `Division::counts_of` meets its contract: the entries are cleared, and every colour counted. Assumes nothing.
 use mathlib.Core.Path.{◌≡◌, ap, ◌∙◌}
 use mathlib.Core.List.{List, ◌++◌}
 use Prim.Native.Nat.{ℕ, ◌≤◌}
@@ -13,7 +13,7 @@ use Rattle.stats.proofs.Front.{front_replaced}
 use Rattle.counts.specs.Counts.{classes, cleared, count_all, counted, Sums}
 use Rattle.counts.proofs.Sums.{none_yet}
 use Rattle.counts.proofs.Divided.{divided}
-use Rattle.counts.proofs.counts_of.Goals as goal
+use Rattle.counts.proofs.Division.counts_of.Goals as goal
 
 -- m is what the code's `classes` gave, s the entries that were filled
 module _ (k m : ℕ) (out s : List ℕ) (e : m ≡ classes k) (long : classes k ≤ length out) (f : s ≡ replicate (length (take m out)) 0) where
@@ -31,9 +31,9 @@ module _ (k m : ℕ) (out s : List ℕ) (e : m ≡ classes k) (long : classes k 
   same n palette after h = h ∙ ap (count_all n palette k) (zeros ∙ ap (λ (x : ℕ). cleared x out) e)
 
 pub count_all-requires : goal.count_all-requires
-count_all-requires c = begun _ _ _ _ c.classes.ensures c.requires.2 (c.fill.ensures.after (search rules))
+count_all-requires c = begun _ _ _ _ c.classes.ensures c.requires (c.fill.ensures.after (search rules))
 
 pub returns : goal.returns
 returns c =
-    let h = same _ _ _ _ c.classes.ensures c.requires.2 (c.fill.ensures.after (search rules)) _ _ _ c.count_all.ensures.0 in
-    (h, divided _ _ _ _ c.requires.0 c.requires.2 _ h c.count_all.ensures.1)
+    let h = same _ _ _ _ c.classes.ensures c.requires (c.fill.ensures.after (search rules)) _ _ _ c.count_all.ensures.0 in
+    (h, divided _ _ _ _ (search rules) c.requires _ h c.count_all.ensures.1)

@@ -1,4 +1,4 @@
--- `Channel::hue_class` meets its contract: with chroma on the hue of the highest likelihood. Assumes nothing.
+-- `Division::hue_class` meets its contract: with chroma on the hue of the highest likelihood. Assumes nothing.
 use mathlib.Core.Path.{◌≡◌, refl, sym, ◌∙◌}
 use mathlib.Core.Bool.{Bool, true, false, not}
 use mathlib.Core.List.{List}
@@ -16,7 +16,7 @@ use Rattle.stats.specs.declared.ChannelStats.{ChannelStats}
 use Rattle.stats.specs.Noise.{denominator, hue_log_likelihood, put_likelihood, hue_log_likelihoods}
 use Rattle.counts.specs.Counts.{highest_of, hue_class}
 use Rattle.counts.proofs.Bounds.{some-hues, few-hues}
-use Rattle.counts.proofs.Channel.hue_class.Goals as goal
+use Rattle.counts.proofs.Division.hue_class.Goals as goal
 
 is_off : (b : Bool) → not b ≡ true → b ≡ false
 is_off true e = sym e
@@ -46,7 +46,7 @@ pub returns-then-not-chroma_on : goal.returns-then-not-chroma_on
 returns-then-not-chroma_on c = search (off)
 
 pub hue_log_likelihoods_of-requires : goal.hue_log_likelihoods_of-requires
-hue_log_likelihoods_of-requires c = (search rules, search (few-hues))
+hue_log_likelihoods_of-requires c = search (few-hues)
 
 pub highest-requires : goal.highest-requires
 highest-requires c = (search (some-hues), search (room))
