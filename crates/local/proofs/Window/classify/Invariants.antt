@@ -1,8 +1,0 @@
--- `local::Window::classify` meets its contract: what is left of the samples from i on takes the classes to the answer. Assumes nothing.
-use Rattle.std.specs.Prelude.{Some}
-use Rattle.loops.proofs.Laws.{Left}
-use Rattle.local.specs.Local.{classes, classify_at, classified}
-use Rattle.local.proofs.Window.classify.Given as goal
-
-abbrev pub invariant-loop-i : goal.invariant-loop-i
-invariant-loop-i l = Left (classify_at l.self l.plane) l.self.count l.i (classes l.light l.moved (Some l.plane)) (classified l.self l.plane (classes l.initial.light l.initial.moved (Some l.plane)))
