@@ -45,6 +45,12 @@ module _ (luma : List Float) (side hues : ℕ) (xs ys : List ℤ) (grid : ℕ) (
     stand : bad_places side grid xs ys ≡ false
     stand = known.placed.places-good
 
+    few-modules : length xs ≤ 1048576
+    few-modules = known.placed.modules-most
+
+    few-grid : grid ≤ length xs
+    few-grid = known.placed.grid-most
+
     enough-colours : 3 * length xs ≤ length colours
     enough-colours = known.long.listed.colours-long
 
@@ -60,13 +66,22 @@ module _ (luma : List Float) (side hues : ℕ) (xs ys : List ℤ) (grid : ℕ) (
 pub returns-in_err-check : goal.returns-in_err-check
 returns-in_err-check c = search (away, c.in_err-check.ensures)
 
+pub invariant_of-card : goal.invariant_of-card
+invariant_of-card c =
+    let e = c.in_ok-check.ensures in
+    record {
+      placed = record { side-most = search (small-side, e); pairs = search (in_pairs, e); places-good = search (stand, e) };
+      counted = (search (few-grid, e), search (few-modules, e));
+    }
+
+pub invariant_of-channel : goal.invariant_of-channel
+invariant_of-channel c = let e = c.in_ok-check.ensures in record { long = search (enough-palette, e) }
+
+pub invariant_of-card-2 : goal.invariant_of-card-2
+invariant_of-card-2 c = let e = c.in_ok-check.ensures in record { each = search (enough-colours, e) }
+
 pub refine-requires : goal.refine-requires
-refine-requires c =
-    let e = c.in_ok-check.ensures in (
-      record { side-most = search (small-side, e); pairs = search (in_pairs, e); places-good = search (stand, e) },
-      record { colours-long = search (enough-colours, e); luma-long = search (enough-scores, e); palette-long = search (enough-palette, e) },
-      search (room, e),
-    )
+refine-requires c = let e = c.in_ok-check.ensures in (search (enough-scores, e), search (room, e))
 
 pub returns : goal.returns
 returns c = search (wrote, c.in_ok-check.ensures)

@@ -2,7 +2,6 @@
 use mathlib.Core.List.{List, ◌++◌}
 use mathlib.Core.Path.{◌≡◌, refl, ap, ◌∙◌}
 use Prim.Native.Nat.{ℕ}
-use borrow.Author.Rules.{rules}
 use lib.Ieee.{Float, nan, binary32, of_bits, div}
 use lib.IntN.{ℤ}
 use lib.ListN.{replicate}
@@ -33,9 +32,6 @@ module _ (noise : ChannelStats) (palette : List Float) (hues side g : ℕ) (xs y
 zero : of_bits binary32 0 ≡ zero32
 unfolding of_bits
 zero = refl
-
-pub refine_all-requires : goal.refine_all-requires
-refine_all-requires c = (search rules, search rules, search rules)
 
 pub returns : goal.returns
 returns c = search (all, none, zero)
