@@ -50,15 +50,15 @@ fn of_bytes(name: &str, inputs: &mut Inputs, answers: &mut Answers) {
         "from_hex" => put_srgb8(answers, Srgb8::from_hex(inputs.take())),
         "index" => {
             let index = color::palette::index(inputs.take(), inputs.take(), inputs.take());
-            stage_words::put_result(answers, index, |answers, i| answers.put(i))
+            stage_words::put_result(answers, index, Answers::put)
         }
         "palette_len" => {
             let len = color::palette::len(inputs.take());
-            stage_words::put_result(answers, len, |answers, n| answers.put(n))
+            stage_words::put_result(answers, len, Answers::put)
         }
         "palette_is_empty" => {
             let empty = color::palette::is_empty(inputs.take());
-            stage_words::put_result(answers, empty, |answers, yes| answers.put(yes))
+            stage_words::put_result(answers, empty, Answers::put)
         }
         _ => {}
     }

@@ -89,7 +89,7 @@ fn mad_sigma(inputs: &mut Inputs, answers: &mut Answers) {
     let values = inputs.list(&mut values);
     let scratch = inputs.list(&mut scratch);
     let sigma = order::mad_sigma(values, scratch);
-    stage_words::put_result(answers, sigma, |answers, r| answers.put(r));
+    stage_words::put_result(answers, sigma, Answers::put);
     answers.put_list(scratch);
 }
 

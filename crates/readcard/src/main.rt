@@ -4,26 +4,25 @@
 // is read as, and writes that text and nothing else, in one piece at the end.
 #![tactic(auto)]
 
-ghost use Rattle.std.specs.Prelude.{◌≡◌, ◌≤◌, length, take};
+ghost use Rattle.std.specs.Prelude.{◌≡◌, ◌≤◌, length};
 ghost use Rattle.reader.specs.Text.{card_text, listing_room};
 
 use std::io;
 use std::io::{Read, Write};
 
-// The text of a card file, whole, at the start of `out`, and its length.
-fn listed(file: &[u8], out: &mut [u8]) -> usize
-    requires { listing_room ≤ length out.old }
-    ensures out_after { take result out.new ≡ card_text file.now }
-    ensures prefix_len { (result ≤ length out.new) × (result ≡ length (take result out.new)) }
+// The text of a card file, whole, which stands at the start of `room`.
+fn listed<'a>(file: &[u8], room: &'a mut [u8]) -> &'a [u8]
+    requires { listing_room ≤ length room.old }
+    ensures { result.now ≡ card_text file.now }
 {
-    reader::read_card(file, out)
+    let n = reader::read_card(file, room);
+    &room[..n]
 }
 
 // At most 16,385 bytes are read, one more than a card file may have, so that a longer one is seen to be too long.
 fn main(rt: HostRuntime) -> io::Result<()> {
     let mut file = Vec::new(rt.alloc());
     rt.reader().take(16385).read_to_end(&mut file)?;
-    let mut out = [0u8; listing::LISTING_ROOM];
-    let wrote = listed(&file, &mut out);
-    io::writer(&rt).write_all(&out[..wrote])
+    let mut room = [0u8; listing::LISTING_ROOM];
+    io::writer(&rt).write_all(listed(&file, &mut room))
 }
