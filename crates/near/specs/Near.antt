@@ -109,18 +109,6 @@ pub record Rest (m : ℕ) (o p : List ℕ) : Type 0 where
 
 -- ---- the steps by which they are found
 
--- a list and how many of its places are taken
-pub record Room : Type 0 where
-  pub count : ℕ
-  pub list : List ℕ
-
-abbrev pub room : ℕ → List ℕ → Room
-room m o = record { count = m; list = o }
-
--- i at the next place, where it is chosen
-unfoldable pub list_entry : (ℕ → Bool) → ℕ → Room → Room
-list_entry chosen i s = cond (chosen i) (room (s.count + 1) (set s.list s.count i)) s
-
 -- the references below i, in their order, m of them
 pub record Collected (chosen : ℕ → Bool) (i m : ℕ) (o p : List ℕ) : Type 0 where
   pub under : m ≤ i

@@ -8,7 +8,7 @@
 // the list is the only one with these places in this order, however it is found.
 #![tactic(auto)]
 
-ghost use Rattle.std.specs.Prelude.{◌≡◌, ◌+◌, ◌*◌, ◌/◌, ◌<◌, ◌≤◌, length, get_or};
+ghost use Rattle.std.specs.Prelude.{◌≡◌, true, ◌+◌, ◌*◌, ◌/◌, ◌<◌, ◌≤◌, length, get_or};
 ghost use Rattle.sentences.specs.Sentences.{refusal};
 ghost use Rattle.answers.specs.Answers.{outcome_number, said};
 ghost use Rattle.near.specs.Order as order;
@@ -134,13 +134,13 @@ impl Search<'_> {
         }
     }
 
-    // Whether reference i is one of them and was kept.
+    // Whether reference i, whose mark this is, is one of them and was kept.
     #[tactic(auto, unfolding(crate::specs::Near::chosen, crate::specs::Near::is_kept))]
-    fn chosen(&self, i: usize) -> bool
-        requires { i < self.now.n }
+    fn chosen(&self, i: usize, mark: u8) -> bool
+        requires { (i < self.now.n) × (mark ≡ get_or self.now.kept.now i 0) }
         ensures { result ≡ spec.chosen self.now.query self.now.xy.now self.now.kept.now self.now.cx self.now.cy i }
     {
-        self.kept[i] != 0 && self.asked(i)
+        mark != 0 && self.asked(i)
     }
 
     // ---- sorting
@@ -193,28 +193,17 @@ impl Search<'_> {
 
     // ---- the lists
 
-    // Lists reference i at place m, where it is chosen; the places taken after it.
-    #[tactic(auto, unfolding(crate::specs::Near::list_entry))]
-    fn list_at(&self, i: usize, m: usize, out: &mut [u32]) -> usize
-        requires { (i < self.now.n) × (m < length out.old) }
-        ensures { spec.room result out.new ≡ spec.list_entry (spec.chosen self.now.query self.now.xy.now self.now.kept.now self.now.cx self.now.cy) i (spec.room m out.old) }
-    {
-        if !self.chosen(i) {
-            return m;
-        }
-        out[m] = i as u32;
-        m + 1
-    }
-
     // Lists all chosen references in their order.
     fn list(&self, out: &mut [u32]) -> usize
         requires { self.now.n ≤ length out.old }
         ensures { spec.Collected (spec.chosen self.now.query self.now.xy.now self.now.kept.now self.now.cx self.now.cy) self.now.n result out.old out.new }
     {
         let mut m = 0;
-        // By index: a reference is a place in two slices, and the place is what is listed.
-        for i in 0..self.n {
-            m = self.list_at(i, m, out);
+        for (i, &mark) in self.kept[..self.n].iter().enumerate() {
+            if self.chosen(i, mark) {
+                out[m] = i as u32;
+                m += 1;
+            }
         }
         m
     }
@@ -239,14 +228,12 @@ impl Search<'_> {
         self.sift(1, k, out);
     }
 
-    // Offers reference i to the first three, m of which are there.
+    // Offers reference i, which is chosen, to the first three, m of which are there.
     fn offer(&self, i: usize, m: usize, out: &mut [u32]) -> usize
-        requires { (self.now.n ≤ length out.old) × (i < self.now.n) × (m ≤ i) × order.Places self.now.n m out.old }
+        requires room { (self.now.n ≤ length out.old) × (i < self.now.n) × (m ≤ i) × order.Places self.now.n m out.old }
+        requires chosen { spec.chosen self.now.query self.now.xy.now self.now.kept.now self.now.cx self.now.cy i ≡ true }
         ensures { spec.Offered (spec.before self.now.xy.now self.now.cx self.now.cy) (spec.chosen self.now.query self.now.xy.now self.now.kept.now self.now.cx self.now.cy) self.now.n i m out.old result out.new }
     {
-        if !self.chosen(i) {
-            return m;
-        }
         if m < 3 {
             self.put(i, m, out);
             return m + 1;
@@ -259,16 +246,16 @@ impl Search<'_> {
     }
 
     // Lists the first three of the chosen references, all if fewer, the nearest first.
-    // Twin: of `list`, whose turns only add: a walk over both would ask of its step what each of the two promises of a turn.
     fn nearest(&self, out: &mut [u32]) -> usize
         requires { self.now.n ≤ length out.old }
         ensures first_three { spec.FirstThree (spec.before self.now.xy.now self.now.cx self.now.cy) (spec.chosen self.now.query self.now.xy.now self.now.kept.now self.now.cx self.now.cy) self.now.n result out.new }
         ensures upper_bound { (result ≤ self.now.n) × spec.Rest result out.old out.new }
     {
         let mut m = 0;
-        // By index: a reference is a place in two slices, and the place is what is listed.
-        for i in 0..self.n {
-            m = self.offer(i, m, out);
+        for (i, &mark) in self.kept[..self.n].iter().enumerate() {
+            if self.chosen(i, mark) {
+                m = self.offer(i, m, out);
+            }
         }
         m
     }
