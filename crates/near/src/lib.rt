@@ -13,9 +13,13 @@ ghost use Rattle.sentences.specs.Sentences.{refusal};
 ghost use Rattle.answers.specs.Answers.{outcome_number, said};
 ghost use Rattle.near.specs.Order as order;
 ghost use Rattle.near.specs.Near as spec;
+ghost use Rattle.near.specs.Seen as seen;
 ghost use Rattle.near.specs.declared.Query.TheVariants as query;
 
+mod search;
+
 use answers::Refusal;
+use search::Search;
 
 // What is asked of the kept references: the three nearest, all within a radius, or all that a column cuts off.
 #[derive(Clone, Copy, Debug)]
@@ -59,30 +63,12 @@ fn wide(i: u32) -> usize
     i as usize
 }
 
-// What is searched: n references, their positions and marks, as they are seen from the centre (cx, cy). Which of two references comes
-// before the other is a strict order of them.
-// Facts: that a reference or a listed place is below n is asked of an argument, which has no struct; and `out` is the caller's slice, whose
-// rest stays: a struct of it, with the fact that it has n places, would have one field.
-#[derive(Clone, Copy, Debug)]
-struct Search<'a> {
-    query: Query,
-    xy: &'a [f32],
-    kept: &'a [u8],
-    n: usize,
-    cx: f64,
-    cy: f64,
-    ghost placed: { 2 * n ≤ length xy.now },
-    ghost marked: { n ≤ length kept.now },
-    ghost few: { n ≤ 16384 },
-    ghost strict: { order.Strict (spec.before xy.now cx cy) n },
-}
-
 impl Search<'_> {
     // The squared distance of reference i from the centre.
     #[tactic(auto, unfolding(crate::specs::Near::distance))]
     fn distance(&self, i: usize) -> f64
         requires { i < self.now.n }
-        ensures { result ≡ spec.distance self.now.xy.now self.now.cx self.now.cy i }
+        ensures { result ≡ seen.distance self.now i }
     {
         let dx = float::widen(self.xy[2 * i]) - self.cx;
         let dy = float::widen(self.xy[2 * i + 1]) - self.cy;
@@ -93,7 +79,7 @@ impl Search<'_> {
     #[tactic(auto, unfolding(crate::specs::Near::before))]
     fn before(&self, i: usize, j: usize) -> bool
         requires { (i < self.now.n) × (j < self.now.n) }
-        ensures { result ≡ spec.before self.now.xy.now self.now.cx self.now.cy i j }
+        ensures { result ≡ seen.before self.now i j }
     {
         let a = self.distance(i);
         let b = self.distance(j);
@@ -138,7 +124,7 @@ impl Search<'_> {
     #[tactic(auto, unfolding(crate::specs::Near::chosen, crate::specs::Near::is_kept))]
     fn chosen(&self, i: usize, mark: u8) -> bool
         requires { (i < self.now.n) × (mark ≡ get_or self.now.kept.now i 0) }
-        ensures { result ≡ spec.chosen self.now.query self.now.xy.now self.now.kept.now self.now.cx self.now.cy i }
+        ensures { result ≡ seen.chosen self.now i }
     {
         mark != 0 && self.asked(i)
     }
@@ -148,7 +134,7 @@ impl Search<'_> {
     // Whether what stands at j comes before what stands at k.
     fn earlier(&self, out: &[u32], j: usize, k: usize) -> bool
         requires { (j < length out.now) × (k < length out.now) × (get_or out.now j 0 < self.now.n) × (get_or out.now k 0 < self.now.n) }
-        ensures { result ≡ spec.before self.now.xy.now self.now.cx self.now.cy (get_or out.now j 0) (get_or out.now k 0) }
+        ensures { result ≡ seen.before self.now (get_or out.now j 0) (get_or out.now k 0) }
     {
         self.before(wide(out[j]), wide(out[k]))
     }
@@ -156,7 +142,7 @@ impl Search<'_> {
     // Moves what stands at k down by steps of `gap`, past all that it comes before.
     fn sift(&self, gap: usize, k: usize, out: &mut [u32])
         requires { (0 < gap) × (k < length out.old) × order.Places self.now.n (k + 1) out.old }
-        ensures { order.Sifted (spec.before self.now.xy.now self.now.cx self.now.cy) self.now.n gap k out.old out.new }
+        ensures { order.Sifted (seen.before self.now) self.now.n gap k out.old out.new }
     {
         let mut j = k;
         // By index: the place goes down by the gap, as far as the order asks.
@@ -169,7 +155,7 @@ impl Search<'_> {
     // One pass over the first m places; with a gap of 1 it sorts them.
     fn pass(&self, gap: usize, m: usize, out: &mut [u32])
         requires { (0 < gap) × (m ≤ length out.old) × order.Places self.now.n m out.old }
-        ensures { order.Passed (spec.before self.now.xy.now self.now.cx self.now.cy) self.now.n gap m m out.old out.new }
+        ensures { order.Passed (seen.before self.now) self.now.n gap m m out.old out.new }
     {
         // By index: each turn moves places of the whole list.
         for k in 0..m {
@@ -181,7 +167,7 @@ impl Search<'_> {
     // of gap 1, sorts them.
     fn sort(&self, m: usize, out: &mut [u32])
         requires { (m ≤ length out.old) × order.Places self.now.n m out.old }
-        ensures { order.Passed (spec.before self.now.xy.now self.now.cx self.now.cy) self.now.n 1 m m out.old out.new }
+        ensures { order.Passed (seen.before self.now) self.now.n 1 m m out.old out.new }
     {
         let mut gap = 9841;
         while gap > 1 {
@@ -196,7 +182,7 @@ impl Search<'_> {
     // Lists all chosen references in their order.
     fn list(&self, out: &mut [u32]) -> usize
         requires { self.now.n ≤ length out.old }
-        ensures { spec.Collected (spec.chosen self.now.query self.now.xy.now self.now.kept.now self.now.cx self.now.cy) self.now.n result out.old out.new }
+        ensures { spec.Collected (seen.chosen self.now) self.now.n result out.old out.new }
     {
         let mut m = 0;
         for (i, &mark) in self.kept[..self.n].iter().enumerate() {
@@ -211,7 +197,7 @@ impl Search<'_> {
     // Lists all chosen references, the nearest first.
     fn list_all(&self, out: &mut [u32]) -> usize
         requires { self.now.n ≤ length out.old }
-        ensures all { spec.All (spec.before self.now.xy.now self.now.cx self.now.cy) (spec.chosen self.now.query self.now.xy.now self.now.kept.now self.now.cx self.now.cy) self.now.n result out.new }
+        ensures all { spec.All (seen.before self.now) (seen.chosen self.now) self.now.n result out.new }
         ensures upper_bound { (result ≤ self.now.n) × spec.Rest result out.old out.new }
     {
         let m = self.list(out);
@@ -222,7 +208,7 @@ impl Search<'_> {
     // Puts reference i at place k, and moves it to where it belongs among the first k + 1.
     fn put(&self, i: usize, k: usize, out: &mut [u32])
         requires { (i < self.now.n) × (k < length out.old) × order.Places self.now.n k out.old }
-        ensures { order.Sifted (spec.before self.now.xy.now self.now.cx self.now.cy) self.now.n 1 k (order.placed k i out.old) out.new }
+        ensures { order.Sifted (seen.before self.now) self.now.n 1 k (order.placed k i out.old) out.new }
     {
         out[k] = i as u32;
         self.sift(1, k, out);
@@ -231,8 +217,8 @@ impl Search<'_> {
     // Offers reference i, which is chosen, to the first three, m of which are there.
     fn offer(&self, i: usize, m: usize, out: &mut [u32]) -> usize
         requires room { (self.now.n ≤ length out.old) × (i < self.now.n) × (m ≤ i) × order.Places self.now.n m out.old }
-        requires chosen { spec.chosen self.now.query self.now.xy.now self.now.kept.now self.now.cx self.now.cy i ≡ true }
-        ensures { spec.Offered (spec.before self.now.xy.now self.now.cx self.now.cy) (spec.chosen self.now.query self.now.xy.now self.now.kept.now self.now.cx self.now.cy) self.now.n i m out.old result out.new }
+        requires chosen { seen.chosen self.now i ≡ true }
+        ensures { spec.Offered (seen.before self.now) (seen.chosen self.now) self.now.n i m out.old result out.new }
     {
         if m < 3 {
             self.put(i, m, out);
@@ -248,7 +234,7 @@ impl Search<'_> {
     // Lists the first three of the chosen references, all if fewer, the nearest first.
     fn nearest(&self, out: &mut [u32]) -> usize
         requires { self.now.n ≤ length out.old }
-        ensures first_three { spec.FirstThree (spec.before self.now.xy.now self.now.cx self.now.cy) (spec.chosen self.now.query self.now.xy.now self.now.kept.now self.now.cx self.now.cy) self.now.n result out.new }
+        ensures first_three { spec.FirstThree (seen.before self.now) (seen.chosen self.now) self.now.n result out.new }
         ensures upper_bound { (result ≤ self.now.n) × spec.Rest result out.old out.new }
     {
         let mut m = 0;
@@ -263,7 +249,7 @@ impl Search<'_> {
     // Lists what the query asks for.
     fn find(&self, out: &mut [u32]) -> usize
         requires { self.now.n ≤ length out.old }
-        ensures promised { spec.IsPromised self.now.query (spec.before self.now.xy.now self.now.cx self.now.cy) (spec.chosen self.now.query self.now.xy.now self.now.kept.now self.now.cx self.now.cy) self.now.n result out.new }
+        ensures promised { spec.IsPromised self.now.query (seen.before self.now) (seen.chosen self.now) self.now.n result out.new }
         ensures upper_bound { (result ≤ self.now.n) × spec.Rest result out.old out.new }
     {
         match self.query {

@@ -1,8 +1,8 @@
--- `near::Search::pass` meets its contract: after k turns the first k are sorted, where the steps are of 1.
+-- `near::search::Search::pass` meets its contract: after k turns the first k are sorted, where the steps are of 1.
 -- Assumes nothing.
 use native.Mathlib.Omega.{arith}
 use Rattle.near.proofs.Sifting.{pass-starts, pass-ready, pass-goes, pass_ends}
-use Rattle.near.proofs.Search.pass.Goals as goal
+use Rattle.near.proofs.search.Search.pass.Goals as goal
 
 pub loop-k-init : goal.loop-k-init
 loop-k-init c = (omega arith, pass-starts _)

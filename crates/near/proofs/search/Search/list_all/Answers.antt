@@ -1,8 +1,8 @@
--- `near::Search::list_all` meets its contract: what was listed is sorted.
+-- `near::search::Search::list_all` meets its contract: what was listed is sorted.
 -- Assumes nothing.
 use native.Mathlib.Omega.{arith}
 use Rattle.near.proofs.Listing.{collected_places, sorted_all, sorted_rest}
-use Rattle.near.proofs.Search.list_all.Goals as goal
+use Rattle.near.proofs.search.Search.list_all.Goals as goal
 
 pub sort-requires : goal.sort-requires
 sort-requires c =

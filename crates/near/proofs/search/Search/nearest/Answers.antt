@@ -1,12 +1,12 @@
--- `near::Search::nearest` meets its contract: after i turns the first three of those below i are listed.
+-- `near::search::Search::nearest` meets its contract: after i turns the first three of those below i are listed.
 -- Assumes nothing.
 use mathlib.Core.Path.{refl, sym, ◌∙◌}
 use native.Mathlib.Omega.{arith}
 use lib.Seq.{length-take-le}
 use Rattle.near.specs.Near.{passed}
 use Rattle.near.proofs.Leading.{lead-starts, lead-places, lead-goes, lead_ends}
-use Rattle.near.proofs.Search.nearest.Goals as goal
-use Rattle.near.proofs.Search.nearest.Goals.{then-chosen, else-chosen}
+use Rattle.near.proofs.search.Search.nearest.Goals as goal
+use Rattle.near.proofs.search.Search.nearest.Goals.{then-chosen, else-chosen}
 
 pub loop-i-init : goal.loop-i-init
 loop-i-init c = (omega arith, lead-starts _)

@@ -1,11 +1,11 @@
--- `near::Search::list` meets its contract: after i turns those below i are listed.
+-- `near::search::Search::list` meets its contract: after i turns those below i are listed.
 -- Assumes nothing.
 use mathlib.Core.Path.{sym, ◌∙◌}
 use native.Mathlib.Omega.{arith}
 use lib.Seq.{length-take-le}
 use Rattle.near.proofs.Listing.{collect_starts, passed_over, taken, collect_ends}
-use Rattle.near.proofs.Search.list.Goals as goal
-use Rattle.near.proofs.Search.list.Goals.{then-chosen, else-chosen}
+use Rattle.near.proofs.search.Search.list.Goals as goal
+use Rattle.near.proofs.search.Search.list.Goals.{then-chosen, else-chosen}
 
 pub loop-i-init : goal.loop-i-init
 loop-i-init c = (omega arith, collect_starts _)

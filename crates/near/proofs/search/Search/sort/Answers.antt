@@ -1,9 +1,9 @@
--- `near::Search::sort` meets its contract: every pass leaves the same places, and the last one sorts them.
+-- `near::search::Search::sort` meets its contract: every pass leaves the same places, and the last one sorts them.
 -- Assumes nothing.
 use native.Mathlib.Omega.{arith}
 use Rattle.near.proofs.Mixing.{same, then, places_in}
 use Rattle.near.proofs.Sifting.{pass_last}
-use Rattle.near.proofs.Search.sort.Goals as goal
+use Rattle.near.proofs.search.Search.sort.Goals as goal
 
 pub loop-gap-init : goal.loop-gap-init
 loop-gap-init c = same _ _

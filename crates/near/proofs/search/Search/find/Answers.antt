@@ -1,4 +1,4 @@
--- `near::Search::find` meets its contract: case by case.
+-- `near::search::Search::find` meets its contract: case by case.
 -- Assumes nothing.
 use mathlib.Core.Path.{◌≡◌}
 use mathlib.Core.Bool.{Bool}
@@ -9,7 +9,7 @@ use lib.IntN.{ℤ}
 use Rattle.near.specs.declared.Query.{Query}
 use Rattle.near.specs.declared.Query.TheVariants as query
 use Rattle.near.specs.Near.{FirstThree, All, IsPromised}
-use Rattle.near.proofs.Search.find.Goals as goal
+use Rattle.near.proofs.search.Search.find.Goals as goal
 
 -- after the match the query is known by its case
 module _ (q : Query) (b : ℕ → ℕ → Bool) (chosen : ℕ → Bool) (n m : ℕ) (o : List ℕ) where

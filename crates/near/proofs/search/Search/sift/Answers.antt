@@ -1,9 +1,9 @@
--- `near::Search::sift` meets its contract: what is moved stands at j, and all others of the first k + 1 stay in order.
+-- `near::search::Search::sift` meets its contract: what is moved stands at j, and all others of the first k + 1 stay in order.
 -- Assumes nothing.
 use mathlib.Core.Path.{sym, ◌∙◌}
 use Rattle.std.proofs.lemmas.List.Edits.{swap_is}
 use Rattle.near.proofs.Sifting.{starts, ready, goes_on, stops, rests}
-use Rattle.near.proofs.Search.sift.Goals as goal
+use Rattle.near.proofs.search.Search.sift.Goals as goal
 
 pub loop-j-init : goal.loop-j-init
 loop-j-init c = search (starts)

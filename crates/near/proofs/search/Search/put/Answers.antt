@@ -1,9 +1,9 @@
--- `near::Search::put` meets its contract.
+-- `near::search::Search::put` meets its contract.
 -- Assumes nothing.
 use native.Mathlib.Omega.{arith}
 use lib.ListN.{length-set}
 use Rattle.near.proofs.Listing.{put-places}
-use Rattle.near.proofs.Search.put.Goals as goal
+use Rattle.near.proofs.search.Search.put.Goals as goal
 
 pub sift-requires : goal.sift-requires
 sift-requires c =

@@ -1,9 +1,9 @@
--- `near::Search::offer` meets its contract: one case for each way out.
+-- `near::search::Search::offer` meets its contract: one case for each way out.
 -- Assumes nothing.
 use mathlib.Core.Path.{refl, sym, ap, ◌∙◌}
 use native.Mathlib.Omega.{arith}
 use Rattle.near.specs.Near.{before, added, last, instead}
-use Rattle.near.proofs.Search.offer.Goals as goal
+use Rattle.near.proofs.search.Search.offer.Goals as goal
 
 pub put-requires : goal.put-requires
 put-requires c =
