@@ -16,7 +16,7 @@ use illum::IlluminationModel;
 use measure::Measurement;
 use records::Reference;
 use std::io;
-use vectors::{Compared, Tally};
+use vectors::{Answers, Inputs};
 
 // ---- the calls
 
@@ -51,161 +51,82 @@ fn measure_first(
     records::measure(&rs[..n], side, model, palette, hues, scratch)
 }
 
-// ---- inputs: words of a row
+// ---- the records
 
-// The reference whose eight words begin at a place.
-fn reference(row: &[u64], at: usize) -> Reference {
-    let observed = stage_words::rows::linear(row, stage_words::rows::past(row, at, 2));
-    let nominal = stage_words::rows::linear(row, stage_words::rows::past(row, at, 5));
+// Takes a reference.
+fn take_reference(inputs: &mut Inputs) -> Reference {
     Reference {
-        x: stage_words::rows::single(row, at, 0),
-        y: stage_words::rows::single(row, at, 1),
-        observed,
-        nominal,
+        x: inputs.take(),
+        y: inputs.take(),
+        observed: stage_words::take_linear(inputs),
+        nominal: stage_words::take_linear(inputs),
     }
 }
 
-// How many references a row has, by the count that stands at a place, and 64 where it says more.
-fn references_in(row: &[u64], at: usize) -> usize
-    ensures { result ≤ 64 }
-{
-    let n = stage_words::rows::count(row, at, 0);
-    if n < 64 {
-        return n;
-    }
-    64
-}
-
-// The references that a row begins with, after the count of their floats; those past its end are zero.
-fn references(row: &[u64]) -> [Reference; 64] {
-    let mut rs = [reference(row, row.len()); 64];
-    for k in 0..64usize {
-        rs[k] = reference(row, 1 + 8 * k);
+// Takes references: how many floats they have, and the eight of each. All past these are zero.
+fn take_references(inputs: &mut Inputs) -> [Reference; 64] {
+    let floats: usize = inputs.take();
+    let mut rs = [take_reference(&mut Inputs::new(&[])); 64];
+    for r in rs.iter_mut().take(floats / 8) {
+        *r = take_reference(inputs);
     }
     rs
 }
 
-// ---- answers: words put into a row
-
-// 0 and the model, or the refusal's number.
-fn put_modelled(got: &mut [u64], fitted: Result<IlluminationModel, Refusal>) -> usize {
-    match fitted {
-        Ok(model) => {
-            let next = vectors::put(got, 0, 0);
-            stage_words::rows::put_model(got, next, model)
-        }
-        Err(r) => vectors::put(got, 0, u64::from(u32::from(r))),
-    }
-}
-
-// 0, the noise record and the count of marked references, or the refusal's number.
-fn put_measured(got: &mut [u64], m: Result<Measurement, Refusal>) -> usize {
-    match m {
-        Ok(r) => {
-            let to_record = vectors::put(got, 0, 0);
-            let to_held = stage_words::rows::put_noise(got, to_record, r.noise);
-            vectors::put(got, to_held, r.held as u64)
-        }
-        Err(r) => vectors::put(got, 0, u64::from(u32::from(r))),
-    }
-}
-
-// ---- each function: from the inputs in a row to the answers in another, and how many these are
-
-// `fit` on a scratch, each of whose elements is v.
-fn fit_in(row: &[u64], at: usize, v: f32, scratch: &mut [f32], got: &mut [u64]) -> usize {
-    let side = stage_words::rows::count(row, at, 1);
-    let version = vectors::u8_of(vectors::word_at(row, at, 2));
-    let n = references_in(row, at);
-    let mut kept = [0u8; 64];
-    let fitted = fit_first(references(row), n, side, version, &mut kept, scratch);
-    let to_zeros = put_modelled(got, fitted);
-    stage_words::rows::put_scratch(got, to_zeros, scratch, v)
+// Takes how many of 64 references to lend: all where it says more.
+fn take_count(inputs: &mut Inputs) -> usize
+    ensures { result ≤ 64 }
+{
+    let n: usize = inputs.take();
+    n.min(64)
 }
 
 // fit |flat| n side version len fill = no MODEL zeros
-fn fit(row: &[u64], got: &mut [u64]) -> usize {
-    let mut scratch = [0.0f32; 512];
-    let at = vectors::past_slice(row, 0);
-    let v = stage_words::rows::single(row, at, 4);
-    let len = stage_words::rows::spread(&mut scratch, stage_words::rows::count(row, at, 3), v);
-    fit_in(row, at, v, &mut scratch[..len], got)
-}
-
-// `measure` on a scratch, each of whose elements is v; the hues stand at a place.
-fn measure_in(
-    row: &[u64],
-    at: usize,
-    palette: &[f32],
-    hues: usize,
-    v: f32,
-    scratch: &mut [f32],
-    got: &mut [u64],
-) -> usize {
-    let side = stage_words::rows::count(row, at, 1);
-    let model = stage_words::rows::model(row, stage_words::rows::past(row, at, 2));
-    let n = references_in(row, at);
-    let measured = measure_first(references(row), n, side, model, palette, hues, scratch);
-    let to_zeros = put_measured(got, measured);
-    stage_words::rows::put_scratch(got, to_zeros, scratch, v)
+fn fit(inputs: &mut Inputs, answers: &mut Answers) {
+    let (mut kept, mut scratch) = ([0u8; 64], [0.0f32; 512]);
+    let rs = take_references(inputs);
+    let n = take_count(inputs);
+    let side = inputs.take();
+    let version = inputs.take();
+    let len = inputs.take();
+    let fill = inputs.take();
+    let scratch = vectors::spread(&mut scratch, len, fill);
+    let fitted = fit_first(rs, n, side, version, &mut kept, scratch);
+    stage_words::put_result(answers, fitted, |answers, model| {
+        stage_words::put_model(answers, &model);
+    });
+    stage_words::put_scratch(answers, scratch, fill);
 }
 
 // measure |flat| n side MODEL |palette| hues len fill = no STATS held zeros
-fn measure(row: &[u64], got: &mut [u64]) -> usize {
-    let mut palette = [0.0f32; 256];
-    let mut scratch = [0.0f32; 512];
-    let at = vectors::past_slice(row, 0);
-    let at_palette = stage_words::rows::past_model(row, stage_words::rows::past(row, at, 2));
-    let p = vectors::load_f32(row, at_palette, &mut palette);
-    let at_hues = vectors::past_slice(row, at_palette);
-    let hues = stage_words::rows::count(row, at_hues, 0);
-    let v = stage_words::rows::single(row, at_hues, 2);
-    let len = stage_words::rows::spread(&mut scratch, stage_words::rows::count(row, at_hues, 1), v);
-    measure_in(row, at, &palette[..p], hues, v, &mut scratch[..len], got)
+fn measure(inputs: &mut Inputs, answers: &mut Answers) {
+    let (mut palette, mut scratch) = ([0.0f32; 256], [0.0f32; 512]);
+    let rs = take_references(inputs);
+    let n = take_count(inputs);
+    let side = inputs.take();
+    let model = stage_words::take_model(inputs);
+    let palette = inputs.list(&mut palette);
+    let hues = inputs.take();
+    let len = inputs.take();
+    let fill = inputs.take();
+    let scratch = vectors::spread(&mut scratch, len, fill);
+    let measured = measure_first(rs, n, side, model, palette, hues, scratch);
+    stage_words::put_result(answers, measured, |answers, m| {
+        stage_words::put_noise(answers, m.noise);
+        answers.put(m.held);
+    });
+    stage_words::put_scratch(answers, scratch, fill);
 }
 
-// ---- the list
-
-// Puts what a function answers to the inputs in a row into another, and says how many words these are.
-fn answers(function: usize, row: &[u64], got: &mut [u64]) -> usize {
-    if function == 0 {
-        return fit(row, got);
+// Calls the function of this name.
+fn answer(name: &str, inputs: &mut Inputs, answers: &mut Answers) {
+    match name {
+        "fit" => fit(inputs, answers),
+        "measure" => measure(inputs, answers),
+        _ => {}
     }
-    if function == 1 {
-        return measure(row, got);
-    }
-    0
-}
-
-// Reads the record that begins at `at` and compares its answers.
-fn replayed(text: &[u8], at: usize, names: &[u8]) -> Compared {
-    let mut row = [0u64; 1024];
-    let mut wanted = [0u64; 128];
-    let mut got = [0u64; 128];
-    let f = vectors::function_of(text, at, names);
-    let read = vectors::read_record(text, at, &mut row, &mut wanted);
-    let n = answers(f, &row, &mut got);
-    vectors::compare(f, at, read, &wanted, &got, n)
-}
-
-// Goes through all records of a list.
-fn replay(text: &[u8], names: &[u8]) -> Tally {
-    let mut t = vectors::empty();
-    let mut at = 0usize;
-    while at < text.len() {
-        if !vectors::is_comment(text, at) {
-            t = vectors::counted(t, replayed(text, at, names));
-        }
-        at = vectors::next_line(text, at);
-    }
-    t
 }
 
 fn main(rt: HostRuntime) -> io::Result<()> {
-    // the functions, one a line
-    let names = b"fit\nmeasure\n";
-    let mut text = [0u8; 262144];
-    let n = vectors::load(&rt, b"records.txt", &mut text)?;
-    let t = replay(&text[..n], names);
-    vectors::report(&rt, &text[..n], names, t)
+    vectors::replay(&rt, "records.txt", &["fit", "measure"], answer)
 }
