@@ -38,13 +38,5 @@ module _ (side : ℕ) (flat : List Float) (n : ℕ) where
     unfolding reference_placement at
     positions-placed = none 7
 
-    -- references that are not too many stand in flat
-    pub stand-placed : (n ≤ 16384 → 8 * n ≤ length flat) → 8 * n ≤ length flat
-    stand-placed h = h few-placed
-
--- r is what the code's test gave
-pub stand-tested : (flat : List Float) (n : ℕ) (r : Bool) → r ≡ too_many n → r ≡ false → (n ≤ 16384 → 8 * n ≤ length flat) → 8 * n ≤ length flat
-stand-tested flat n r e f h = h (few_in n (sym e ∙ f))
-
 -- a call's `check` over this group: what it refuses is passed on, or it is passed
 pub ruleset placements = (ahead_on, behind, references-sound)

@@ -1,3 +1,2 @@
--- What the contracts of `references` cite: references and their sentences, and what the functions over them ask.
+-- What the contracts of `references` cite: references and their sentences.
 pub mod References
-pub mod Ready

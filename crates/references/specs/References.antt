@@ -1,5 +1,5 @@
 -- References as flat floats, eight each: x, y, the observed colour, the nominal colour; sentences 7 and 8 of them; the scratch that goes with them. Definitions only.
-use Rattle.std.specs.Prelude.{Bool, not, ◌||◌, ◌&&◌, List, [], ◌∷◌, ℕ, ◌+◌, ◌*◌, ltb, pos, get_or, Float}
+use Rattle.std.specs.Prelude.{◌≡◌, Bool, not, ◌||◌, ◌&&◌, List, [], ◌∷◌, ℕ, ◌+◌, ◌*◌, ltb, pos, get_or, Float}
 use Rattle.std.specs.Float.{nan, binary32}
 use Rattle.std.specs.Float.Ieee.{le, neg, of_int}
 use Rattle.loops.specs.Loops.{any_up}
@@ -7,8 +7,16 @@ use Rattle.sentences.specs.Sentences.{Sentence, ◌when◌}
 use Rattle.color.specs.declared.Linear.{Linear}
 use Rattle.color.specs.Palette.{wild_at}
 use Rattle.illum.specs.Refusals.{not_finite_at}
+use Rattle.references.specs.declared.Primary.{Primary}
+use Rattle.references.specs.declared.Primary.TheVariants.{Red, Green, Blue}
 
 -- ---- what stands where
+
+-- the place of a channel among the three
+abbrev pub place_of : Primary → ℕ
+place_of Red = 0
+place_of Green = 1
+place_of Blue = 2
 
 abbrev pub x_at : List Float → ℕ → Float
 x_at flat i = get_or flat (8 * i) nan
@@ -22,6 +30,10 @@ observed_of flat c i = get_or flat (8 * i + 2 + c) nan
 
 abbrev pub nominal_of : List Float → ℕ → ℕ → Float
 nominal_of flat c i = get_or flat (8 * i + 5 + c) nan
+
+-- the colour whose channels stand from the place `at` of reference i on
+abbrev pub colour_at : List Float → ℕ → ℕ → Linear
+colour_at flat at i = record { r = get_or flat (8 * i + at + 0) nan; g = get_or flat (8 * i + at + 1) nan; b = get_or flat (8 * i + at + 2) nan }
 
 abbrev pub observed_at : List Float → ℕ → Linear
 observed_at flat i = record { r = observed_of flat 0 i; g = observed_of flat 1 i; b = observed_of flat 2 i }
@@ -39,6 +51,12 @@ misplaced_at side flat i = bad_position side (x_at flat i) || bad_position side 
 
 abbrev pub bad_positions : ℕ → List Float → ℕ → Bool
 bad_positions side flat n = any_up 0 n (misplaced_at side flat)
+
+-- ---- 8, of all calls
+
+-- r says whether a float from the place `from` on and below `to` is as a test says whose answers are those that Gives has
+abbrev pub Seeks : (Float → Bool → Type 0) → List Float → ℕ → ℕ → Bool → Type 0
+Seeks Gives flat from to r = (f : Float → Bool) → ((x : Float) (b : Bool) → Gives x b → b ≡ f x) → r ≡ any_up from to (λ k. f (get_or flat k nan))
 
 -- ---- 8, of `fit`: "`fit` refuses reference colours only where they are not finite"
 

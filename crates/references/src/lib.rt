@@ -1,62 +1,177 @@
 // References of known colour as flat floats, eight each: x, y, the observed colour, the nominal colour. What stands where,
 // sentences 6, 7 and 8 of them, and the scratch of 4 × references that is lent with them.
+// The C interface lends the floats; behind a call's refusals they and their count are a `References`.
 #![tactic(auto)]
 
-ghost use Rattle.std.specs.Prelude.{◌≡◌, ◌+◌, ◌*◌, ◌≤◌, length};
+ghost use Rattle.std.specs.Prelude.{◌≡◌, ◌+◌, ◌*◌, ◌<◌, ◌≤◌, length};
 ghost use Rattle.sentences.specs.Sentences.{refusal};
 ghost use Rattle.answers.specs.Answers.{outcome_number};
 ghost use Rattle.order.specs.Deviation.{cleared};
 ghost use Rattle.references.specs.References as spec;
-ghost use Rattle.references.specs.Ready.{Component};
 
 use answers::Refusal;
 use color::Linear;
 
-// ---- what stands where
-
-// Core: channel c, 0 to 2, of the observed colour of reference i.
-pub fn observed_of(flat: &[f32], c: usize, i: usize) -> f32
-    requires { Component flat.now c i }
-    ensures { result ≡ spec.observed_of flat.now c i }
-{
-    flat[8 * i + 2 + c]
+// A channel of a colour.
+#[derive(Clone, Copy, Debug, PartialEq, Eq)]
+pub enum Primary {
+    Red,
+    Green,
+    Blue,
 }
 
-// Core: channel c, 0 to 2, of the nominal colour of reference i.
-pub fn nominal_of(flat: &[f32], c: usize, i: usize) -> f32
-    requires { Component flat.now c i }
-    ensures { result ≡ spec.nominal_of flat.now c i }
-{
-    flat[8 * i + 5 + c]
-}
+// Its place among the three.
+impl From<Primary> for usize {
+    ghost from_gives = { λ channel c. (c ≡ spec.place_of channel) × (c < 3) };
 
-// Core: the observed colour of reference i.
-pub fn observed_at(flat: &[f32], i: usize) -> Linear
-    requires { 8 * i + 8 ≤ length flat.now }
-    ensures { result ≡ spec.observed_at flat.now i }
-{
-    Linear {
-        r: observed_of(flat, 0, i),
-        g: observed_of(flat, 1, i),
-        b: observed_of(flat, 2, i),
+    fn from(channel: Primary) -> usize {
+        match channel {
+            Primary::Red => 0,
+            Primary::Green => 1,
+            Primary::Blue => 2,
+        }
     }
 }
 
-// Core: the nominal colour of reference i.
-pub fn nominal_at(flat: &[f32], i: usize) -> Linear
-    requires { 8 * i + 8 ≤ length flat.now }
-    ensures { result ≡ spec.nominal_at flat.now i }
-{
-    Linear {
-        r: nominal_of(flat, 0, i),
-        g: nominal_of(flat, 1, i),
-        b: nominal_of(flat, 2, i),
+// The floats of references and how many they are, which the floats reach for and sentence 6 lets pass.
+#[derive(Clone, Copy, Debug)]
+pub struct References<'a> {
+    pub flat: &'a [f32],
+    pub n: usize,
+    ghost stand: { 8 * n ≤ length flat.now },
+    ghost few: { n ≤ 16384 },
+}
+
+impl<'a> References<'a> {
+    // Core: n references, not too many, of floats that are long enough for them.
+    pub fn new(flat: &'a [f32], n: usize) -> References<'a>
+        requires { (8 * n ≤ length flat.now) × (n ≤ 16384) }
+        ensures { (result.flat.now ≡ flat.now) × (result.n ≡ n) }
+    {
+        References { flat, n }
+    }
+
+    // ---- what stands where
+
+    // Core: where reference i stands, from the left.
+    pub fn x(&self, i: usize) -> f32
+        requires { i < self.now.n }
+        ensures { result ≡ spec.x_at self.now.flat.now i }
+    {
+        self.flat[8 * i]
+    }
+
+    // Core: and from the top.
+    pub fn y(&self, i: usize) -> f32
+        requires { i < self.now.n }
+        ensures { result ≡ spec.y_at self.now.flat.now i }
+    {
+        self.flat[8 * i + 1]
+    }
+
+    // The colour that stands at the place `at` of reference i.
+    fn colour(&self, i: usize, at: usize) -> Linear
+        requires { (i < self.now.n) × (at ≤ 5) }
+        ensures { result ≡ spec.colour_at self.now.flat.now at i }
+    {
+        Linear {
+            r: self.flat[8 * i + at],
+            g: self.flat[8 * i + at + 1],
+            b: self.flat[8 * i + at + 2],
+        }
+    }
+
+    // Core: a channel of the observed colour of reference i.
+    pub fn observed_of(&self, channel: Primary, i: usize) -> f32
+        requires { i < self.now.n }
+        ensures { result ≡ spec.observed_of self.now.flat.now (spec.place_of channel) i }
+    {
+        self.flat[8 * i + 2 + usize::from(channel)]
+    }
+
+    // Core: a channel of the nominal colour of reference i.
+    pub fn nominal_of(&self, channel: Primary, i: usize) -> f32
+        requires { i < self.now.n }
+        ensures { result ≡ spec.nominal_of self.now.flat.now (spec.place_of channel) i }
+    {
+        self.flat[8 * i + 5 + usize::from(channel)]
+    }
+
+    // Core: the observed colour of reference i.
+    pub fn observed(&self, i: usize) -> Linear
+        requires { i < self.now.n }
+        ensures { result ≡ spec.observed_at self.now.flat.now i }
+    {
+        self.colour(i, 2)
+    }
+
+    // Core: the nominal colour of reference i.
+    pub fn nominal(&self, i: usize) -> Linear
+        requires { i < self.now.n }
+        ensures { result ≡ spec.nominal_at self.now.flat.now i }
+    {
+        self.colour(i, 5)
+    }
+
+    // ---- sentence 7
+
+    // Reference i is misplaced.
+    #[tactic(auto, unfolding(crate::specs::References::misplaced_at))]
+    fn misplaced(&self, side: usize, i: usize) -> bool
+        requires { (side ≤ 1024) × (i < self.now.n) }
+        ensures { result ≡ spec.misplaced_at side self.now.flat.now i }
+    {
+        bad_position(side, self.x(i)) || bad_position(side, self.y(i))
+    }
+
+    // Sentence 7, one of the references is misplaced.
+    fn bad_positions(&self, side: usize) -> bool
+        requires { side ≤ 1024 }
+        ensures { result ≡ spec.bad_positions side self.now.flat.now self.now.n }
+    {
+        (0..self.n).any(|i| self.misplaced(side, i))
+    }
+
+    // ---- sentence 8
+
+    // Whether a component of the colours of reference i is as the test says.
+    fn colour_is<F: Fn(f32) -> bool>(&self, i: usize, test: &F) -> bool
+        requires stands { i < self.now.n }
+        requires callable { F.IsAlwaysCallable test.now }
+        ensures { spec.Seeks (F.post test.now) self.now.flat.now (8 * i + 2) (8 * i + 8) result }
+    {
+        (8 * i + 2..8 * i + 8).any(|k| test(self.flat[k]))
+    }
+
+    // Core: sentence 8 of `fit`, one of the references has a colour that is not finite.
+    pub fn bad_colours(&self) -> bool
+        ensures { result ≡ spec.bad_colours self.now.flat.now self.now.n }
+    {
+        (0..self.n).any(
+            |i|
+                requires { i < self.now.n }
+                ensures { result ≡ spec.bad_colour_at self.entry.now.flat.now i }
+            { self.colour_is(i, &|v| illum::not_finite(v)) },
+        )
+    }
+
+    // Core: sentence 8 of other calls, one of the references has a component above 1,048,576 in magnitude, or such a colour.
+    pub fn wild_colours(&self) -> bool
+        ensures { result ≡ spec.wild_colours self.now.flat.now self.now.n }
+    {
+        (0..self.n).any(
+            |i|
+                requires { i < self.now.n }
+                ensures { result ≡ spec.wild_colour_at self.entry.now.flat.now i }
+            { self.colour_is(i, &|v| color::palette::wild(v)) },
+        )
     }
 }
 
 // ---- sentences 6 and 7
 
 // Core: sentence 6, there are more than 16,384 references.
+#[tactic(auto, unfolding(crate::specs::References::too_many))]
 pub fn too_many(n: usize) -> bool
     ensures { result ≡ spec.too_many n }
 {
@@ -64,41 +179,16 @@ pub fn too_many(n: usize) -> bool
 }
 
 // Core: a coordinate is not a number from -16 to side + 16.
+#[tactic(auto, unfolding(crate::specs::References::bad_position), using(crate::proofs::Literals::literals))]
 pub fn bad_position(side: usize, v: f32) -> bool
     requires { side ≤ 1024 }
     ensures { result ≡ spec.bad_position side v }
 {
-    if -16.0 <= v {
-        return !(v <= (side + 16) as f32);
-    }
-    true
-}
-
-// Reference i is misplaced.
-fn misplaced(side: usize, flat: &[f32], i: usize) -> bool
-    requires { (side ≤ 1024) × (8 * i + 8 ≤ length flat.now) }
-    ensures { result ≡ spec.misplaced_at side flat.now i }
-{
-    if bad_position(side, flat[8 * i]) {
-        return true;
-    }
-    bad_position(side, flat[8 * i + 1])
-}
-
-// Sentence 7, one of n references is misplaced.
-fn bad_positions(side: usize, flat: &[f32], n: usize) -> bool
-    requires { (side ≤ 1024) × (8 * n ≤ length flat.now) }
-    ensures { result ≡ spec.bad_positions side flat.now n }
-{
-    for i in 0..n {
-        if misplaced(side, flat, i) {
-            return true;
-        }
-    }
-    false
+    !(-16.0 <= v && v <= (side + 16) as f32)
 }
 
 // Core: refuses n references by 6 and 7, their number and their positions.
+#[tactic(auto, unfolding(sentences::specs::Sentences::refusal, crate::specs::References::reference_placement, crate::specs::References::too_many))]
 pub fn check_references(side: usize, flat: &[f32], n: usize) -> Result<(), Refusal>
     requires { (side ≤ 1024) × (n ≤ 16384 → 8 * n ≤ length flat.now) }
     ensures { outcome_number result ≡ refusal (spec.reference_placement side flat.now n) }
@@ -106,64 +196,10 @@ pub fn check_references(side: usize, flat: &[f32], n: usize) -> Result<(), Refus
     if too_many(n) {
         return Err(Refusal::Count);
     }
-    if bad_positions(side, flat, n) {
+    if References::new(flat, n).bad_positions(side) {
         return Err(Refusal::Place);
     }
     Ok(())
-}
-
-// ---- sentence 8
-
-// A component of the colours of reference i is not finite.
-fn bad_colour(flat: &[f32], i: usize) -> bool
-    requires { 8 * i + 8 ≤ length flat.now }
-    ensures { result ≡ spec.bad_colour_at flat.now i }
-{
-    for k in 8 * i + 2..8 * i + 8 {
-        if illum::not_finite(flat[k]) {
-            return true;
-        }
-    }
-    false
-}
-
-// Core: sentence 8 of `fit`, one of n references has a colour that is not finite.
-pub fn bad_colours(flat: &[f32], n: usize) -> bool
-    requires { 8 * n ≤ length flat.now }
-    ensures { result ≡ spec.bad_colours flat.now n }
-{
-    for i in 0..n {
-        if bad_colour(flat, i) {
-            return true;
-        }
-    }
-    false
-}
-
-// A component of the colours of reference i is not finite or above 1,048,576 in magnitude.
-fn wild_colour(flat: &[f32], i: usize) -> bool
-    requires { 8 * i + 8 ≤ length flat.now }
-    ensures { result ≡ spec.wild_colour_at flat.now i }
-{
-    for k in 8 * i + 2..8 * i + 8 {
-        if color::palette::wild(flat[k]) {
-            return true;
-        }
-    }
-    false
-}
-
-// Core: sentence 8 of other calls, one of n references has such a colour.
-pub fn wild_colours(flat: &[f32], n: usize) -> bool
-    requires { 8 * n ≤ length flat.now }
-    ensures { result ≡ spec.wild_colours flat.now n }
-{
-    for i in 0..n {
-        if wild_colour(flat, i) {
-            return true;
-        }
-    }
-    false
 }
 
 // ---- the scratch
@@ -180,7 +216,5 @@ pub fn clear(scratch: &mut [f32], n: usize)
     requires { n ≤ length scratch.old }
     ensures { scratch.new ≡ cleared n scratch.old }
 {
-    for i in 0..n {
-        scratch[i] = 0.0;
-    }
+    scratch[..n].fill(0.0);
 }
