@@ -1,4 +1,3 @@
--- What the contracts of `equations` cite: which references are live, one pass's equations, and what its functions ask.
+-- What the contracts of `equations` cite: which references are live, and one pass's equations.
 pub mod Live
 pub mod Once
-pub mod Ready

@@ -13,8 +13,11 @@ dropped_mark = fin false 0 (pos 0)
 abbrev pub live_marks : ℕ → List Float
 live_marks n = replicate n live_mark
 
-unfoldable pub is_live : List Float → ℕ → Bool
-is_live live i = eq (get_or live i nan) live_mark
+unfoldable pub is_live_mark : Float → Bool
+is_live_mark mark = eq mark live_mark
+
+abbrev pub is_live : List Float → ℕ → Bool
+is_live live i = is_live_mark (get_or live i nan)
 
 -- how many of the first n are live
 abbrev pub live_count : List Float → ℕ → ℕ

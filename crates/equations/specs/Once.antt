@@ -1,6 +1,6 @@
 -- One pass's equations: the Rust's `fit_once`, channel by channel and row by row, in its order of operations. Definitions only.
 -- The Rust collects the rows and hands them to `least_squares`; here each live reference's row is added to the normal equations as it comes.
-use Rattle.std.specs.Prelude.{cond, List, [], ◌∷◌, ℕ, ◌+◌, ◌*◌, ltb, leb, get_or, set, replicate, Float, Option, None, Some}
+use Rattle.std.specs.Prelude.{◌≡◌, cond, List, [], ◌∷◌, ℕ, ◌+◌, ◌*◌, ◌<◌, ltb, leb, get_or, set, replicate, Float, Option, None, Some}
 use Rattle.std.specs.Option.{option_map}
 use Rattle.std.specs.Float.{nan, binary64}
 use Rattle.std.specs.Float.Ieee.{mul}
@@ -46,19 +46,35 @@ design_of p b nominal =
     let gains = scaled b t nominal (replicate 18 zero64) in
     cond p.flare (appended b t gains) gains
 
--- observed ≈ gain * nominal + flare at reference i
-unfoldable pub surface_row : Plan → List Float → ℕ → ℕ → System → System
-surface_row p flat c i s =
-    add_row (width_of p) (design_of p (basis_at p.terms p.side (x_at flat i) (y_at flat i)) (nominal_of flat c i)) (observed_of flat c i) s
+-- row i with its target is added where reference i is live; all of n are
+unfoldable pub live_row : ℕ → List Float → (ℕ → List Float) → (ℕ → Float) → ℕ → System → System
+live_row w live row target i s = cond (is_live live i) (add_row w (row i) (target i) s) s
 
-unfoldable pub surface_row_at : Plan → List Float → List Float → ℕ → ℕ → System → System
-surface_row_at p flat live c i s = cond (is_live live i) (surface_row p flat c i s) s
+abbrev pub live_rows : ℕ → List Float → (ℕ → List Float) → (ℕ → Float) → ℕ → System → System
+live_rows w live row target n s = for_up 0 n (live_row w live row target) s
+
+-- t has the rows and targets that two closures give, added to s, whatever functions of a reference these are
+abbrev pub AddsRows : (ℕ → List Float → Type 0) → (ℕ → Float → Type 0) → ℕ → List Float → ℕ → System → System → Type 0
+AddsRows Rows Targets w live n s t =
+    (row : ℕ → List Float) (target : ℕ → Float) → ((i : ℕ) (r : List Float) → i < n → Rows i r → r ≡ row i) → ((i : ℕ) (v : Float) → i < n → Targets i v → v ≡ target i)
+    → t ≡ live_rows w live row target n s
+
+-- observed ≈ gain * nominal + flare at reference i
+unfoldable pub surface_row : Plan → List Float → ℕ → ℕ → List Float
+surface_row p flat c i = design_of p (basis_at p.terms p.side (x_at flat i) (y_at flat i)) (nominal_of flat c i)
 
 abbrev pub no_equations : System
 no_equations = system (replicate 324 zero64) (replicate 18 zero64)
 
 abbrev pub surface_rows : Plan → List Float → List Float → ℕ → ℕ → System → System
-surface_rows p flat live c n s = for_up 0 n (surface_row_at p flat live c) s
+surface_rows p flat live c n s = live_rows (width_of p) live (surface_row p flat c) (observed_of flat c) n s
+
+-- the solution of the equations of w unknowns, where there is one
+abbrev pub found_in : Settled → Option (List Float)
+found_in s = cond s.found (Some s.x) None
+
+abbrev pub solution : ℕ → System → Option (List Float)
+solution w s = found_in (finish w s (replicate 18 zero64))
 
 -- t coefficients of the solution, from the place `from` on; 0 past them
 unfoldable pub taken_at : List Float → ℕ → ℕ → List Float → List Float
@@ -76,13 +92,14 @@ solved_surface p x =
     record { gain = coefficients x 0 t; flare = cond p.flare (coefficients x t t) no_flare }
 
 -- a channel without a solution keeps unit gain
-abbrev pub or_unit : Plan → Settled → Surface
-or_unit p s = cond s.found (solved_surface p s.x) unit_surface
+abbrev pub or_unit : Plan → Option (List Float) → Surface
+or_unit p (Some x) = solved_surface p x
+or_unit p None = unit_surface
 
 -- channel c's surfaces; fewer live references than unknowns have no solution
 unfoldable pub surface_of : Plan → List Float → List Float → ℕ → ℕ → ℕ → Surface
 surface_of p flat live c n count =
-    cond (ltb count (width_of p)) unit_surface (or_unit p (finish (width_of p) (surface_rows p flat live c n no_equations) (replicate 18 zero64)))
+    cond (ltb count (width_of p)) unit_surface (or_unit p (solution (width_of p) (surface_rows p flat live c n no_equations)))
 
 -- the model with other surfaces
 abbrev pub with_surfaces : IlluminationModel → Surface → Surface → Surface → IlluminationModel
@@ -111,29 +128,23 @@ surfaces_of m flat live n count =
 
 -- ---- stage 2: the affine part over the de-shaded observations
 
--- the three inverses and 1
+-- the three inverses and 1; what stands past them is not read
 abbrev pub inverses_of : Unshaded → List Float
-inverses_of d = d.r.value ∷ d.g.value ∷ d.b.value ∷ one64 ∷ []
+inverses_of d = d.r.value ∷ d.g.value ∷ d.b.value ∷ one64 ∷ replicate 14 zero64
 
 unfoldable pub affine_row_of : IlluminationModel → List Float → ℕ → List Float
 affine_row_of m flat i = inverses_of (unshaded m (x_at flat i) (y_at flat i) (observed_at flat i))
 
-unfoldable pub affine_row_at : IlluminationModel → List Float → List Float → ℕ → ℕ → System → System
-affine_row_at m flat live c i s = cond (is_live live i) (add_row 4 (affine_row_of m flat i) (nominal_of flat c i) s) s
-
 abbrev pub affine_rows : IlluminationModel → List Float → List Float → ℕ → ℕ → System → System
-affine_rows m flat live c n s = for_up 0 n (affine_row_at m flat live c) s
+affine_rows m flat live c n s = live_rows 4 live (affine_row_of m flat) (nominal_of flat c) n s
 
 -- the first four of the unknowns
 abbrev pub four_of : List Float → List Float
 four_of x = get_or x 0 nan ∷ get_or x 1 nan ∷ get_or x 2 nan ∷ get_or x 3 nan ∷ []
 
-abbrev pub row_of : Settled → Option (List Float)
-row_of s = cond s.found (Some (four_of s.x)) None
-
 -- channel c's row of the affine part, where it has a solution
 unfoldable pub fit_row : IlluminationModel → List Float → List Float → ℕ → ℕ → Option (List Float)
-fit_row m flat live c n = row_of (finish 4 (affine_rows m flat live c n no_equations) (replicate 18 zero64))
+fit_row m flat live c n = option_map four_of (solution 4 (affine_rows m flat live c n no_equations))
 
 -- none where a channel has none
 abbrev pub rows_of : Option (List Float) → Option (List Float) → Option (List Float) → Option Affine

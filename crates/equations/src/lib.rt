@@ -3,18 +3,18 @@
 #![tactic(auto)]
 
 ghost use Rattle.std.specs.Prelude.{◌≡◌, ◌+◌, ◌*◌, ◌<◌, ◌≤◌, length};
-ghost use Rattle.math.specs.Gauss.{system, settled};
-ghost use Rattle.math.specs.Normal as normal;
-ghost use Rattle.references.specs.Ready.{Component};
+ghost use Rattle.math.specs.Gauss.{system};
+ghost use Rattle.references.specs.References.{place_of};
 ghost use Rattle.equations.specs.Once as spec;
-ghost use Rattle.equations.specs.Ready.{Marked};
+ghost use Rattle.equations.specs.Live.{live_count};
 
 pub mod live;
 
 use illum::IlluminationModel;
+use references::{Primary, References};
 
 // The shape of a channel's surfaces: their terms, the card's side, and whether flare is fitted.
-#[derive(Clone, Copy)]
+#[derive(Clone, Copy, Debug)]
 pub struct Plan {
     pub terms: usize,
     pub side: f32,
@@ -22,40 +22,89 @@ pub struct Plan {
 }
 
 // A channel's surfaces.
-#[derive(Clone, Copy)]
+#[derive(Clone, Copy, Debug)]
 pub struct Surface {
     pub gain: [f64; 9],
     pub flare: [f64; 9],
 }
 
 // The affine part, a row a channel.
-#[derive(Clone, Copy)]
+#[derive(Clone, Copy, Debug)]
 pub struct Affine {
     pub r: [f64; 4],
     pub g: [f64; 4],
     pub b: [f64; 4],
 }
 
-// ---- stage 1: forward gain and flare surfaces, per channel
-
-// How many unknowns a channel has.
-fn width(p: Plan) -> usize
-    ensures { result ≡ spec.width_of p }
-{
-    let t = illum::terms_used(p.terms);
-    if p.flare {
-        return 2 * t;
-    }
-    t
+// References with a mark for each, as `live` has them.
+#[derive(Clone, Copy, Debug)]
+pub struct Selection<'a> {
+    pub references: References<'a>,
+    pub marks: &'a [f32],
+    ghost marked: { length marks.now ≡ references.n },
 }
+
+// Normal equations of up to 18 unknowns.
+#[derive(Debug, Drop)]
+struct Equations {
+    ata: [f64; 324],
+    atb: [f64; 18],
+}
+
+impl Equations {
+    // No row.
+    #[tactic(auto, unfolding(illum::specs::Surface::zero64))]
+    fn none() -> Equations
+        ensures { system result.ata result.atb ≡ spec.no_equations }
+    {
+        let ata = [0.0; 324];
+        let atb = [0.0; 18];
+        Equations { ata, atb }
+    }
+
+    // Adds the row and the target of each live reference, of w unknowns.
+    fn add_rows<F: Fn(usize) -> [f64; 18], G: Fn(usize) -> f64>(
+        &mut self,
+        selection: &Selection,
+        w: usize,
+        row: F,
+        target: G,
+    )
+        requires unknowns { w ≤ 18 }
+        requires row { (i : _) → i < selection.now.references.n → F.pre row i }
+        requires target { (i : _) → i < selection.now.references.n → G.pre target i }
+        ensures { spec.AddsRows (F.post row) (G.post target) w selection.now.marks.now selection.now.references.n (system self.old.ata self.old.atb) (system self.new.ata self.new.atb) }
+    {
+        for (i, &mark) in selection.marks.iter().enumerate() {
+            if live::is_live(mark) {
+                math::add_row_core(&mut self.ata, &mut self.atb, &row(i), target(i), w);
+            }
+        }
+    }
+
+    // The solution of w unknowns, where there is one.
+    fn solve(&mut self, w: usize) -> Option<[f64; 18]>
+        requires { w ≤ 18 }
+        ensures { result ≡ spec.solution w (system self.old.ata self.old.atb) }
+    {
+        let mut x = [0.0; 18];
+        if math::finish_core(&mut self.ata, &mut self.atb, &mut x, w) {
+            Some(x)
+        } else {
+            None
+        }
+    }
+}
+
+// ---- stage 1: forward gain and flare surfaces, per channel
 
 // The basis times the nominal value, at the start of a row.
 fn scale_terms(row: &mut [f64; 18], b: [f64; 9], t: usize, nominal: f64)
     requires { t ≤ 9 }
     ensures { row.new ≡ spec.scaled b t nominal row.old }
 {
-    for k in 0..t {
-        row[k] = b[k] * nominal;
+    for (k, &term) in b[..t].iter().enumerate() {
+        row[k] = term * nominal;
     }
 }
 
@@ -64,70 +113,8 @@ fn append_terms(row: &mut [f64; 18], b: [f64; 9], t: usize)
     requires { t ≤ 9 }
     ensures { row.new ≡ spec.appended b t row.old }
 {
-    for k in 0..t {
-        row[t + k] = b[k];
-    }
-}
-
-// A design row: gain's terms and, where flare is fitted, flare's.
-fn design(p: Plan, b: [f64; 9], nominal: f64) -> [f64; 18]
-    ensures { result ≡ spec.design_of p b nominal }
-{
-    let t = illum::terms_used(p.terms);
-    let mut row = [0.0f64; 18];
-    scale_terms(&mut row, b, t, nominal);
-    if p.flare {
-        append_terms(&mut row, b, t);
-        return row;
-    }
-    row
-}
-
-// Adds reference i's row of channel c.
-fn surface_row(ata: &mut [f64; 324], atb: &mut [f64; 18], p: Plan, flat: &[f32], c: usize, i: usize)
-    requires { Component flat.now c i }
-    ensures { system ata.new atb.new ≡ spec.surface_row p flat.now c i (system ata.old atb.old) }
-{
-    let b = illum::basis(p.terms, p.side, flat[8 * i], flat[8 * i + 1]);
-    let row = design(p, b, float::widen(references::nominal_of(flat, c, i)));
-    let target = float::widen(references::observed_of(flat, c, i));
-    math::add_row_core(ata, atb, &row, target, width(p));
-}
-
-// The same where it is live.
-fn surface_row_at(
-    ata: &mut [f64; 324],
-    atb: &mut [f64; 18],
-    p: Plan,
-    flat: &[f32],
-    live: &[f32],
-    c: usize,
-    i: usize,
-)
-    requires { Component flat.now c i × (i < length live.now) }
-    ensures { system ata.new atb.new ≡ spec.surface_row_at p flat.now live.now c i (system ata.old atb.old) }
-{
-    if live::is_live(live, i) {
-        surface_row(ata, atb, p, flat, c, i);
-        return;
-    }
-}
-
-// Adds the rows of channel c of all n references.
-fn surface_rows(
-    ata: &mut [f64; 324],
-    atb: &mut [f64; 18],
-    p: Plan,
-    flat: &[f32],
-    live: &[f32],
-    c: usize,
-    n: usize,
-)
-    requires { (c < 3) × Marked n flat.now live.now }
-    ensures { system ata.new atb.new ≡ spec.surface_rows p flat.now live.now c n (system ata.old atb.old) }
-{
-    for i in 0..n {
-        surface_row_at(ata, atb, p, flat, live, c, i);
+    for (k, &term) in b[..t].iter().enumerate() {
+        row[t + k] = term;
     }
 }
 
@@ -136,9 +123,9 @@ fn coefficients(x: [f64; 18], from: usize, t: usize) -> [f64; 9]
     requires { (t ≤ 9) × (from + t ≤ 18) }
     ensures { result ≡ spec.coefficients x from t }
 {
-    let mut l = [0.0, 0.0, 0.0, 0.0, 0.0, 0.0, 0.0, 0.0, 0.0];
-    for k in 0..t {
-        l[k] = x[from + k];
+    let mut l = [0.0; 9];
+    for (k, &v) in x[from..from + t].iter().enumerate() {
+        l[k] = v;
     }
     l
 }
@@ -148,49 +135,59 @@ fn unit_surface() -> Surface
     ensures { result ≡ spec.unit_surface }
 {
     let gain = [1.0, 0.0, 0.0, 0.0, 0.0, 0.0, 0.0, 0.0, 0.0];
-    let flare = [0.0, 0.0, 0.0, 0.0, 0.0, 0.0, 0.0, 0.0, 0.0];
+    let flare = [0.0; 9];
     Surface { gain, flare }
 }
 
-// The surfaces of a solution.
-fn solved_surface(p: Plan, x: [f64; 18]) -> Surface
-    ensures { result ≡ spec.solved_surface p x }
-{
-    let t = illum::terms_used(p.terms);
-    let gain = coefficients(x, 0, t);
-    if p.flare {
-        let flare = coefficients(x, t, t);
-        return Surface { gain, flare };
+impl Plan {
+    // How many unknowns a channel has.
+    #[tactic(auto, unfolding(crate::specs::Once::width_of), using(crate::proofs::Widths::terms_most))]
+    fn width(self) -> usize
+        ensures { (result ≡ spec.width_of self) × (result ≤ 18) }
+    {
+        let t = illum::terms_used(self.terms);
+        if self.flare { 2 * t } else { t }
     }
-    let flare = [0.0, 0.0, 0.0, 0.0, 0.0, 0.0, 0.0, 0.0, 0.0];
-    Surface { gain, flare }
-}
 
-// The solution of the equations of w unknowns, where there is one.
-fn finish(ata: &mut [f64; 324], atb: &mut [f64; 18], x: &mut [f64; 18], w: usize) -> bool
-    requires { w ≤ 18 }
-    ensures { settled result ata.new atb.new x.new ≡ normal.finish w (system ata.old atb.old) x.old }
-{
-    math::finish_core(ata, atb, x, w)
-}
+    // A design row: gain's terms and, where flare is fitted, flare's.
+    #[tactic(auto, unfolding(crate::specs::Once::design_of), using(crate::proofs::Widths::terms_most, crate::proofs::Widths::zero))]
+    fn design(self, b: [f64; 9], nominal: f64) -> [f64; 18]
+        ensures { result ≡ spec.design_of self b nominal }
+    {
+        let t = illum::terms_used(self.terms);
+        let mut row = [0.0; 18];
+        scale_terms(&mut row, b, t, nominal);
+        if self.flare {
+            append_terms(&mut row, b, t);
+            return row;
+        }
+        row
+    }
 
-// Channel c's surfaces from n references, `count` of which are live; unit gain where there is no solution.
-fn fit_surface(p: Plan, flat: &[f32], live: &[f32], c: usize, n: usize, count: usize) -> Surface
-    requires { (c < 3) × Marked n flat.now live.now }
-    ensures { result ≡ spec.surface_of p flat.now live.now c n count }
-{
-    let w = width(p);
-    if count < w {
-        return unit_surface();
+    // That of reference i, for a channel.
+    #[tactic(auto, unfolding(crate::specs::Once::surface_row))]
+    fn row(self, references: &References, channel: Primary, i: usize) -> [f64; 18]
+        requires { i < references.now.n }
+        ensures { result ≡ spec.surface_row self references.now.flat.now (place_of channel) i }
+    {
+        let b = illum::basis(self.terms, self.side, references.x(i), references.y(i));
+        self.design(b, float::widen(references.nominal_of(channel, i)))
     }
-    let mut ata = [0.0f64; 324];
-    let mut atb = [0.0f64; 18];
-    let mut x = [0.0f64; 18];
-    surface_rows(&mut ata, &mut atb, p, flat, live, c, n);
-    if finish(&mut ata, &mut atb, &mut x, w) {
-        return solved_surface(p, x);
+
+    // The surfaces of a solution.
+    #[tactic(auto, unfolding(crate::specs::Once::solved_surface), using(crate::proofs::Widths::terms_most, crate::proofs::Widths::zero))]
+    fn solved(self, x: [f64; 18]) -> Surface
+        ensures { result ≡ spec.solved_surface self x }
+    {
+        let t = illum::terms_used(self.terms);
+        let gain = coefficients(x, 0, t);
+        if self.flare {
+            let flare = coefficients(x, t, t);
+            return Surface { gain, flare };
+        }
+        let flare = [0.0; 9];
+        Surface { gain, flare }
     }
-    unit_surface()
 }
 
 // The model with other surfaces.
@@ -213,110 +210,6 @@ fn with_surfaces(m: IlluminationModel, r: Surface, g: Surface, b: Surface) -> Il
     out
 }
 
-// The model with its surfaces fitted. Flare is fitted from 6 × terms live references on.
-fn fit_surfaces(
-    m: IlluminationModel,
-    flat: &[f32],
-    live: &[f32],
-    n: usize,
-    count: usize,
-) -> IlluminationModel
-    requires { Marked n flat.now live.now }
-    ensures { result ≡ spec.surfaces_of m flat.now live.now n count }
-{
-    let p = Plan {
-        terms: m.terms,
-        side: m.side,
-        flare: 6 * illum::terms_used(m.terms) <= count,
-    };
-    let r = fit_surface(p, flat, live, 0, n, count);
-    let g = fit_surface(p, flat, live, 1, n, count);
-    let b = fit_surface(p, flat, live, 2, n, count);
-    with_surfaces(m, r, g, b)
-}
-
-// ---- stage 2: the affine part over the de-shaded observations
-
-// Reference i's three inverses, and 1.
-fn affine_row(m: IlluminationModel, flat: &[f32], i: usize) -> [f64; 4]
-    requires { 8 * i + 8 ≤ length flat.now }
-    ensures { result ≡ spec.affine_row_of m flat.now i }
-{
-    let d = illum::unshade(
-        m,
-        flat[8 * i],
-        flat[8 * i + 1],
-        references::observed_at(flat, i),
-    );
-    [d.r.value, d.g.value, d.b.value, 1.0]
-}
-
-// Adds it, with channel c's nominal value, where reference i is live.
-fn affine_row_at(
-    ata: &mut [f64; 324],
-    atb: &mut [f64; 18],
-    m: IlluminationModel,
-    flat: &[f32],
-    live: &[f32],
-    c: usize,
-    i: usize,
-)
-    requires { Component flat.now c i × (i < length live.now) }
-    ensures { system ata.new atb.new ≡ spec.affine_row_at m flat.now live.now c i (system ata.old atb.old) }
-{
-    if live::is_live(live, i) {
-        let row = affine_row(m, flat, i);
-        let target = float::widen(references::nominal_of(flat, c, i));
-        math::add_row_core(ata, atb, &row, target, 4);
-        return;
-    }
-}
-
-// Adds the rows of all n references.
-fn affine_rows(
-    ata: &mut [f64; 324],
-    atb: &mut [f64; 18],
-    m: IlluminationModel,
-    flat: &[f32],
-    live: &[f32],
-    c: usize,
-    n: usize,
-)
-    requires { (c < 3) × Marked n flat.now live.now }
-    ensures { system ata.new atb.new ≡ spec.affine_rows m flat.now live.now c n (system ata.old atb.old) }
-{
-    for i in 0..n {
-        affine_row_at(ata, atb, m, flat, live, c, i);
-    }
-}
-
-// Channel c's row of the affine part, where its equations have a solution.
-fn fit_row(m: IlluminationModel, flat: &[f32], live: &[f32], c: usize, n: usize) -> Option<[f64; 4]>
-    requires { (c < 3) × Marked n flat.now live.now }
-    ensures { result ≡ spec.fit_row m flat.now live.now c n }
-{
-    let mut ata = [0.0f64; 324];
-    let mut atb = [0.0f64; 18];
-    let mut x = [0.0f64; 18];
-    affine_rows(&mut ata, &mut atb, m, flat, live, c, n);
-    if finish(&mut ata, &mut atb, &mut x, 4) {
-        return Some([x[0], x[1], x[2], x[3]]);
-    }
-    None
-}
-
-// The affine part, where every channel has a solution.
-#[tactic(auto, unfolding(crate::specs::Once::affine_of))]
-fn fit_affine(m: IlluminationModel, flat: &[f32], live: &[f32], n: usize) -> Option<Affine>
-    requires { Marked n flat.now live.now }
-    ensures { result ≡ spec.affine_of m flat.now live.now n }
-{
-    let r = fit_row(m, flat, live, 0, n)?;
-    let g = fit_row(m, flat, live, 1, n)?;
-    let b = fit_row(m, flat, live, 2, n)?;
-    Some(Affine { r, g, b })
-}
-
 // The model with another affine part.
 fn with_affine(m: IlluminationModel, a: Affine) -> IlluminationModel
     ensures { result ≡ spec.with_affine m a }
@@ -331,23 +224,122 @@ fn with_affine(m: IlluminationModel, a: Affine) -> IlluminationModel
     out
 }
 
-// Core: the model that one pass's equations over the live ones of n references give, from model m: none where fewer than 8 are live
-// or a row of the affine part has no solution.
-#[tactic(auto, unfolding(crate::specs::Once::fit_once))]
-pub fn fit_once(
-    m: IlluminationModel,
-    flat: &[f32],
-    live: &[f32],
-    n: usize,
-) -> Option<IlluminationModel>
-    requires { Marked n flat.now live.now }
-    ensures { result ≡ spec.fit_once m flat.now live.now n }
+// Reference i's three inverses, and 1; what stands past them is not read.
+#[tactic(auto, unfolding(crate::specs::Once::affine_row_of), using(crate::proofs::Widths::zero, crate::proofs::Widths::one))]
+fn affine_row(m: IlluminationModel, references: &References, i: usize) -> [f64; 18]
+    requires { i < references.now.n }
+    ensures { result ≡ spec.affine_row_of m references.now.flat.now i }
 {
-    let count = live::live_count(live, n);
-    if count < 8 {
-        return None;
+    let d = illum::unshade(m, references.x(i), references.y(i), references.observed(i));
+    let mut row = [0.0; 18];
+    row[0] = d.r.value;
+    row[1] = d.g.value;
+    row[2] = d.b.value;
+    row[3] = 1.0;
+    row
+}
+
+impl<'a> Selection<'a> {
+    // Core: references with as many marks.
+    pub fn new(references: References<'a>, marks: &'a [f32]) -> Selection<'a>
+        requires { length marks.now ≡ references.n }
+        ensures { (result.references.flat.now ≡ references.entry.flat.now) × (result.references.n ≡ references.entry.n) × (result.marks.now ≡ marks.now) }
+    {
+        Selection { references, marks }
     }
-    let s = fit_surfaces(m, flat, live, n, count);
-    let a = fit_affine(s, flat, live, n)?;
-    Some(with_affine(s, a))
+
+    // Core: how many are live.
+    pub fn count(&self) -> usize
+        ensures { (result ≡ live_count self.now.marks.now self.now.references.n) × (result ≤ self.now.references.n) }
+    {
+        live::live_count(self.marks)
+    }
+
+    // A channel's surfaces, `count` references being live; unit gain where there is no solution.
+    fn surface(&self, p: Plan, channel: Primary, count: usize) -> Surface
+        ensures { result ≡ spec.surface_of p self.now.references.flat.now self.now.marks.now (place_of channel) self.now.references.n count }
+    {
+        let w = p.width();
+        if count < w {
+            return unit_surface();
+        }
+        let references = &self.references;
+        let mut equations = Equations::none();
+        equations.add_rows(
+            self,
+            w,
+            |i|
+                requires { i < references.now.n }
+                ensures { result ≡ spec.surface_row p references.entry.now.flat.now (place_of channel) i }
+            { p.row(references, channel, i) },
+            |i| float::widen(references.observed_of(channel, i)),
+        );
+        match equations.solve(w) {
+            Some(x) => p.solved(x),
+            None => unit_surface(),
+        }
+    }
+
+    // The model with its surfaces fitted. Flare is fitted from 6 × terms live references on.
+    #[tactic(auto, unfolding(crate::specs::Once::surfaces_of), using(crate::proofs::Widths::terms_most))]
+    fn surfaces(&self, m: IlluminationModel, count: usize) -> IlluminationModel
+        ensures { result ≡ spec.surfaces_of m self.now.references.flat.now self.now.marks.now self.now.references.n count }
+    {
+        let p = Plan {
+            terms: m.terms,
+            side: m.side,
+            flare: 6 * illum::terms_used(m.terms) <= count,
+        };
+        let r = self.surface(p, Primary::Red, count);
+        let g = self.surface(p, Primary::Green, count);
+        let b = self.surface(p, Primary::Blue, count);
+        with_surfaces(m, r, g, b)
+    }
+
+    // ---- stage 2: the affine part over the de-shaded observations
+
+    // A channel's row of the affine part, where its equations have a solution.
+    fn row(&self, m: IlluminationModel, channel: Primary) -> Option<[f64; 4]>
+        ensures { result ≡ spec.fit_row m self.now.references.flat.now self.now.marks.now (place_of channel) self.now.references.n }
+    {
+        let references = &self.references;
+        let mut equations = Equations::none();
+        equations.add_rows(
+            self,
+            4,
+            |i|
+                requires { i < references.now.n }
+                ensures { result ≡ spec.affine_row_of m references.entry.now.flat.now i }
+            { affine_row(m, references, i) },
+            |i| float::widen(references.nominal_of(channel, i)),
+        );
+        let x = equations.solve(4)?;
+        Some([x[0], x[1], x[2], x[3]])
+    }
+
+    // The affine part, where every channel has a solution.
+    #[tactic(auto, unfolding(crate::specs::Once::affine_of))]
+    fn affine(&self, m: IlluminationModel) -> Option<Affine>
+        ensures { result ≡ spec.affine_of m self.now.references.flat.now self.now.marks.now self.now.references.n }
+    {
+        let r = self.row(m, Primary::Red)?;
+        let g = self.row(m, Primary::Green)?;
+        let b = self.row(m, Primary::Blue)?;
+        Some(Affine { r, g, b })
+    }
+
+    // Core: the model that one pass's equations over the live ones give, from model m: none where fewer than 8 are live or a row of
+    // the affine part has no solution.
+    #[tactic(auto, unfolding(crate::specs::Once::fit_once))]
+    pub fn fit_once(&self, m: IlluminationModel) -> Option<IlluminationModel>
+        ensures { result ≡ spec.fit_once m self.now.references.flat.now self.now.marks.now self.now.references.n }
+    {
+        let count = self.count();
+        if count < 8 {
+            return None;
+        }
+        let s = self.surfaces(m, count);
+        let a = self.affine(s)?;
+        Some(with_affine(s, a))
+    }
 }

@@ -1,35 +1,22 @@
 // Which references are live: a mark for each, 1 while it is live and 0 once it is rejected.
-ghost use Rattle.std.specs.Prelude.{◌≡◌, ◌+◌, ◌<◌, ◌≤◌, length};
-ghost use Rattle.loops.specs.Loops.{raise};
+ghost use Rattle.std.specs.Prelude.{◌≡◌, ◌≤◌, length};
 ghost use Rattle.equations.specs.Live as spec;
 
-// Core: whether reference i is live.
-pub fn is_live(live: &[f32], i: usize) -> bool
-    requires { i < length live.now }
-    ensures { result ≡ spec.is_live live.now i }
+// Core: whether a mark is that of a live reference.
+#[tactic(auto, unfolding(crate::specs::Live::is_live_mark), using(crate::proofs::Marks::literals))]
+pub fn is_live(mark: f32) -> bool
+    ensures { result ≡ spec.is_live_mark mark }
 {
-    live[i] == 1.0
+    mark == 1.0
 }
 
-// One more than k where reference i is live.
-fn count_at(live: &[f32], i: usize, k: usize) -> usize
-    requires { (i < length live.now) × (k ≤ i) }
-    ensures { (result ≡ raise (spec.is_live live.now) i k) × (result ≤ i + 1) }
-{
-    if is_live(live, i) {
-        return k + 1;
-    }
-    k
-}
-
-// Core: how many of n references are live.
-pub fn live_count(live: &[f32], n: usize) -> usize
-    requires { n ≤ length live.now }
-    ensures { (result ≡ spec.live_count live.now n) × (result ≤ n) }
+// Core: how many marks are those of live references.
+pub fn live_count(live: &[f32]) -> usize
+    ensures { (result ≡ spec.live_count live.now (length live.now)) × (result ≤ length live.now) }
 {
     let mut k = 0;
-    for i in 0..n {
-        k = count_at(live, i, k);
+    for &mark in live {
+        k += usize::from(is_live(mark));
     }
     k
 }

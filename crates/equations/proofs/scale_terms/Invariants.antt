@@ -1,12 +1,7 @@
--- `equations::scale_terms` meets its contract: what is left of the terms from k on writes the rest.
--- Assumes nothing.
-use Prim.Native.Nat.{◌-◌}
+-- `equations::scale_terms` meets its contract: what is left of the terms from k on writes the rest. Assumes nothing.
 use Rattle.loops.proofs.Laws.{Left}
 use Rattle.equations.specs.Once.{scale_at, scaled}
 use Rattle.equations.proofs.scale_terms.Given as goal
 
 abbrev pub invariant-loop-k : goal.invariant-loop-k
-invariant-loop-k l = Left (scale_at l.b l.nominal) l.t l.k l.row (scaled l.b l.t l.nominal l.initial.row)
-
-abbrev pub decreases-loop-k : goal.decreases-loop-k
-decreases-loop-k l = l.t - l.k
+invariant-loop-k l = Left (scale_at l.fn.b l.nominal) l.t l.k l.row (scaled l.fn.b l.t l.nominal l.initial.row)
