@@ -1,4 +1,3 @@
--- For callers: `Listed`, the residuals one by one; `Parts`, what a list has where a part of it was lent. `Halves` is of the loops here.
+-- For callers: `Listed`, the residuals one by one.
 pub mod Listed
-pub mod Parts
-mod Halves
+mod Literals

@@ -1,3 +1,2 @@
--- What the contracts cite: residuals and rejection, and what the functions ask.
+-- What the contracts cite: residuals and rejection.
 pub mod Residual
-pub mod Ready

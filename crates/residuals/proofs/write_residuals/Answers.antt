@@ -2,11 +2,11 @@
 -- Assumes nothing.
 use mathlib.Core.Path.{◌≡◌, sym, ap, ◌∙◌}
 use mathlib.Core.List.{List, ◌++◌, append-nil}
-use Prim.Native.Nat.{ℕ, ◌≤◌}
+use Prim.Native.Nat.{ℕ, ◌<◌, ◌≤◌}
 use native.Mathlib.Omega.{arith}
 use lib.ListN.{length, drop, drop_of_length-le}
 use lib.Ieee.{Float}
-use Rattle.order.proofs.Fill.{Filling, fill_done, fills}
+use Rattle.order.proofs.Fill.{Filling, fill-turn, fill_done, fills}
 use Rattle.illum.specs.declared.IlluminationModel.{IlluminationModel}
 use Rattle.residuals.specs.Residual.{residuals_of}
 use Rattle.residuals.proofs.Listed.{residuals-length, residuals_at}
@@ -22,7 +22,9 @@ pub loop-i-init : goal.loop-i-init
 loop-i-init c = search (residuals-length, fills, rules)
 
 pub loop-i-preserved : goal.loop-i-preserved
-loop-i-preserved c = search (residuals_at, fills, rules)
+loop-i-preserved c =
+    let h : c.loop-i.i < c.args.references.now.n = omega (arith, c.loop-i-test.true, c.requires) in
+    (search rules, fill-turn c.loop-i.invariant.1 h (residuals_at _ _ _ _ _ h c.residual.ensures))
 
 pub returns : goal.returns
-returns c = search (whole)
+returns c = whole _ _ _ _ _ _ c.loop-i.invariant.1 c.requires (omega (arith, c.loop-i-test.false, c.requires))
