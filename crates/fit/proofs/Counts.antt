@@ -10,7 +10,7 @@ use lib.Seq.{get_or-set_same, get_or-set_other}
 use lib.Ieee.{Float, nan, eq, lt}
 use Rattle.loops.specs.Loops.{turns, for_up, raise}
 use Rattle.loops.proofs.Laws.{for_up_same, for_up_to, for_up-done}
-use Rattle.equations.specs.Live.{live_mark, dropped_mark, live_marks, is_live, live_count}
+use Rattle.equations.specs.Live.{live_mark, dropped_mark, live_marks, is_live_mark, is_live, live_count}
 use Rattle.residuals.specs.Residual.{Rejection, rejection, reject_at, reject_above}
 
 -- ---- the last turn of a loop
@@ -41,11 +41,11 @@ for_up_last f i s =
 -- ---- the marks of the references that were passed
 
 live-kept : (live : List Float) (i j : ℕ) (v : Float) → (j ≡ i → ⊥) → is_live (set live i v) j ≡ is_live live j
-unfolding is_live
+unfolding is_live_mark
 live-kept live i j v h = ap (λ (x : Float). eq x live_mark) (get_or-set_other live i j v nan h)
 
 dropped_dead : (live : List Float) (i : ℕ) → i < length live → is_live (set live i dropped_mark) i ≡ false
-unfolding is_live eq
+unfolding is_live_mark eq
 dropped_dead live i h = ap (λ (x : Float). eq x live_mark) (get_or-set_same live i dropped_mark nan h)
 
 passed-kept : (live : List Float) (i : ℕ) (v : Float) → live_count (set live i v) i ≡ live_count live i
@@ -95,7 +95,7 @@ settles residuals limit most n i h s r = either (lt limit (get_or residuals i na
     either false = spared n i h s r
 
 all_live : (n j : ℕ) → j < n → is_live (live_marks n) j ≡ true
-unfolding is_live eq
+unfolding is_live_mark eq
 all_live n j h = ap (λ (x : Float). eq x live_mark) (get_or-replicate n j live_mark nan h)
 
 begins : (n : ℕ) → Settled n 0 (rejection (live_marks n) 0)

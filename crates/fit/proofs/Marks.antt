@@ -17,7 +17,7 @@ use Rattle.answers.specs.declared.refusal.Refusal.{Refusal}
 use Rattle.illum.specs.declared.IlluminationModel.{IlluminationModel}
 use Rattle.illum.specs.Refusals.{model_said}
 use Rattle.equations.specs.Live.{is_live, live_count}
-use Rattle.fit.specs.Fit.{kept_mark, mark_at, marks_of, is_mark, marked, MarksAddUp, Request, Final, final, ran_of, fit_of}
+use Rattle.fit.specs.Fit.{mark_of, kept_mark, mark_at, marks_of, is_mark, marked, MarksAddUp, Request, Final, final, ran_of, fit_of}
 use Rattle.fit.proofs.Counts.{for_up_last}
 use Rattle.fit.proofs.Law.{fit-sound, fit-accepted, fit-kept}
 
@@ -46,7 +46,7 @@ module _ (marks : List ℕ) (n : ℕ) (bit : (i : ℕ) → i < n → (get_or mar
 
 module _ (count : ℕ) (live : List Float) where
   mark-bit : (i : ℕ) → (kept_mark count live i ≡ 0) ⊎ (kept_mark count live i ≡ 1)
-  unfolding kept_mark
+  unfolding mark_of
   mark-bit i = by (eqb count 0) (is_live live i)
     where
       by : (a b : Bool) → (◌≡◌ {A = ℕ} (cond a 0 (cond b 1 0)) 0) ⊎ (◌≡◌ {A = ℕ} (cond a 0 (cond b 1 0)) 1)
@@ -55,11 +55,11 @@ module _ (count : ℕ) (live : List Float) where
       by false false = inl refl
 
   mark-none : count ≡ 0 → (i : ℕ) → kept_mark count live i ≡ 0
-  unfolding kept_mark
+  unfolding mark_of
   mark-none z i = ap (λ (k : ℕ). cond (eqb k 0) 0 (cond (is_live live i) 1 0)) z
 
   mark-live : (count ≡ 0 → ⊥) → (i : ℕ) → eqb (kept_mark count live i) 1 ≡ is_live live i
-  unfolding kept_mark
+  unfolding mark_of
   mark-live z i = ap (λ (b : Bool). eqb (cond b 0 (cond (is_live live i) 1 0)) 1) (ne_eqb count 0 z) ∙ by (is_live live i)
     where
       by : (b : Bool) → eqb (cond b 1 0) 1 ≡ b

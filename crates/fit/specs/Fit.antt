@@ -2,6 +2,7 @@
 -- `fit_counted`. Definitions only.
 use Rattle.std.specs.Prelude.{◌≡◌, Bool, cond, not, ◌||◌, List, [], ◌∷◌, ◌++◌, ℕ, ◌+◌, ◌*◌, ◌/◌, ◌%◌, ltb, eqb, length, get_or, Float, Option, Some, None, Result, Ok, Err}
 use Rattle.std.specs.Option.{option_map}
+use Rattle.std.specs.Float.{nan}
 use Rattle.loops.specs.Loops.{any_up, count_up}
 use Rattle.lists.specs.Lists.{replaced}
 use Rattle.sentences.specs.Sentences.{Sentence, ◌when◌, refusal, decided}
@@ -14,7 +15,7 @@ use Rattle.answers.specs.declared.refusal.Refusal.TheVariants.{Fit}
 use Rattle.answers.specs.Answers.{number_of}
 use Rattle.illum.specs.Refusals.{not_finite_at, not_finite_model, Modelled, modelled, refused_model}
 use Rattle.references.specs.References.{bad_colours, short_scratch, reference_placement}
-use Rattle.equations.specs.Live.{live_marks, is_live, live_count}
+use Rattle.equations.specs.Live.{live_marks, is_live_mark, live_count}
 use Rattle.equations.specs.Once.{fit_once}
 use Rattle.residuals.specs.Residual.{residuals_of, rms_of, limit_of, Rejection, reject_above}
 
@@ -137,8 +138,11 @@ terms_for version = cond (ltb version 10) 4 9
 -- ---- which references were kept
 
 -- "The fit therefore also gives back which references were kept, none where kept is 0": of the live ones, `count` of which the model counts as kept
-unfoldable pub kept_mark : ℕ → List Float → ℕ → ℕ
-kept_mark count live i = cond (eqb count 0) 0 (cond (is_live live i) 1 0)
+unfoldable pub mark_of : ℕ → Float → ℕ
+mark_of count mark = cond (eqb count 0) 0 (cond (is_live_mark mark) 1 0)
+
+abbrev pub kept_mark : ℕ → List Float → ℕ → ℕ
+kept_mark count live i = mark_of count (get_or live i nan)
 
 abbrev pub mark_at : ℕ → List Float → ℕ → ℕ → ℕ
 mark_at count live i b = kept_mark count live i

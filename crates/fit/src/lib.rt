@@ -9,21 +9,21 @@
 //     match fit::fit_flat(&flat, 21, 1, &mut kept, &mut scratch) { .. }      // up to 256 references of a card of side 21, version 1
 #![tactic(auto)]
 
-ghost use Rattle.std.specs.Prelude.{◌≡◌, false, ◌*◌, ◌/◌, ◌<◌, ◌≤◌, length, take, drop, IfOk, IfSome};
+ghost use Rattle.std.specs.Prelude.{◌≡◌, false, ◌*◌, ◌/◌, ◌≤◌, length, IfOk, IfSome};
 ghost use Rattle.sentences.specs.Sentences.{refusal};
 ghost use Rattle.answers.specs.Answers.{outcome_number};
 ghost use Rattle.illum.specs.Refusals.{model_said};
-ghost use Rattle.references.specs.Ready.{Scratch, Lent};
 ghost use Rattle.residuals.specs.Residual.{residuals_of};
 ghost use Rattle.fit.specs.Fit as spec;
 ghost use Rattle.fit.specs.Fit.{final, request, flat_request, ran, dropped};
 
 use answers::Refusal;
-use equations::live;
+use equations::{Selection, live};
 use illum::IlluminationModel;
+use references::References;
 
-// ---- the passes. Their s is 4 × n floats for n references: n live marks, n residuals, n floats of work, and n that no pass
-// touches.
+// ---- the passes. Of their scratch, 4 floats a reference, the first n are the live marks, the next n the residuals, and the rest
+// is room for a median.
 
 // The model with another residual.
 fn with_rms(m: IlluminationModel, rms: f32) -> IlluminationModel
@@ -44,139 +44,141 @@ fn with_counts(m: IlluminationModel, rejected: u32, kept: u32) -> IlluminationMo
     out
 }
 
-// Sentence 11: a number of the model or one of n residuals is not finite.
-fn bad_pass(m: IlluminationModel, residuals: &[f32], n: usize) -> bool
-    requires { n ≤ length residuals.now }
-    ensures { result ≡ spec.bad_pass m residuals.now n }
+// Sentence 11: a number of the model or one of the residuals is not finite.
+#[tactic(auto, unfolding(crate::specs::Fit::bad_pass))]
+fn bad_pass(m: IlluminationModel, residuals: &[f32]) -> bool
+    ensures { result ≡ spec.bad_pass m residuals.now (length residuals.now) }
 {
-    if illum::not_finite_model(m) {
-        return true;
-    }
-    residuals::not_finite_in(residuals, n)
+    illum::not_finite_model(m) || residuals::not_finite_in(residuals)
 }
 
 // One pass over the live references, from model m: its model, where it has a solution, whose residuals it leaves. Refused by 11.
 fn run_pass(
     m: IlluminationModel,
-    flat: &[f32],
-    n: usize,
-    s: &mut [f32],
+    selection: &Selection,
+    residuals: &mut [f32],
 ) -> Result<Option<IlluminationModel>, Refusal>
-    requires { Lent n flat.now s.old }
-    ensures passed { result ≡ spec.pass_of m flat.now (take n s.old) n }
-    ensures marks { take n s.new ≡ take n s.old }
-    ensures residuals { IfOk result (λ o. IfSome o (λ model. take n (drop n s.new) ≡ residuals_of model flat.now n)) }
+    requires { length residuals.old ≡ selection.now.references.n }
+    ensures passed { result ≡ spec.pass_of m selection.now.references.flat.now selection.now.marks.now selection.now.references.n }
+    ensures residuals { IfOk result (λ o. IfSome o (λ model. residuals.new ≡ residuals_of model selection.now.references.flat.now selection.now.references.n)) }
 {
-    let Some(solution) = equations::fit_once(m, flat, &s[..n], n) else {
+    let Some(solution) = selection.fit_once(m) else {
         return Ok(None);
     };
-    residuals::write_residuals(&mut s[n..2 * n], solution, flat, n);
-    let w = &s[..];
-    let residuals = &w[n..2 * n];
-    let model = with_rms(solution, residuals::residual_rms(residuals, &w[..n], n));
-    if bad_pass(model, residuals, n) {
+    residuals::write_residuals(residuals, solution, &selection.references);
+    let model = with_rms(
+        solution,
+        residuals::residual_rms(residuals, selection.marks),
+    );
+    if bad_pass(model, residuals) {
         return Err(Refusal::Fit);
     }
     Ok(Some(model))
 }
 
 // Drops the references whose residual is above 3 sigma, and counts them in the model.
-fn drop_outliers(m: IlluminationModel, n: usize, s: &mut [f32]) -> IlluminationModel
-    requires { (1 ≤ n) × Scratch n s.old }
-    ensures { dropped result (take n s.new) ≡ spec.dropped_of m (take n (drop n s.old)) (take n s.old) n }
+fn drop_outliers(
+    m: IlluminationModel,
+    live: &mut [f32],
+    residuals: &[f32],
+    room: &mut [f32],
+) -> IlluminationModel
+    requires lengths { (length live.old ≡ length residuals.now) × (2 * length residuals.now ≤ length room.old) }
+    requires few { length residuals.now ≤ 16384 }
+    ensures { dropped result live.new ≡ spec.dropped_of m residuals.now live.old (length residuals.now) }
 {
-    let sigma = residuals::sigma_in(&mut s[n..3 * n], n);
-    let rejected = residuals::reject(&mut s[..2 * n], n, residuals::limit(sigma));
+    let sigma = order::mad_sigma_core(residuals, room);
+    let rejected = residuals::reject(live, residuals, residuals::limit(sigma));
     with_counts(m, rejected as u32, m.kept)
 }
 
 // What comes after pass one: m's outliers dropped, and pass two. Refused by 11.
 fn refit(
     m: IlluminationModel,
-    flat: &[f32],
-    n: usize,
-    s: &mut [f32],
+    references: References,
+    live: &mut [f32],
+    residuals: &mut [f32],
+    room: &mut [f32],
 ) -> Result<IlluminationModel, Refusal>
-    requires { (1 ≤ n) × Lent n flat.now s.old }
-    ensures { ran (model_said result) (take n s.new) ≡ spec.refitted m flat.now (take n (drop n s.old)) (take n s.old) n }
+    requires { (length live.old ≡ references.n) × (length residuals.old ≡ references.n) × (2 * references.n ≤ length room.old) }
+    ensures { ran (model_said result) live.new ≡ spec.refitted m references.entry.flat.now residuals.old live.old references.entry.n }
 {
-    let first = drop_outliers(m, n, s);
-    let Some(model) = run_pass(first, flat, n, s)? else {
+    let first = drop_outliers(m, live, residuals, room);
+    let selection = Selection {
+        references,
+        marks: live,
+    };
+    let Some(model) = run_pass(first, &selection, residuals)? else {
         return Ok(first);
     };
-    let kept = live::live_count(&s[..n], n) as u32;
+    let kept = selection.count() as u32;
     Ok(with_counts(model, model.rejected, kept))
 }
 
-// Core: the fit of n references that the sentences 2 to 8 let pass. Refused by 11. The first n of s are left as the live marks: 1
-// for a reference that is live, 0 for one that is rejected.
-pub fn fit_live(
-    flat: &[f32],
-    n: usize,
+// The fit of references that the sentences 2 to 8 let pass. Refused by 11. The live marks are left as they are at the end.
+fn fit_live(
+    references: References,
     side: usize,
     terms: usize,
-    s: &mut [f32],
+    live: &mut [f32],
+    residuals: &mut [f32],
+    room: &mut [f32],
 ) -> Result<IlluminationModel, Refusal>
-    requires { Lent n flat.now s.old × (side ≤ 1024) }
-    ensures { ran (model_said result) (take n s.new) ≡ spec.fitted flat.now n side terms }
+    requires lengths { (length live.old ≡ references.n) × (length residuals.old ≡ references.n) × (2 * references.n ≤ length room.old) }
+    requires side { side ≤ 1024 }
+    ensures { ran (model_said result) live.new ≡ spec.fitted references.entry.flat.now references.entry.n side terms }
 {
-    residuals::revive(&mut s[..n]);
+    residuals::revive(live);
     let start = illum::unit_model(side, terms);
-    if n < 8 {
+    if references.n < 8 {
         return Ok(start);
     }
-    let Some(model) = run_pass(start, flat, n, s)? else {
+    let selection = Selection {
+        references,
+        marks: live,
+    };
+    let Some(model) = run_pass(start, &selection, residuals)? else {
         return Ok(start);
     };
-    refit(model, flat, n, s)
+    refit(model, references, live, residuals, room)
 }
 
 // ---- which references were kept
 
-// The mark of reference i, of those that a model with this count of kept references was fitted to.
-fn kept_mark(count: u32, live: &[f32], i: usize) -> u8
-    requires { i < length live.now }
-    ensures { result ≡ spec.kept_mark count live.now i }
+// The mark of a reference that has this live mark, of those that a model with this count of kept references was fitted to.
+#[tactic(auto, unfolding(crate::specs::Fit::mark_of))]
+fn kept_mark(count: u32, mark: f32) -> u8
+    ensures { result ≡ spec.mark_of count mark }
 {
-    if count == 0 {
-        return 0;
-    }
-    if live::is_live(live, i) {
-        return 1;
-    }
-    0
+    u8::from(count != 0 && live::is_live(mark))
 }
 
-// Writes the marks of n references.
-fn write_marks(count: u32, live: &[f32], n: usize, kept: &mut [u8])
-    requires { (n ≤ length live.now) × (n ≤ length kept.old) }
-    ensures { kept.new ≡ spec.marks_of count live.now n kept.old }
+// Writes the marks of the references.
+fn write_marks(count: u32, live: &[f32], kept: &mut [u8])
+    requires { length live.now ≤ length kept.old }
+    ensures { kept.new ≡ spec.marks_of count live.now (length live.now) kept.old }
 {
-    for i in 0..n {
-        kept[i] = kept_mark(count, live, i);
+    for (i, &mark) in live.iter().enumerate() {
+        kept[i] = kept_mark(count, mark);
     }
 }
 
 // ---- the calls
 
 // 4 terms below version 10, 9 from it on.
+#[tactic(auto, unfolding(crate::specs::Fit::terms_for))]
 fn terms_for(version: u8) -> usize
     ensures { result ≡ spec.terms_for version }
 {
-    if version < 10 {
-        return 4;
-    }
-    9
+    if version < 10 { 4 } else { 9 }
 }
 
 // Sentence 5: fewer marks than references, or scratch shorter than 4 × n.
+#[tactic(auto, unfolding(crate::specs::Fit::short))]
 fn short(marks: usize, lent: usize, n: usize) -> bool
     ensures { result ≡ spec.short marks lent n }
 {
-    if marks < n {
-        return true;
-    }
-    references::short_scratch(lent, n)
+    marks < n || references::short_scratch(lent, n)
 }
 
 // Refuses by the first sentence that holds.
@@ -191,7 +193,8 @@ fn check(flat: &[f32], n: usize, side: usize, marks: usize, lent: usize) -> Resu
         return Err(Refusal::Length);
     }
     references::check_references(side, flat, n)?;
-    if references::bad_colours(flat, n) {
+    let references = References { flat, n };
+    if references.bad_colours() {
         return Err(Refusal::Number);
     }
     Ok(())
@@ -211,9 +214,12 @@ pub fn fit_counted(
     ensures { final (model_said result) kept.new scratch.new ≡ spec.fit_of (request flat.now false n side version kept.old scratch.old) }
 {
     check(flat, n, side, kept.len(), scratch.len())?;
-    let fitted = fit_live(flat, n, side, terms_for(version), &mut scratch[..4 * n]);
+    let references = References { flat, n };
+    let (live, rest) = scratch[..4 * n].split_at_mut(n);
+    let (residuals, room) = rest.split_at_mut(n);
+    let fitted = fit_live(references, side, terms_for(version), live, residuals, room);
     if let Ok(model) = fitted {
-        write_marks(model.kept, &scratch[..n], n, kept);
+        write_marks(model.kept, live, kept);
     }
     references::clear(scratch, 4 * n);
     fitted

@@ -6,7 +6,7 @@ use Prim.Native.Nat.{ℕ, ◌≤◌}
 use Rattle.sentences.proofs.Laws.{sentences}
 use Rattle.limits.specs.Limits.{bad_side}
 use Rattle.limits.proofs.Laws.{side_in}
-use Rattle.references.proofs.Laws.{stand-placed, placements}
+use Rattle.references.proofs.Laws.{few-placed, placements}
 use Rattle.fit.specs.Fit.{fit_sentences}
 use borrow.Author.Rules.{rules}
 use Rattle.fit.proofs.check.Goals as goal
@@ -17,8 +17,10 @@ most side r e f = (side_in side (sym e ∙ f)).1
 pub check_references-requires : goal.check_references-requires
 check_references-requires c = (search (most), search rules)
 
-pub bad_colours-requires : goal.bad_colours-requires
-bad_colours-requires c = stand-placed _ _ _ c.in_ok-check_references.ensures c.requires
+pub invariant_of-references : goal.invariant_of-references
+invariant_of-references c =
+    let few = few-placed _ _ _ c.in_ok-check_references.ensures in
+    record { stand = c.requires few; few = few }
 
 pub bad_side-requires : goal.bad_side-requires
 unfolding fit_sentences

@@ -6,13 +6,12 @@ use mathlib.Core.Bool.{false}
 use mathlib.Core.List.{List, ◌++◌}
 use Prim.Native.Nat.{ℕ, ◌*◌, ◌≤◌}
 use native.Mathlib.Omega.{arith}
-use lib.ListN.{length, take, drop, replicate, length-append}
+use lib.ListN.{length, take, drop, replicate, length-append, length-drop}
 use lib.Seq.{length-take-le, take-append-le, drop_at}
 use lib.Ieee.{Float}
 use Rattle.sentences.specs.Sentences.{refusal}
 use Rattle.order.specs.Median.{zero32}
 use Rattle.order.specs.Deviation.{cleared}
-use Rattle.references.specs.Ready.{Lent}
 use Rattle.std.specs.Prelude.{Result, Ok, Err}
 use Rattle.sentences.proofs.Laws.{refuses, accepts}
 use Rattle.answers.specs.declared.refusal.Refusal.{Refusal}
@@ -34,95 +33,76 @@ module _ (flat s : List Float) (kept : List ℕ) (n side : ℕ) (e : 0 ≡ refus
   four : 4 * n ≡ length (take (4 * n) s)
   four = sym (length-take-le (4 * n) s room)
 
-  ready : (n ≤ 16384 → 8 * n ≤ length flat) → Lent n flat (take (4 * n) s) × (side ≤ 1024)
-  ready h =
-      let a = accepted flat false n side (length kept) (length s) e in
-      (record { stand = h a.few; most = a.few; four = sym four }, a.side-most)
+  -- t is s whose first 4 × n numbers the passes used
+  past : (u t : List Float) → t ≡ u ++ drop (4 * n) s → length t ≡ length s → cleared (4 * n) t ≡ cleared (4 * n) s
+  past u t e l =
+      let k : length u ≡ 4 * n = omega (arith, sym (length-append u (drop (4 * n) s)) ∙ ap length (sym e) ∙ l, length-drop (4 * n) s, room) in
+      ap (λ (z : List Float). replicate (4 * n) zero32 ++ z) (ap (drop (4 * n)) e ∙ drop_at u (drop (4 * n) s) (4 * n) k)
 
-  marks-room : n ≤ length kept
-  marks-room = (accepted flat false n side (length kept) (length s) e).a_mark-each
-
-  -- u is the first 4 × n numbers of s as the passes left them
-  module _ (u : List Float) (lu : length u ≡ length (take (4 * n) s)) where
-    long : 4 * n ≤ length (u ++ drop (4 * n) s)
-    long = omega (arith, length-append u (drop (4 * n) s), four)
-
-    past : cleared (4 * n) (u ++ drop (4 * n) s) ≡ cleared (4 * n) s
-    past = ap (λ (l : List Float). replicate (4 * n) zero32 ++ l) (drop_at u (drop (4 * n) s) (4 * n) (lu ∙ sym four))
-
-    -- the live marks are the first n of them
-    live-room : n ≤ length (u ++ drop (4 * n) s)
-    live-room = omega (arith, long)
-
-    live-long : n ≡ length (take n (u ++ drop (4 * n) s))
-    live-long = sym (length-take-le n (u ++ drop (4 * n) s) live-room)
-
-    live_is : take n (u ++ drop (4 * n) s) ≡ take n u
-    live_is = take-append-le n u (drop (4 * n) s) (omega (arith, four))
-
-    live_lent : n ≤ length (take n (u ++ drop (4 * n) s))
-    live_lent = omega (arith, live-long)
-
-    -- and t what is left after clearing
-    ends : (t : List Float) (after : List ℕ) (version terms : ℕ) (r : Modelled) → ran r (take n u) ≡ fitted flat n side terms → terms ≡ terms_for version
-        → after ≡ marks_left r.number r.model.kept (take n (u ++ drop (4 * n) s)) n kept → t ≡ cleared (4 * n) (u ++ drop (4 * n) s)
-        → final r after t ≡ fit_of (request flat false n side version kept s)
-    ends t after version terms r er et ek ec =
-        ap₂ (final r) (ek ∙ ap (λ (l : List Float). marks_left r.number r.model.kept l n kept) live_is) (ec ∙ past)
-        ∙ ap (left n kept s) (er ∙ ap (fitted flat n side) et)
+  -- and t' what is left after clearing it; live are the marks that the passes leave
+  module _ (live u t t' : List Float) (version terms : ℕ) (after : List ℕ) (x : Result IlluminationModel Refusal) (et : terms ≡ terms_for version) (eu : t ≡ u ++ drop (4 * n) s) (lt : length t ≡ length s)
+      (ec : t' ≡ cleared (4 * n) t) where
+    ends : (r : Modelled) → ran r live ≡ fitted flat n side terms → after ≡ marks_left r.number r.model.kept live n kept → final r after t' ≡ fit_of (request flat false n side version kept s)
+    ends r er ek =
+        ap₂ (final r) ek (ec ∙ past u t eu lt) ∙ ap (left n kept s) (er ∙ ap (fitted flat n side) et)
         ∙ taken (request flat false n side version kept s) e
 
     -- the marks are written by a fit that is accepted, and stay by one that is refused
-    module _ (t : List Float) (after : List ℕ) (version terms : ℕ) (x : Result IlluminationModel Refusal) (et : terms ≡ terms_for version) (ec : t ≡ cleared (4 * n) (u ++ drop (4 * n) s)) where
-      written : (m : IlluminationModel) → x ≡ Ok m → ran (modelled 0 m) (take n u) ≡ fitted flat n side terms → (marks : List ℕ) → after ≡ marks
-          → marks ≡ marks_of m.kept (take n (u ++ drop (4 * n) s)) n kept → final (model_said x) after t ≡ fit_of (request flat false n side version kept s)
-      unfolding marks_left
-      written m ex er marks em ek = rw ex (ends t after version terms (modelled 0 m) er et (em ∙ ek ∙ accepts (λ (j : ℕ). kept) (marks_of m.kept (take n (u ++ drop (4 * n) s)) n kept) 0 0 refl refl) ec)
+    written : (m : IlluminationModel) → x ≡ Ok m → ran (modelled 0 m) live ≡ fitted flat n side terms → length live ≡ n → (marks : List ℕ) → after ≡ marks
+        → marks ≡ marks_of m.kept live (length live) kept → final (model_said x) after t' ≡ fit_of (request flat false n side version kept s)
+    unfolding marks_left
+    written m ex er h marks em ek =
+        rw ex
+        (ends (modelled 0 m) er (em ∙ ek ∙ ap (λ (k : ℕ). marks_of m.kept live k kept) h ∙ accepts (λ (j : ℕ). kept) (marks_of m.kept live n kept) 0 0 refl refl))
 
-      stayed : (r : Refusal) (y : Result IlluminationModel Refusal) → x ≡ y → y ≡ Err r → ran (refused_model (number_of r)) (take n u) ≡ fitted flat n side terms → after ≡ kept
-          → final (model_said x) after t ≡ fit_of (request flat false n side version kept s)
-      unfolding marks_left
-      stayed r y ey ex er ek =
-          rw (ey ∙ ex)
-          (ends t after version terms (refused_model (number_of r)) er et (ek ∙ refuses (λ (j : ℕ). kept) (marks_of no_model.kept (take n (u ++ drop (4 * n) s)) n kept) (number_of r) (number_of r) (numbered r) refl) ec)
+    stayed : (r : Refusal) (y : Result IlluminationModel Refusal) → x ≡ y → y ≡ Err r → ran (refused_model (number_of r)) live ≡ fitted flat n side terms → after ≡ kept
+        → final (model_said x) after t' ≡ fit_of (request flat false n side version kept s)
+    unfolding marks_left
+    stayed r y ey ex er ek =
+        rw (ey ∙ ex) (ends (refused_model (number_of r)) er (ek ∙ refuses (λ (j : ℕ). kept) (marks_of no_model.kept live n kept) (number_of r) (number_of r) (numbered r) refl))
 
 pub returns-in_err-check : goal.returns-in_err-check
 returns-in_err-check c = sent_back _ _ _ c.from_residual.ensures c.in_err-check.ensures
 
+pub slice_bounds-split_at_mut-end : goal.slice_bounds-split_at_mut-end
+slice_bounds-split_at_mut-end c = room _ _ _ _ _ c.in_ok-check.ensures
+
+pub slice_bounds-split_at_mut-end-2 : goal.slice_bounds-split_at_mut-end-2
+slice_bounds-split_at_mut-end-2 c = four _ _ _ _ _ c.in_ok-check.ensures
+
+pub split_at_mut-live-requires : goal.split_at_mut-live-requires
+split_at_mut-live-requires c = omega (arith, four _ _ _ _ _ c.in_ok-check.ensures)
+
+pub split_at_mut-residuals-requires : goal.split_at_mut-residuals-requires
+split_at_mut-residuals-requires c = omega (arith, four _ _ _ _ _ c.in_ok-check.ensures, c.split_at_mut-live.ensures.back_len)
+
+pub fit_live-fitted-requires-clause-lengths : goal.fit_live-fitted-requires-clause-lengths
+fit_live-fitted-requires-clause-lengths c = (
+  c.split_at_mut-live.ensures.front_len,
+  c.split_at_mut-residuals.ensures.front_len,
+  omega (arith, four _ _ _ _ _ c.in_ok-check.ensures, c.split_at_mut-live.ensures.back_len, c.split_at_mut-residuals.ensures.back_len),
+)
+
+pub fit_live-fitted-requires-clause-side : goal.fit_live-fitted-requires-clause-side
+fit_live-fitted-requires-clause-side c = (accepted _ _ _ _ _ _ c.in_ok-check.ensures).side-most
+
+pub write_marks-requires : goal.write_marks-requires
+write_marks-requires c = omega (arith, (accepted _ _ _ _ _ _ c.in_ok-check.ensures).a_mark-each, c.split_at_mut-live.ensures.front_len, c.fit_live-fitted.auto.live)
+
 pub overflow_mul-n : goal.overflow_mul-n
 overflow_mul-n c = omega (arith, (accepted _ _ _ _ _ _ c.in_ok-check.ensures).few)
 
-pub slice_bounds-fit_live-end : goal.slice_bounds-fit_live-end
-slice_bounds-fit_live-end c = room _ _ _ _ _ c.in_ok-check.ensures
-
-pub slice_bounds-fit_live-end-2 : goal.slice_bounds-fit_live-end-2
-slice_bounds-fit_live-end-2 c = four _ _ _ _ _ c.in_ok-check.ensures
-
-pub fit_live-fitted-requires : goal.fit_live-fitted-requires
-fit_live-fitted-requires c = ready _ _ _ _ _ c.in_ok-check.ensures c.requires
-
-pub slice_bounds-write_marks-end : goal.slice_bounds-write_marks-end
-slice_bounds-write_marks-end c = live-room _ _ _ _ _ c.in_ok-check.ensures _ c.fit_live-fitted.auto.s
-
-pub slice_bounds-write_marks-end-in-Ok : goal.slice_bounds-write_marks-end-in-Ok
-slice_bounds-write_marks-end-in-Ok c = live-long _ _ _ _ _ c.in_ok-check.ensures _ c.fit_live-fitted.auto.s
-
-pub write_marks-requires : goal.write_marks-requires
-write_marks-requires c = (live_lent _ _ _ _ _ c.in_ok-check.ensures _ c.fit_live-fitted.auto.s, marks-room _ _ _ _ _ c.in_ok-check.ensures)
-
-pub overflow_mul-n-2 : goal.overflow_mul-n-2
-overflow_mul-n-2 c = omega (arith, (accepted _ _ _ _ _ _ c.in_ok-check.ensures).few)
+pub invariant_of-references : goal.invariant_of-references
+invariant_of-references c =
+    let few = (accepted _ _ _ _ _ _ c.in_ok-check.ensures).few in
+    record { stand = c.requires few; few = few }
 
 pub clear-requires : goal.clear-requires
-clear-requires c = long _ _ _ _ _ c.in_ok-check.ensures _ c.fit_live-fitted.auto.s
+clear-requires c = omega (arith, (accepted _ _ _ _ _ _ c.in_ok-check.ensures).room, c.match-fitted.auto.scratch)
 
 pub returns : goal.returns
 returns c =
     elim c.match-fitted.branch [
-      | in-Ok w ↦
-          written _ _ _ _ _ c.in_ok-check.ensures _ c.fit_live-fitted.auto.s _ _ _ _ _ c.terms_for.ensures c.clear.ensures
-          _ w.fitted-is w.in-Ok.ensures _ w.kept-is w.write_marks.ensures
-      | in_default w ↦
-          stayed _ _ _ _ _ c.in_ok-check.ensures _ c.fit_live-fitted.auto.s _ _ _ _ _ c.terms_for.ensures c.clear.ensures
-          _ _ w.fitted-is w.in_default.is w.in_default.ensures w.kept-is
+      | in-Ok w ↦ written _ _ _ _ _ c.in_ok-check.ensures _ _ _ _ _ _ _ _ c.terms_for.ensures w.scratch-is c.match-fitted.auto.scratch c.clear.ensures _ w.fitted-is w.in-Ok.ensures (c.fit_live-fitted.auto.live ∙ c.split_at_mut-live.ensures.front_len) _ w.kept-is w.write_marks.ensures
+      | in_default w ↦ stayed _ _ _ _ _ c.in_ok-check.ensures _ _ _ _ _ _ _ _ c.terms_for.ensures w.scratch-is c.match-fitted.auto.scratch c.clear.ensures _ _ w.fitted-is w.in_default.is w.in_default.ensures w.kept-is
     ]
