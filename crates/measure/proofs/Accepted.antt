@@ -26,6 +26,7 @@ use Rattle.measure.specs.Measure.{too_short, wild_numbers, bad_corrected, senten
 
 pub record Accepted (flat : List Float) (n side : ℕ) (m : IlluminationModel) (palette : List Float) (hues lent : ℕ) : Type 0 where
   pub side-most : side ≤ 1024
+  pub long : palette_len hues ≤ length palette
   pub levels : 2 ≤ length palette
   pub room : 4 * n ≤ lent
   pub few : n ≤ 16384
@@ -67,6 +68,7 @@ module _ (flat : List Float) (cut : Bool) (n side : ℕ) (m : IlluminationModel)
         let t = tame flat n palette hues (none 8) in
         record {
           side-most = (side_in side (none 2)).1;
+          long = l.0;
           levels = omega (arith, l.0);
           room = l.1;
           few = few_in n (none 6);

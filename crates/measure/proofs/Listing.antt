@@ -1,4 +1,4 @@
--- A list in the first column of the scratch, on the way: what is listed, and what is left to list from i on, are the whole. Assumes nothing.
+-- A list in its room, on the way: what is listed, and what is left to list from i on, are the whole. Assumes nothing.
 use mathlib.Core.Path.{◌≡◌, refl, sym, ap, ◌∙◌}
 use mathlib.Core.Bool.{Bool, true, false, cond}
 use mathlib.Core.List.{List, [], ◌∷◌, ◌++◌, map, append_assoc, append-nil}
@@ -23,33 +23,18 @@ left_in n at lo hi t i = picked (n - i) i (mark_in n lo hi t) (λ j. get_or t (a
 
 -- k are listed before i: with what is left they are `whole`, and `total` of them
 pub record Listing (n at : ℕ) (lo hi : Float) (form : Form) (t whole : List Float) (total i k : ℕ) (s : List Float) : Type 0 where
-  pub long : length s ≡ 4 * n
-  pub kept : drop n s ≡ t
+  pub long : length s ≡ n
   pub room : total ≤ n
   pub list : take k s ++ map (formed form) (left_in n at lo hi t i) ≡ whole
   pub count : k + length (left_in n at lo hi t i) ≡ total
 
-place : (n j : ℕ) → n + (2 * n + j) ≡ 3 * n + j
-place n j = omega arith
-
-place_2 : (n a j : ℕ) → n + (a + j) ≡ n + a + j
-place_2 n a j = omega arith
-
-module _ (n : ℕ) (s t : List Float) (kept : drop n s ≡ t) (i : ℕ) where
-  read-mark : get_or t (2 * n + i) nan ≡ get_or s (3 * n + i) nan
-  read-mark = ap (λ (l : List Float). get_or l (2 * n + i) nan) (sym kept) ∙ get_or-drop n s (2 * n + i) nan ∙ ap (λ (j : ℕ). get_or s j nan) (place n i)
-
-  read_at : (at : ℕ) → get_or t (at + i) nan ≡ get_or s (n + at + i) nan
-  read_at at = ap (λ (l : List Float). get_or l (at + i) nan) (sym kept) ∙ get_or-drop n s (at + i) nan ∙ ap (λ (j : ℕ). get_or s j nan) (place_2 n at i)
-
 module _ {n at : ℕ} {lo hi : Float} {form : Form} where
-  pub list-begin : (k : ℕ) (s : List Float) → length s ≡ 4 * n → k + length (picked_in n at lo hi (drop n s)) ≤ n
-      → Listing n at lo hi form (drop n s) (take k s ++ map (formed form) (picked_in n at lo hi (drop n s))) (k + length (picked_in n at lo hi (drop n s))) 0 k s
-  list-begin k s l h =
-      let e = picked-begin (mark_in n lo hi (drop n s)) (λ j. get_or (drop n s) (at + j) nan) n in
+  pub list-begin : (t : List Float) (k : ℕ) (s : List Float) → length s ≡ n → k + length (picked_in n at lo hi t) ≤ n
+      → Listing n at lo hi form t (take k s ++ map (formed form) (picked_in n at lo hi t)) (k + length (picked_in n at lo hi t)) 0 k s
+  list-begin t k s l h =
+      let e = picked-begin (mark_in n lo hi t) (λ j. get_or t (at + j) nan) n in
       record {
         long = l;
-        kept = refl;
         room = h;
         list = ap (λ (xs : List Float). take k s ++ map (formed form) xs) e;
         count = ap (λ (xs : List Float). k + length xs) e;
@@ -59,7 +44,7 @@ module _ {n at : ℕ} {lo hi : Float} {form : Form} where
     pub list-upto : k ≤ n
     list-upto = let c = inv.count in let r = inv.room in omega arith
 
-    pub list-long : length s ≡ 4 * n
+    pub list-long : length s ≡ n
     list-long = inv.long
 
     -- where i is listed
@@ -91,7 +76,6 @@ module _ {n at : ℕ} {lo hi : Float} {form : Form} where
         let tl : take k s ++ (v ∷ rest) ≡ whole = rw (ev) (rw e at inv.list) in
         record {
           long = length-set s k v ∙ l;
-          kept = drop-set-lt n s k v small ∙ inv.kept;
           room = r;
           list = ap (λ (xs : List Float). xs ++ rest) tk ∙ append_assoc (take k s) (v ∷ []) rest ∙ tl;
           count = omega (arith, ap length e);
@@ -100,14 +84,13 @@ module _ {n at : ℕ} {lo hi : Float} {form : Form} where
     out-turn : i < n → mark_in n lo hi t i ≡ false → Listing n at lo hi form t whole total (suc i) k s
     out-turn h m =
         let e = skip h m in
-        record { long = inv.long; kept = inv.kept; room = inv.room; list = rw e at inv.list; count = rw e at inv.count }
+        record { long = inv.long; room = inv.room; list = rw e at inv.list; count = rw e at inv.count }
 
     -- what is written at place k is not among the first k
     unseen : (v : Float) → k < n → Listing n at lo hi form t whole total i k (set s k v)
     unseen v h =
         record {
           long = length-set s k v ∙ inv.long;
-          kept = drop-set-lt n s k v h ∙ inv.kept;
           room = inv.room;
           list = rw (take-set-le k s k v (omega arith)) inv.list;
           count = inv.count;
@@ -126,9 +109,6 @@ module _ {n at : ℕ} {lo hi : Float} {form : Form} where
           plus : (k : ℕ) → k ≡ k + 0
           plus k = omega arith
 
-    pub list-kept : drop n s ≡ t
-    list-kept = inv.kept
-
   module _ {t whole : List Float} {total i k : ℕ} {s : List Float} (inv : Listing n at lo hi form t whole total i k s) where
     -- by the test of the room, and that of the mark
     by_tests : (w b : Bool) (s' : List Float) (k' : ℕ) → i < n → ltb k n ≡ w → mark_in n lo hi t i ≡ b
@@ -140,24 +120,24 @@ module _ {n at : ℕ} {lo hi : Float} {form : Form} where
     by_tests false b s' k' h w m e =
         rw (ap (λ (x : Listed). x.s) e, ap (λ (x : Listed). x.k) e) (out-turn inv h (full inv (ltb-false k n w) h b m))
 
-    pub list-turn : {s' : List Float} {k' : ℕ} → i < n → listed s' k' ≡ list_entry n at lo hi form i k s → Listing n at lo hi form t whole total (i + 1) k' s'
+    pub list-turn : {s' : List Float} {k' : ℕ} → i < n → listed s' k' ≡ list_entry n at lo hi form t i k s → Listing n at lo hi form t whole total (i + 1) k' s'
     unfolding list_entry
     list-turn {s'} {k'} h e =
         rw add-one
-        (by_tests (ltb k n) (mark_in n lo hi t i) s' k' h refl refl (rw (read-mark n s t inv.kept i, read_at n s t inv.kept i at) e))
+        (by_tests (ltb k n) (mark_in n lo hi t i) s' k' h refl refl e)
 
 -- one step of the code: r is what the test of the mark gave
-module _ (n at : ℕ) (lo hi : Float) (form : Form) (i k : ℕ) (s : List Float) (r : Bool) where
-  pub step_in : (v : Float) → r ≡ marked lo hi (get_or s (3 * n + i) nan) → k < n → r ≡ true → v ≡ formed form (get_or s (n + at + i) nan)
-      → listed (set s k v) (k + 1) ≡ list_entry n at lo hi form i k s
+module _ (n at : ℕ) (lo hi : Float) (form : Form) (t : List Float) (i k : ℕ) (s : List Float) (r : Bool) where
+  pub step_in : (v : Float) → r ≡ marked lo hi (get_or t (2 * n + i) nan) → k < n → r ≡ true → v ≡ formed form (get_or t (at + i) nan)
+      → listed (set s k v) (k + 1) ≡ list_entry n at lo hi form t i k s
   unfolding list_entry
-  step_in v e h t ev = cc (lt-ltb k n h)
+  step_in v e h u ev = cc (lt-ltb k n h)
 
-  pub step_out : (v : Float) → r ≡ marked lo hi (get_or s (3 * n + i) nan) → k < n → r ≡ false → v ≡ formed form (get_or s (n + at + i) nan)
-      → listed (set s k v) k ≡ list_entry n at lo hi form i k s
+  pub step_out : (v : Float) → r ≡ marked lo hi (get_or t (2 * n + i) nan) → k < n → r ≡ false → v ≡ formed form (get_or t (at + i) nan)
+      → listed (set s k v) k ≡ list_entry n at lo hi form t i k s
   unfolding list_entry
-  step_out v e h t ev = cc (lt-ltb k n h)
+  step_out v e h u ev = cc (lt-ltb k n h)
 
-pub step_full : (n at : ℕ) (lo hi : Float) (form : Form) (i k : ℕ) (s : List Float) → n ≤ k → listed s k ≡ list_entry n at lo hi form i k s
+pub step_full : (n at : ℕ) (lo hi : Float) (form : Form) (t : List Float) (i k : ℕ) (s : List Float) → n ≤ k → listed s k ≡ list_entry n at lo hi form t i k s
 unfolding list_entry
-step_full n at lo hi form i k s h = cc (le-ltb k n h)
+step_full n at lo hi form t i k s h = cc (le-ltb k n h)

@@ -125,73 +125,43 @@ module _ (xs : List Float) where
       by false e = (refl, same_Some l (median_of xs) e)
 
 -- the record
-pub figured : (n : ℕ) (t t1 t2 t3 : List Float) (l0 l1 a b c d : Float) → a ≡ luma_sigma l0 l1 (level_within false n t) (level_within true n t)
-    → d ≡ chroma_sigma 8 (of_bits binary32 0) (picked_in n n m4 m5 t3) → t3 ≡ t2 → c ≡ chroma_sigma 8 (of_bits binary32 0) (picked_in n n m2 m3 t2) → t2 ≡ t1
-    → b ≡ chroma_sigma 1 (of_bits binary32 0x3f40_0000) (picked_in n n m2 m5 t1) → t1 ≡ t
+pub figured : (n : ℕ) (t : List Float) (l0 l1 a b c d : Float) → a ≡ luma_sigma l0 l1 (level_within false n t) (level_within true n t)
+    → b ≡ chroma_sigma 1 (of_bits binary32 0x3f40_0000) (picked_in n n m2 m5 t) → c ≡ chroma_sigma 8 (of_bits binary32 0) (picked_in n n m2 m3 t)
+    → d ≡ chroma_sigma 8 (of_bits binary32 0) (picked_in n n m4 m5 t)
     → ◌≡◌ {A = ChannelStats} (record { l0 = l0; l1 = l1; sigma_l = a; sigma_ab = b; sigma_ab_dark = c; sigma_ab_light = d; samples = n }) (figures_in n l0 l1 t)
 unfolding figures_in figures_of
-figured n t t1 t2 t3 l0 l1 a b c d ea ed e3 ec e2 eb e1 = cc (three_quarters, n0)
+figured n t l0 l1 a b c d ea eb ec ed = cc (three_quarters, n0)
 
 module _ (palette : List Float) (n : ℕ) (t : List Float) where
   pub dark-few : None ≡ levelled (level_within false n t) → (r : ChannelStats) → r ≡ nominal palette → r ≡ record_in palette n t
   unfolding record_in record_of
   dark-few ed r e = rw (levelled-none (level_within false n t) ed) e
 
-  module _ (l0 : Float) (ed : Some l0 ≡ levelled (level_within false n t)) (t1 : List Float) (e1 : t1 ≡ t) where
-    pub light-few : None ≡ levelled (level_within true n t1) → (r : ChannelStats) → r ≡ nominal palette → r ≡ record_in palette n t
+  module _ (l0 : Float) (ed : Some l0 ≡ levelled (level_within false n t)) where
+    pub light-few : None ≡ levelled (level_within true n t) → (r : ChannelStats) → r ≡ nominal palette → r ≡ record_in palette n t
     unfolding record_in record_of
-    light-few el r e = rw ((levelled-some (level_within false n t) l0 ed).0, levelled-none (level_within true n t) (rw e1 at el)) e
+    light-few el r e = rw ((levelled-some (level_within false n t) l0 ed).0, levelled-none (level_within true n t) el) e
 
-    module _ (l1 : Float) (el : Some l1 ≡ levelled (level_within true n t1)) (t2 : List Float) (e2 : t2 ≡ t1) where
+    module _ (l1 : Float) (el : Some l1 ≡ levelled (level_within true n t)) where
       dark_is : l0 ≡ median_of (level_within false n t)
       dark_is = (levelled-some (level_within false n t) l0 ed).1
 
-      light : Some l1 ≡ levelled (level_within true n t)
-      light = rw e1 at el
-
       light_is : l1 ≡ median_of (level_within true n t)
-      light_is = (levelled-some (level_within true n t) l1 light).1
+      light_is = (levelled-some (level_within true n t) l1 el).1
 
-      pub spreads_still : RealSpreads n (median_of (level_within false n t)) (median_of (level_within true n t)) t → RealSpreads n l0 l1 t2
-      spreads_still real = rw (e2 ∙ e1, dark_is, light_is) real
+      pub spreads_of : RealSpreads n (median_of (level_within false n t)) (median_of (level_within true n t)) t → RealSpreads n l0 l1 t
+      spreads_of real = rw (dark_is, light_is) real
 
-      pub both-levels : (r : ChannelStats) → r ≡ figures_in n l0 l1 t2 → r ≡ record_in palette n t
+      pub both-levels : (r : ChannelStats) → r ≡ figures_in n l0 l1 t → r ≡ record_in palette n t
       unfolding record_in record_of figures_in
       both-levels r e =
-          rw ((levelled-some (level_within false n t) l0 ed).0, (levelled-some (level_within true n t) l1 light).0)
-          (e ∙ ap (figures_in n l0 l1) (e2 ∙ e1) ∙ ap (λ (a : Float). figures_in n a l1 t) dark_is ∙ ap (λ (a : Float). figures_in n (median_of (level_within false n t)) a t) light_is)
+          rw ((levelled-some (level_within false n t) l0 ed).0, (levelled-some (level_within true n t) l1 el).0)
+          (e ∙ ap (λ (a : Float). figures_in n a l1 t) dark_is ∙ ap (λ (a : Float). figures_in n (median_of (level_within false n t)) a t) light_is)
 
 -- the lists of the two levels, one behind the other
-module _ (n k : ℕ) (t t1 : List Float) (e : t1 ≡ t) where
-  pub second_fits : k ≡ 0 + length (level_within false n t) → length (level_within false n t) + length (level_within true n t) ≤ n → k + length (level_within true n t1) ≤ n
-  second_fits ek h = rw e (omega arith)
+module _ (n k : ℕ) (t : List Float) where
+  pub second_fits : k ≡ 0 + length (level_within false n t) → length (level_within false n t) + length (level_within true n t) ≤ n → k + length (level_within true n t) ≤ n
+  second_fits ek h = omega arith
 
-  pub both_lists : (l0 l1 : Float) (y z : List Float) → y ≡ map (formed (Less l0)) (level_within false n t) → z ≡ y ++ map (formed (Less l1)) (level_within true n t1) → z ≡ spread_in n l0 l1 t
-  both_lists l0 l1 y z ey ez = ez ∙ (rw (ey, e) (spread l0 l1 (level_within false n t) (level_within true n t)))
-
--- the levels fit still
-pub still-fit : (n : ℕ) (t t1 t2 : List Float) → t2 ≡ t1 → t1 ≡ t → length (level_within false n t) + length (level_within true n t) ≤ n → length (level_within false n t2) + length (level_within true n t2) ≤ n
-still-fit n t t1 t2 e d h = rw (e, d) h
-
--- no distance is a NaN still: t1, t2 and t3 are what the calls before leave of t
-module _ (n : ℕ) (l0 l1 : Float) (t t1 : List Float) (e1 : t1 ≡ t) (real : RealSpreads n l0 l1 t) where
-  pub chroma-still : RealDistances (picked_in n n m2 m5 t1)
-  chroma-still = rw e1 real.chroma
-
-  pub dark-still : (t2 : List Float) → t2 ≡ t1 → RealDistances (picked_in n n m2 m3 t2)
-  dark-still t2 e2 = rw (e2, e1) real.dark
-
-  pub light-still : (t2 t3 : List Float) → t3 ≡ t2 → t2 ≡ t1 → RealDistances (picked_in n n m4 m5 t3)
-  light-still t2 t3 e3 e2 = rw (e3, e2, e1) real.light
-
--- what two calls keep
-pub kept_2 : (a b c : List Float) → c ≡ b → b ≡ a → c ≡ a
-kept_2 a b c p q = p ∙ q
-
--- p is the start of s as a call leaves it: what is behind it stays
-pub behind : (k n : ℕ) (s p : List Float) → length p ≡ length (take k s) → k ≤ n → n ≤ length s → drop n (p ++ drop k s) ≡ drop n s
-behind k n s p e h l =
-    let lp : length p ≡ k = e ∙ length-take-le k s (omega arith) in
-    let a : n ≡ length p + (n - k) = omega arith in
-    let b : k + (n - k) ≡ n = omega arith in
-    ap (λ (j : ℕ). drop j (p ++ drop k s)) a ∙ drop-append-add p (drop k s) (n - k) ∙ drop-drop (n - k) k s ∙ ap (λ (j : ℕ). drop j s) b
+  pub both_lists : (l0 l1 : Float) (y z : List Float) → y ≡ map (formed (Less l0)) (level_within false n t) → z ≡ y ++ map (formed (Less l1)) (level_within true n t) → z ≡ spread_in n l0 l1 t
+  both_lists l0 l1 y z ey ez = ez ∙ (rw ey (spread l0 l1 (level_within false n t) (level_within true n t)))

@@ -202,9 +202,9 @@ pub record Listed : Type 0 where
 abbrev pub listed : List Float → ℕ → Listed
 listed s k = record { s = s; k = k }
 
--- it is written at place k, in the room of n, and counted where its mark is from lo to hi
-unfoldable pub list_entry : ℕ → ℕ → Float → Float → Form → ℕ → ℕ → List Float → Listed
-list_entry n column lo hi form i k s =
+-- that of reference i in the columns t is written at place k of the room s, which has n, and counted where its mark is from lo to hi
+unfoldable pub list_entry : ℕ → ℕ → Float → Float → Form → List Float → ℕ → ℕ → List Float → Listed
+list_entry n column lo hi form t i k s =
     cond (ltb k n)
-    (listed (set s k (formed form (get_or s (n + column + i) nan))) (cond (marked lo hi (get_or s (3 * n + i) nan)) (k + 1) k))
+    (listed (set s k (formed form (get_or t (column + i) nan))) (cond (marked lo hi (get_or t (2 * n + i) nan)) (k + 1) k))
     (listed s k)

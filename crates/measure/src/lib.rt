@@ -9,29 +9,28 @@
 // Beside the record stands how many of the references were corrected by a gain that was held at 0.05.
 #![tactic(auto)]
 
-ghost use Rattle.std.specs.Prelude.{◌≡◌, true, false, ◌++◌, map, ◌+◌, ◌*◌, ◌<◌, ◌≤◌, length, take, drop};
+ghost use Rattle.std.specs.Prelude.{◌≡◌, true, false, ◌++◌, map, ◌+◌, ◌*◌, ◌<◌, ◌≤◌, length, take};
 ghost use Rattle.sentences.specs.Sentences.{refusal};
 ghost use Rattle.answers.specs.Answers.{outcome_number, said};
 ghost use Rattle.color.specs.Color.{linear_to_lab};
-ghost use Rattle.color.specs.Palette.{palette_len};
 ghost use Rattle.order.specs.Median.{median_of};
 ghost use Rattle.references.specs.References.{wild_colours};
-ghost use Rattle.references.specs.Ready.{Scratch, Lent};
 ghost use Rattle.measure.specs.Measure as spec;
 ghost use Rattle.measure.specs.Measure.{final, request, flat_request};
 ghost use Rattle.measure.specs.Columns as column;
-ghost use Rattle.measure.specs.Ready.{Middle, Given, Levels};
+ghost use Rattle.measure.specs.Ready.{Scratch, Singles};
 
 use answers::Refusal;
-use color::palette::level_l;
+use color::palette::Palette;
 use color::{Lab, Linear};
 use illum::IlluminationModel;
+use references::References;
 use stats::ChannelStats;
 
 // The noise record, and how many of the references have a mark: a channel's gain, where they stand, was held at 0.05. Under 8
 // references none is corrected, and the count is 0.
 #[repr(C)]
-#[derive(Clone, Copy)]
+#[derive(Clone, Copy, Debug)]
 pub struct Measurement {
     pub noise: ChannelStats,
     pub held: usize,
@@ -40,7 +39,7 @@ pub struct Measurement {
 // ---- one reference
 
 // Where a reference stands, and its observed colour.
-#[derive(Clone, Copy)]
+#[derive(Clone, Copy, Debug)]
 struct Seen {
     x: f32,
     y: f32,
@@ -48,47 +47,20 @@ struct Seen {
 }
 
 // Reference i as it was observed.
-fn seen_at(flat: &[f32], i: usize) -> Seen
-    requires { 8 * i + 8 ≤ length flat.now }
-    ensures { result ≡ spec.seen_at flat.now i }
+#[tactic(auto, unfolding(crate::specs::Measure::seen_at))]
+fn seen_at(references: &References, i: usize) -> Seen
+    requires { i < references.now.n }
+    ensures { result ≡ spec.seen_at references.now.flat.now i }
 {
-    let colour = references::observed_at(flat, i);
     Seen {
-        x: flat[8 * i],
-        y: flat[8 * i + 1],
-        colour,
+        x: references.x(i),
+        y: references.y(i),
+        colour: references.observed(i),
     }
 }
 
-// The lightness between the palette's two levels.
-fn middle(palette: &[f32]) -> f32
-    requires { 2 ≤ length palette.now }
-    ensures { result ≡ spec.middle palette.now }
-{
-    (level_l(palette, 0) + level_l(palette, 1)) / 2.0
-}
-
-// The lightness of the level of a nominal colour, the light level or the dark one.
-fn level_at(palette: &[f32], nominal: Lab, light: bool) -> f32
-    requires { (2 ≤ length palette.now) × (light ≡ spec.is_light palette.now nominal) }
-    ensures { result ≡ spec.level_at palette.now nominal }
-{
-    if light {
-        return level_l(palette, 1);
-    }
-    level_l(palette, 0)
-}
-
-// Whether its lightness is at most 12 from that of its level.
-fn at_level(palette: &[f32], nominal: Lab, light: bool) -> bool
-    requires { (2 ≤ length palette.now) × (light ≡ spec.is_light palette.now nominal) }
-    ensures { result ≡ spec.at_level palette.now nominal }
-{
-    float::abs(nominal.l - level_at(palette, nominal, light)) <= 12.0
-}
-
-// Whether it says anything about chroma noise, by a chroma above 20: white and black would report a hue error that is only a
-// lightness error. No root is taken: a larger number has no smaller root, and 400.00003 is the largest whose root rounds to 20.
+// Whether a nominal colour says anything about chroma noise, by a chroma above 20: white and black would report a hue error that is
+// only a lightness error. No root is taken: a larger number has no smaller root, and 400.00003 is the largest whose root rounds to 20.
 fn colourful(nominal: Lab) -> bool
     ensures { result ≡ spec.colourful nominal }
 {
@@ -99,38 +71,19 @@ fn colourful(nominal: Lab) -> bool
 
 // The mark of a reference: from 1 to 2 its lightness counts for the dark level, from 5 to 6 for the light one; from 2 to 5 its
 // chroma error counts, up to 3 for the dark level and from 4 on for the light one.
+#[tactic(auto, unfolding(crate::specs::Columns::mark_of))]
 fn mark_of(near: bool, light: bool, colourful: bool) -> f32
     ensures { result ≡ column.mark_of near light colourful }
 {
-    if near {
-        if light {
-            if colourful {
-                return 5.0;
-            }
-            return 6.0;
-        }
-        if colourful {
-            return 2.0;
-        }
-        return 1.0;
+    match (near, light, colourful) {
+        (false, _, false) => 0.0,
+        (true, false, false) => 1.0,
+        (true, false, true) => 2.0,
+        (false, false, true) => 3.0,
+        (false, true, true) => 4.0,
+        (true, true, true) => 5.0,
+        (true, true, false) => 6.0,
     }
-    if colourful {
-        if light {
-            return 4.0;
-        }
-        return 3.0;
-    }
-    0.0
-}
-
-// The mark of a reference with this nominal colour, mid being the lightness between the palette's two levels.
-fn mark_for(palette: &[f32], mid: f32, nominal: Lab) -> f32
-    requires { Middle palette.now mid }
-    ensures { result ≡ column.mark_for palette.now nominal }
-{
-    let light = nominal.l >= mid;
-    let near = at_level(palette, nominal, light);
-    mark_of(near, light, colourful(nominal))
 }
 
 // ---- the nominal colours that were seen. References have few of them, a palette's, black and white, and each costs three cube
@@ -138,35 +91,22 @@ fn mark_for(palette: &[f32], mid: f32, nominal: Lab) -> f32
 // first.
 
 // What is known of a nominal colour: a and b of its Lab, and the mark of a reference that has it.
-#[derive(Clone, Copy)]
+#[derive(Clone, Copy, Debug)]
 struct Known {
     a: f32,
     b: f32,
     mark: f32,
 }
 
-// Finds it out; mid as in `mark_for`.
-fn known_of(palette: &[f32], mid: f32, c: Linear) -> Known
-    requires { Middle palette.now mid }
-    ensures { result ≡ column.known_of palette.now c }
-{
-    let nominal = color::linear_to_lab(c);
-    let mark = mark_for(palette, mid, nominal);
-    Known {
-        a: nominal.a,
-        b: nominal.b,
-        mark,
-    }
-}
-
 // The bit pattern of a float; 0 of a NaN.
 fn pattern(x: f32) -> u64
     ensures { result < 0x1_0000_0000 }
 {
-    if x != x {
-        return 0;
+    if x.is_nan() {
+        0
+    } else {
+        u64::from(f32::to_bits(x))
     }
-    f32::to_bits(x) as u64
 }
 
 // The slot of a colour. Any will do: one that two colours share is found out anew where they take turns.
@@ -180,10 +120,7 @@ fn slot_of(c: Linear) -> usize
 fn same(a: f32, b: f32) -> bool
     ensures { result ≡ true → column.Same a b }
 {
-    if a == b {
-        return f32::to_bits(a) == f32::to_bits(b);
-    }
-    false
+    a == b && f32::to_bits(a) == f32::to_bits(b)
 }
 
 // Only where slot j holds this colour.
@@ -191,12 +128,7 @@ fn holds(memo: &[f32; 1536], j: usize, c: Linear) -> bool
     requires { j < 256 }
     ensures { result ≡ true → column.Held j c memo.now }
 {
-    if same(memo[6 * j], c.r) {
-        if same(memo[6 * j + 1], c.g) {
-            return same(memo[6 * j + 2], c.b);
-        }
-    }
-    false
+    same(memo[6 * j], c.r) && same(memo[6 * j + 1], c.g) && same(memo[6 * j + 2], c.b)
 }
 
 // Writes a colour, and what is known of it, into slot j.
@@ -212,22 +144,94 @@ fn keep(memo: &mut [f32; 1536], j: usize, c: Linear, known: Known)
     memo[6 * j + 5] = known.mark;
 }
 
-// What is known of a nominal colour: from its slot, or found out and kept there; mid as in `mark_for`.
-fn recall(palette: &[f32], mid: f32, c: Linear, memo: &mut [f32; 1536]) -> Known
-    requires { Middle palette.now mid × column.Remembered palette.now memo.old }
-    ensures { (result ≡ column.known_of palette.now c) × column.Remembered palette.now memo.new }
-{
-    let j = slot_of(c);
-    if holds(memo, j, c) {
-        return Known {
-            a: memo[6 * j + 3],
-            b: memo[6 * j + 4],
-            mark: memo[6 * j + 5],
-        };
+// A palette, and the lightness between its two levels.
+#[derive(Clone, Copy, Debug)]
+struct Levels<'a> {
+    palette: Palette<'a>,
+    middle: f32,
+    ghost between: { middle ≡ spec.middle palette.numbers.now },
+}
+
+impl<'a> Levels<'a> {
+    // Those of a palette.
+    #[tactic(auto, unfolding(crate::specs::Measure::middle), using(color::proofs::Numbers::n2))]
+    fn new(palette: Palette<'a>) -> Levels<'a>
+        ensures { result.palette.numbers.now ≡ palette.entry.numbers.now }
+    {
+        let middle = (palette.level(0) + palette.level(1)) / 2.0;
+        Levels { palette, middle }
     }
-    let known = known_of(palette, mid, c);
-    keep(memo, j, c, known);
-    known
+
+    // Whether a nominal colour is of the light level.
+    #[tactic(auto, unfolding(crate::specs::Measure::is_light))]
+    fn is_light(&self, nominal: Lab) -> bool
+        ensures { result ≡ spec.is_light self.now.palette.numbers.now nominal }
+    {
+        nominal.l >= self.middle
+    }
+
+    // The lightness of its level.
+    #[tactic(auto, unfolding(crate::specs::Measure::level_at))]
+    fn level_at(&self, nominal: Lab) -> f32
+        ensures { result ≡ spec.level_at self.now.palette.numbers.now nominal }
+    {
+        if self.is_light(nominal) {
+            self.palette.level(1)
+        } else {
+            self.palette.level(0)
+        }
+    }
+
+    // Whether its lightness is at most 12 from that of its level.
+    #[tactic(auto, unfolding(crate::specs::Measure::at_level), using(color::proofs::Numbers::n12))]
+    fn at_level(&self, nominal: Lab) -> bool
+        ensures { result ≡ spec.at_level self.now.palette.numbers.now nominal }
+    {
+        float::abs(nominal.l - self.level_at(nominal)) <= 12.0
+    }
+
+    // The mark of a reference with this nominal colour.
+    #[tactic(auto, unfolding(crate::specs::Columns::mark_for))]
+    fn mark_for(&self, nominal: Lab) -> f32
+        ensures { result ≡ column.mark_for self.now.palette.numbers.now nominal }
+    {
+        mark_of(
+            self.at_level(nominal),
+            self.is_light(nominal),
+            colourful(nominal),
+        )
+    }
+
+    // Finds out what is known of a nominal colour.
+    #[tactic(auto, unfolding(crate::specs::Columns::known_of))]
+    fn known_of(&self, c: Linear) -> Known
+        ensures { result ≡ column.known_of self.now.palette.numbers.now c }
+    {
+        let nominal = color::linear_to_lab(c);
+        Known {
+            a: nominal.a,
+            b: nominal.b,
+            mark: self.mark_for(nominal),
+        }
+    }
+
+    // What is known of it: from its slot, or found out and kept there.
+    fn recall(&self, c: Linear, memo: &mut [f32; 1536]) -> Known
+        requires { column.Remembered self.now.palette.numbers.now memo.old }
+        ensures { (result ≡ column.known_of self.now.palette.numbers.now c) × column.Remembered self.now.palette.numbers.now memo.new }
+    {
+        let j = slot_of(c);
+        if holds(memo, j, c) {
+            return Known {
+                a: memo[6 * j + 3],
+                b: memo[6 * j + 4],
+                mark: memo[6 * j + 5],
+            };
+        }
+        let known = self.known_of(c);
+        keep(memo, j, c, known);
+        known
+    }
 }
 
 // ---- the columns are written
@@ -243,13 +247,15 @@ fn place(n: usize, i: usize, a: f32, b: f32, c: f32, s: &mut [f32])
 }
 
 // Writes the corrected colours of all n, a component in each column, and says how many of them have a mark.
-fn correct(model: IlluminationModel, flat: &[f32], n: usize, s: &mut [f32]) -> usize
-    requires { Lent n flat.now s.old }
-    ensures { column.Corrected model flat.now n 0 n s.new × (result ≡ spec.held_of model flat.now n) }
+// By index: a reference has its place in three columns.
+fn correct(model: IlluminationModel, references: &References, s: &mut [f32]) -> usize
+    requires { Scratch references.now.n s.old }
+    ensures { column.Corrected model references.now.flat.now references.now.n 0 references.now.n s.new × (result ≡ spec.held_of model references.now.flat.now references.now.n) }
 {
+    let n = references.n;
     let mut held = 0;
     for i in 0..n {
-        let o = seen_at(flat, i);
+        let o = seen_at(references, i);
         let d = illum::unshade(model, o.x, o.y, o.colour);
         held = illum::count_held(d, held);
         let m = illum::mix(model, d);
@@ -258,22 +264,21 @@ fn correct(model: IlluminationModel, flat: &[f32], n: usize, s: &mut [f32]) -> u
     held
 }
 
-// Writes the three numbers of reference i of n over its corrected colour, the chroma error squared; mid as in `mark_for`. A
-// reference whose mark is 0, as white and black cells of a card's border have it, counts for no list: its other numbers are 0,
-// since finding them out would take three cube roots.
+// Writes the three numbers of reference i of n over its corrected colour, the chroma error squared. A reference whose mark is 0, as
+// white and black cells of a card's border have it, counts for no list: its other numbers are 0, since finding them out would take
+// three cube roots.
 fn note_at(
-    palette: &[f32],
-    mid: f32,
-    flat: &[f32],
-    n: usize,
+    levels: &Levels,
+    references: &References,
     i: usize,
     s: &mut [f32],
     memo: &mut [f32; 1536],
 )
-    requires { (i < n) × Lent n flat.now s.old × Middle palette.now mid × column.Remembered palette.now memo.old }
-    ensures { (s.new ≡ column.noted (linear_to_lab (column.colour_at n i s.old)) palette.now flat.now n i s.old) × column.Remembered palette.now memo.new }
+    requires { (i < references.now.n) × Scratch references.now.n s.old × column.Remembered levels.now.palette.numbers.now memo.old }
+    ensures { (s.new ≡ column.noted (linear_to_lab (column.colour_at references.now.n i s.old)) levels.now.palette.numbers.now references.now.flat.now references.now.n i s.old) × column.Remembered levels.now.palette.numbers.now memo.new }
 {
-    let nominal = recall(palette, mid, references::nominal_at(flat, i), memo);
+    let n = references.n;
+    let nominal = levels.recall(references.nominal(i), memo);
     if nominal.mark == 0.0 {
         place(n, i, 0.0, 0.0, nominal.mark, s);
         return;
@@ -289,19 +294,21 @@ fn note_at(
 }
 
 // Writes them of all n over the corrected colours.
-fn convert(palette: &[f32], flat: &[f32], n: usize, s: &mut [f32])
-    requires { Given palette.now n flat.now s.old }
-    ensures { column.Converted palette.now flat.now n n s.old s.new }
+// By index: a reference has its place in three columns.
+fn convert(palette: Palette, references: &References, s: &mut [f32])
+    requires { Scratch references.now.n s.old }
+    ensures { column.Converted palette.entry.numbers.now references.now.flat.now references.now.n references.now.n s.old s.new }
 {
-    let mid = middle(palette);
+    let levels = Levels::new(palette);
     let empty = 0.0f32 / 0.0f32;
     let mut memo = [empty; 1536];
-    for i in 0..n {
-        note_at(palette, mid, flat, n, i, s, &mut memo);
+    for i in 0..references.n {
+        note_at(&levels, references, i, s, &mut memo);
     }
 }
 
 // Takes the roots of the squared chroma errors.
+// By index: a column is a part of the scratch.
 fn roots(n: usize, s: &mut [f32])
     requires { Scratch n s.old }
     ensures { column.Rooted n n s.old s.new }
@@ -313,25 +320,26 @@ fn roots(n: usize, s: &mut [f32])
 
 // Writes them of all n: all are corrected, then converted, and then the roots are taken, which takes less time than one loop that
 // does it all. Says how many have a mark.
-fn note(model: IlluminationModel, palette: &[f32], flat: &[f32], n: usize, s: &mut [f32]) -> usize
-    requires { Given palette.now n flat.now s.old }
-    ensures { column.Noted model palette.now flat.now n n (spec.error_at model flat.now) s.new × (result ≡ spec.held_of model flat.now n) }
+fn note(model: IlluminationModel, palette: Palette, references: &References, s: &mut [f32]) -> usize
+    requires { Scratch references.now.n s.old }
+    ensures { column.Noted model palette.entry.numbers.now references.now.flat.now references.now.n references.now.n (spec.error_at model references.now.flat.now) s.new × (result ≡ spec.held_of model references.now.flat.now references.now.n) }
 {
-    let held = correct(model, flat, n, s);
-    convert(palette, flat, n, s);
-    roots(n, s);
+    let held = correct(model, references, s);
+    convert(palette, references, s);
+    roots(references.n, s);
     held
 }
 
 // ---- the lists
 
 // The form in which a number is listed: as it is, or less l.
-#[derive(Clone, Copy)]
+#[derive(Clone, Copy, Debug)]
 enum Form {
     Plain,
     Less(f32),
 }
 
+#[tactic(auto, unfolding(crate::specs::Columns::formed))]
 fn formed(form: Form, v: f32) -> f32
     ensures { result ≡ column.formed form v }
 {
@@ -342,68 +350,11 @@ fn formed(form: Form, v: f32) -> f32
 }
 
 // Whether a mark is from lo to hi.
+#[tactic(auto, unfolding(crate::specs::Columns::marked))]
 fn marked(lo: f32, hi: f32, mark: f32) -> bool
     ensures { result ≡ column.marked lo hi mark }
 {
-    if lo <= mark {
-        return mark <= hi;
-    }
-    false
-}
-
-// Lists the number of reference i in a column, where its mark is from lo to hi: k were listed before, and one more may be after.
-// It is written at place k whatever its mark, as long as that is in the list's room, and counted where the mark says so: what
-// stands at place k and after is of no use, and a branch on the mark would often be guessed wrong.
-fn list_at(
-    s: &mut [f32],
-    n: usize,
-    at: usize,
-    lo: f32,
-    hi: f32,
-    form: Form,
-    i: usize,
-    k: usize,
-) -> usize
-    requires { (i < n) × (at ≤ n) × Scratch n s.old }
-    ensures { column.listed s.new result ≡ column.list_entry n at lo hi form i k s.old }
-{
-    let counts = marked(lo, hi, s[3 * n + i]);
-    if k < n {
-        s[k] = formed(form, s[n + at + i]);
-        if counts {
-            return k + 1;
-        }
-    }
-    k
-}
-
-// Lists the numbers of a column whose mark is from lo to hi after the first k of s, and says how many are listed then.
-fn list(s: &mut [f32], n: usize, at: usize, lo: f32, hi: f32, form: Form, k: usize) -> usize
-    requires { (at ≤ n) × Scratch n s.old × (k + length (column.picked_in n at lo hi (drop n s.old)) ≤ n) }
-    ensures { (take result s.new ≡ take k s.old ++ map (column.formed form) (column.picked_in n at lo hi (drop n s.old))) × (result ≡ k + length (column.picked_in n at lo hi (drop n s.old))) × (result ≤ n) × (drop n s.new ≡ drop n s.old) }
-{
-    let mut r = k;
-    for i in 0..n {
-        r = list_at(s, n, at, lo, hi, form, i, r);
-    }
-    r
-}
-
-// The median of the first k of s, the list.
-fn median_of(s: &mut [f32], n: usize, k: usize) -> f32
-    requires { (k ≤ n) × (length s.old ≡ 4 * n) }
-    ensures { (result ≡ median_of (take k s.old)) × (drop n s.new ≡ drop n s.old) }
-{
-    order::median(&mut s[..k])
-}
-
-// Lists the lightnesses of the dark level less l0, then those of the light level less l1, and says how many they are.
-fn list_levels(s: &mut [f32], n: usize, l0: f32, l1: f32) -> usize
-    requires { Levels n s.old }
-    ensures { (take result s.new ≡ column.spread_in n l0 l1 (drop n s.old)) × (result ≤ n) × (drop n s.new ≡ drop n s.old) }
-{
-    let k = list(s, n, 0, 1.0, 2.0, Form::Less(l0), 0);
-    list(s, n, 0, 5.0, 6.0, Form::Less(l1), k)
+    lo <= mark && mark <= hi
 }
 
 // The scaled median absolute deviation of a list, at least 0.75. The distances are taken in the order in which the median leaves
@@ -417,137 +368,192 @@ fn sigma_in(values: &mut [f32]) -> f32
     float::max(1.4826 * order::median(values), 0.75)
 }
 
-// That of the first k of s, the list.
-fn sigma_of(s: &mut [f32], n: usize, k: usize) -> f32
-    requires { (k ≤ n) × (length s.old ≡ 4 * n) × column.RealDistances (take k s.old) }
-    ensures { (result ≡ spec.raised_sigma (take k s.old)) × (drop n s.new ≡ drop n s.old) }
-{
-    sigma_in(&mut s[..k])
+// The columns of n references: the corrected lightness, the chroma error and the mark of each. Lists are made of them in a room of n
+// floats, which holds those of both levels.
+// Facts: the room's length stands in each clause, since a struct that held the room would have to keep its ghost name in each.
+#[derive(Clone, Copy, Debug)]
+struct Columns<'a> {
+    numbers: &'a [f32],
+    n: usize,
+    ghost three: { length numbers.now ≡ 3 * n },
+    ghost few: { n ≤ 16384 },
+    ghost fit: { length (column.level_within false n numbers.now) + length (column.level_within true n numbers.now) ≤ n },
 }
 
-// The luma noise about the levels' medians l0 and l1.
-fn luma_sigma(s: &mut [f32], n: usize, l0: f32, l1: f32) -> f32
-    requires { Levels n s.old × column.RealDistances (column.spread_in n l0 l1 (drop n s.old)) }
-    ensures { (result ≡ spec.luma_sigma l0 l1 (column.level_within false n (drop n s.old)) (column.level_within true n (drop n s.old))) × (drop n s.new ≡ drop n s.old) }
-{
-    let k = list_levels(s, n, l0, l1);
-    sigma_of(s, n, k)
-}
-
-// The chroma noise of the references whose mark is from lo to hi; `other` where there are fewer than `least`.
-fn chroma_sigma(s: &mut [f32], n: usize, lo: f32, hi: f32, least: usize, other: f32) -> f32
-    requires { Scratch n s.old × column.RealDistances (column.picked_in n n lo hi (drop n s.old)) }
-    ensures { (result ≡ spec.chroma_sigma least other (column.picked_in n n lo hi (drop n s.old))) × (drop n s.new ≡ drop n s.old) }
-{
-    let k = list(s, n, n, lo, hi, Form::Plain, 0);
-    if k < least {
-        return other;
+impl Columns<'_> {
+    // Lists the number of reference i in a column, where its mark is from lo to hi: k were listed before, and one more may be after.
+    // It is written at place k whatever its mark, as long as that is in the room, and counted where the mark says so: what stands
+    // at place k and after is of no use, and a branch on the mark would often be guessed wrong.
+    fn list_at(
+        &self,
+        room: &mut [f32],
+        at: usize,
+        lo: f32,
+        hi: f32,
+        form: Form,
+        i: usize,
+        k: usize,
+    ) -> usize
+        requires { (i < self.now.n) × (at ≤ self.now.n) × (length room.old ≡ self.now.n) }
+        ensures { column.listed room.new result ≡ column.list_entry self.now.n at lo hi form self.now.numbers.now i k room.old }
+    {
+        let counts = marked(lo, hi, self.numbers[2 * self.n + i]);
+        if k < self.n {
+            room[k] = formed(form, self.numbers[at + i]);
+            if counts {
+                return k + 1;
+            }
+        }
+        k
     }
-    sigma_of(s, n, k)
-}
 
-// ---- the record
-
-// The median lightness of the level whose references are marked from lo to hi; none of fewer than 3.
-fn level_of(s: &mut [f32], n: usize, lo: f32, hi: f32) -> Option<f32>
-    requires { Scratch n s.old }
-    ensures { (result ≡ column.levelled (column.picked_in n 0 lo hi (drop n s.old))) × (drop n s.new ≡ drop n s.old) }
-{
-    let count = list(s, n, 0, lo, hi, Form::Plain, 0);
-    if count < 3 {
-        return None;
+    // Lists the numbers of a column whose mark is from lo to hi after the first k of the room, and says how many are listed then.
+    // By index: a reference has its place in two columns.
+    fn list(&self, room: &mut [f32], at: usize, lo: f32, hi: f32, form: Form, k: usize) -> usize
+        requires { (at ≤ self.now.n) × (length room.old ≡ self.now.n) × (k + length (column.picked_in self.now.n at lo hi self.now.numbers.now) ≤ self.now.n) }
+        ensures { (take result room.new ≡ take k room.old ++ map (column.formed form) (column.picked_in self.now.n at lo hi self.now.numbers.now)) × (result ≡ k + length (column.picked_in self.now.n at lo hi self.now.numbers.now)) × (result ≤ self.now.n) }
+    {
+        let mut r = k;
+        for i in 0..self.n {
+            r = self.list_at(room, at, lo, hi, form, i, r);
+        }
+        r
     }
-    Some(median_of(s, n, count))
-}
 
-// The record of the levels' medians and the columns.
-fn figures_of(s: &mut [f32], n: usize, l0: f32, l1: f32) -> ChannelStats
-    requires { Levels n s.old × column.RealSpreads n l0 l1 (drop n s.old) }
-    ensures { result ≡ column.figures_in n l0 l1 (drop n s.old) }
-{
-    let sigma_l = luma_sigma(s, n, l0, l1);
-    let sigma_ab = chroma_sigma(s, n, 2.0, 5.0, 1, 0.75);
-    let sigma_ab_dark = chroma_sigma(s, n, 2.0, 3.0, 8, 0.0);
-    let sigma_ab_light = chroma_sigma(s, n, 4.0, 5.0, 8, 0.0);
-    ChannelStats {
-        l0,
-        l1,
-        sigma_l,
-        sigma_ab,
-        sigma_ab_dark,
-        sigma_ab_light,
-        samples: n as u32,
+    // Lists the lightnesses of the dark level less l0, then those of the light level less l1, and says how many they are.
+    fn list_levels(&self, room: &mut [f32], l0: f32, l1: f32) -> usize
+        requires { length room.old ≡ self.now.n }
+        ensures { (take result room.new ≡ column.spread_in self.now.n l0 l1 self.now.numbers.now) × (result ≤ self.now.n) }
+    {
+        let k = self.list(room, 0, 1.0, 2.0, Form::Less(l0), 0);
+        self.list(room, 0, 5.0, 6.0, Form::Less(l1), k)
+    }
+
+    // The luma noise about the levels' medians l0 and l1.
+    fn luma_sigma(&self, room: &mut [f32], l0: f32, l1: f32) -> f32
+        requires { (length room.old ≡ self.now.n) × column.RealDistances (column.spread_in self.now.n l0 l1 self.now.numbers.now) }
+        ensures { result ≡ spec.luma_sigma l0 l1 (column.level_within false self.now.n self.now.numbers.now) (column.level_within true self.now.n self.now.numbers.now) }
+    {
+        let k = self.list_levels(room, l0, l1);
+        sigma_in(&mut room[..k])
+    }
+
+    // The chroma noise of the references whose mark is from lo to hi; `other` where there are fewer than `least`.
+    fn chroma_sigma(&self, room: &mut [f32], lo: f32, hi: f32, least: usize, other: f32) -> f32
+        requires { (length room.old ≡ self.now.n) × column.RealDistances (column.picked_in self.now.n self.now.n lo hi self.now.numbers.now) }
+        ensures { result ≡ spec.chroma_sigma least other (column.picked_in self.now.n self.now.n lo hi self.now.numbers.now) }
+    {
+        let k = self.list(room, self.n, lo, hi, Form::Plain, 0);
+        if k < least {
+            return other;
+        }
+        sigma_in(&mut room[..k])
+    }
+
+    // ---- the record
+
+    // The median lightness of the level whose references are marked from lo to hi; none of fewer than 3.
+    fn level_of(&self, room: &mut [f32], lo: f32, hi: f32) -> Option<f32>
+        requires { length room.old ≡ self.now.n }
+        ensures { result ≡ column.levelled (column.picked_in self.now.n 0 lo hi self.now.numbers.now) }
+    {
+        let count = self.list(room, 0, lo, hi, Form::Plain, 0);
+        if count < 3 {
+            return None;
+        }
+        Some(order::median(&mut room[..count]))
+    }
+
+    // The record of the levels' medians and the columns.
+    fn figures_of(&self, room: &mut [f32], l0: f32, l1: f32) -> ChannelStats
+        requires { (length room.old ≡ self.now.n) × column.RealSpreads self.now.n l0 l1 self.now.numbers.now }
+        ensures { result ≡ column.figures_in self.now.n l0 l1 self.now.numbers.now }
+    {
+        let sigma_l = self.luma_sigma(room, l0, l1);
+        let sigma_ab = self.chroma_sigma(room, 2.0, 5.0, 1, 0.75);
+        let sigma_ab_dark = self.chroma_sigma(room, 2.0, 3.0, 8, 0.0);
+        let sigma_ab_light = self.chroma_sigma(room, 4.0, 5.0, 8, 0.0);
+        ChannelStats {
+            l0,
+            l1,
+            sigma_l,
+            sigma_ab,
+            sigma_ab_dark,
+            sigma_ab_light,
+            samples: self.n as u32,
+        }
+    }
+
+    // The record of the columns; `nominal` with fewer than 3 of a level.
+    fn record_of(&self, palette: Palette, room: &mut [f32]) -> ChannelStats
+        requires { (length room.old ≡ self.now.n) × column.RealSpreads self.now.n (median_of (column.level_within false self.now.n self.now.numbers.now)) (median_of (column.level_within true self.now.n self.now.numbers.now)) self.now.numbers.now }
+        ensures { result ≡ column.record_in palette.entry.numbers.now self.now.n self.now.numbers.now }
+    {
+        let Some(l0) = self.level_of(room, 1.0, 2.0) else {
+            return ChannelStats::nominal_of(palette.numbers);
+        };
+        let Some(l1) = self.level_of(room, 5.0, 6.0) else {
+            return ChannelStats::nominal_of(palette.numbers);
+        };
+        self.figures_of(room, l0, l1)
     }
 }
 
-// The record of the columns; `nominal` with fewer than 3 of a level.
-fn record_of(palette: &[f32], n: usize, s: &mut [f32]) -> ChannelStats
-    requires { Levels n s.old × (2 ≤ length palette.now) × column.RealSpreads n (median_of (column.level_within false n (drop n s.old))) (median_of (column.level_within true n (drop n s.old))) (drop n s.old) }
-    ensures { result ≡ column.record_in palette.now n (drop n s.old) }
-{
-    let Some(l0) = level_of(s, n, 1.0, 2.0) else {
-        return ChannelStats::nominal_of(palette);
-    };
-    let Some(l1) = level_of(s, n, 5.0, 6.0) else {
-        return ChannelStats::nominal_of(palette);
-    };
-    figures_of(s, n, l0, l1)
-}
-
-// The record of n references that the sentences let pass, with the count of those that have a mark; `nominal` and 0 of fewer than 8.
+// The record of references that the sentences let pass, with the count of those that have a mark; `nominal` and 0 of fewer than 8.
 // The numbers in s are of no use after.
 fn measurement_of(
     model: IlluminationModel,
-    palette: &[f32],
-    flat: &[f32],
-    n: usize,
+    palette: Palette,
+    references: &References,
     s: &mut [f32],
 ) -> Measurement
-    requires { Given palette.now n flat.now s.old × (wild_colours flat.now n ≡ false) × (spec.bad_corrected model flat.now n ≡ false) }
-    ensures { result ≡ spec.measurement model palette.now flat.now n }
+    requires singles { Singles references.now.flat.now }
+    requires scratch { Scratch references.now.n s.old }
+    requires passed { (wild_colours references.now.flat.now references.now.n ≡ false) × (spec.bad_corrected model references.now.flat.now references.now.n ≡ false) }
+    ensures { result ≡ spec.measurement model palette.entry.numbers.now references.now.flat.now references.now.n }
 {
-    if n < 8 {
+    if references.n < 8 {
         return Measurement {
-            noise: ChannelStats::nominal_of(palette),
+            noise: ChannelStats::nominal_of(palette.numbers),
             held: 0,
         };
     }
-    let held = note(model, palette, flat, n, s);
-    let noise = record_of(palette, n, s);
+    let held = note(model, palette, references, s);
+    let (room, numbers) = s.split_at_mut(references.n);
+    let columns = Columns {
+        numbers,
+        n: references.n,
+    };
+    let noise = columns.record_of(palette, room);
     Measurement { noise, held }
 }
 
 // ---- the sentences
 
 // Sentence 5: the palette or the scratch is too short.
+#[tactic(auto, unfolding(crate::specs::Measure::too_short))]
 fn too_short(palette: &[f32], hues: usize, lent: usize, n: usize) -> bool
     ensures { result ≡ spec.too_short false palette.now hues lent n }
 {
-    if stats::short_palette(palette, hues) {
-        return true;
-    }
-    references::short_scratch(lent, n)
+    stats::short_palette(palette, hues) || references::short_scratch(lent, n)
 }
 
 // Sentence 8: a colour of a reference or a number of the palette is wild.
-fn wild_numbers(flat: &[f32], n: usize, palette: &[f32], hues: usize) -> bool
-    requires { (8 * n ≤ length flat.now) × (palette_len hues ≤ length palette.now) }
-    ensures { result ≡ spec.wild_numbers flat.now n palette.now hues }
+#[tactic(auto, unfolding(crate::specs::Measure::wild_numbers))]
+fn wild_numbers(references: &References, palette: &Palette) -> bool
+    ensures { result ≡ spec.wild_numbers references.now.flat.now references.now.n palette.now.numbers.now palette.now.hues }
 {
-    if references::wild_colours(flat, n) {
-        return true;
-    }
-    color::palette::wild_palette(palette, hues)
+    references.wild_colours() || palette.is_wild()
 }
 
-// The corrected colour of one of n references is wild.
-fn wild_corrected(model: IlluminationModel, flat: &[f32], n: usize) -> bool
-    requires { 8 * n ≤ length flat.now }
-    ensures { result ≡ spec.wild_corrected model flat.now n }
+// The corrected colour of one of the references is wild.
+// By index: the few that are out of the model's reach are corrected, and the first wild one of them ends the loop.
+fn wild_corrected(model: IlluminationModel, references: &References) -> bool
+    ensures { result ≡ spec.wild_corrected model references.now.flat.now references.now.n }
 {
     let reach = illum::reach(model);
-    for i in 0..n {
-        let o = seen_at(flat, i);
+    for i in 0..references.n {
+        let o = seen_at(references, i);
         if !illum::within(reach, o.x, o.y, o.colour) {
             let d = illum::unshade(model, o.x, o.y, o.colour);
             if illum::wild_mix(model, d) {
@@ -559,14 +565,11 @@ fn wild_corrected(model: IlluminationModel, flat: &[f32], n: usize) -> bool
 }
 
 // Sentence 12; fewer than 8 references are not corrected.
-fn bad_corrected(model: IlluminationModel, flat: &[f32], n: usize) -> bool
-    requires { 8 * n ≤ length flat.now }
-    ensures { result ≡ spec.bad_corrected model flat.now n }
+#[tactic(auto, unfolding(crate::specs::Measure::bad_corrected))]
+fn bad_corrected(model: IlluminationModel, references: &References) -> bool
+    ensures { result ≡ spec.bad_corrected model references.now.flat.now references.now.n }
 {
-    if 8 <= n {
-        return wild_corrected(model, flat, n);
-    }
-    false
+    8 <= references.n && wild_corrected(model, references)
 }
 
 // Refuses by the first sentence that holds.
@@ -592,13 +595,15 @@ fn check(
         return Err(Refusal::Length);
     }
     references::check_references(side, flat, n)?;
-    if wild_numbers(flat, n, palette, hues) {
+    let references = References { flat, n };
+    let numbers = palette;
+    if wild_numbers(&references, &Palette { numbers, hues }) {
         return Err(Refusal::Number);
     }
     if illum::bad_model(model) {
         return Err(Refusal::Model);
     }
-    if bad_corrected(model, flat, n) {
+    if bad_corrected(model, &references) {
         return Err(Refusal::Corrected);
     }
     Ok(())
@@ -621,7 +626,10 @@ pub fn measure_counted(
     ensures { final (said result) scratch.new ≡ spec.measure_of (request flat.now false n side model palette.now hues scratch.old) }
 {
     check(flat, n, side, model, palette, hues, scratch.len())?;
-    let measurement = measurement_of(model, palette, flat, n, &mut scratch[..4 * n]);
+    let references = References { flat, n };
+    let numbers = palette;
+    let palette = Palette { numbers, hues };
+    let measurement = measurement_of(model, palette, &references, &mut scratch[..4 * n]);
     references::clear(scratch, 4 * n);
     Ok(measurement)
 }

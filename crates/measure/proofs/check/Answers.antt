@@ -5,7 +5,7 @@ use Prim.Native.Nat.{ℕ, ◌≤◌}
 use Rattle.sentences.proofs.Laws.{sentences}
 use Rattle.limits.specs.Limits.{bad_side}
 use Rattle.limits.proofs.Laws.{side_in}
-use Rattle.references.proofs.Laws.{stand-placed, placements}
+use Rattle.references.proofs.Laws.{few-placed, placements}
 use Rattle.measure.specs.Measure.{sentences_for}
 use Rattle.measure.proofs.Accepted.{palette_in}
 use borrow.Author.Rules.{rules}
@@ -17,11 +17,13 @@ most side r e f = (side_in side (sym e ∙ f)).1
 pub check_references-requires : goal.check_references-requires
 check_references-requires c = (search (most), search rules)
 
-pub wild_numbers-requires : goal.wild_numbers-requires
-wild_numbers-requires c = (stand-placed _ _ _ c.in_ok-check_references.ensures c.requires, search (palette_in))
+pub invariant_of-references : goal.invariant_of-references
+invariant_of-references c =
+    let few = few-placed _ _ _ c.in_ok-check_references.ensures in
+    record { stand = c.requires few; few = few }
 
-pub bad_corrected-requires : goal.bad_corrected-requires
-bad_corrected-requires c = stand-placed _ _ _ c.in_ok-check_references.ensures c.requires
+pub invariant_of-wild_numbers : goal.invariant_of-wild_numbers
+invariant_of-wild_numbers c = record { long = search (palette_in) }
 
 pub bad_side-requires : goal.bad_side-requires
 unfolding sentences_for

@@ -7,7 +7,7 @@ use Rattle.measure.specs.Columns.{Converted, Remembered}
 use Rattle.measure.proofs.convert.Given as goal
 
 abbrev pub invariant-loop-i : goal.invariant-loop-i
-invariant-loop-i l = (length l.s ≡ 4 * l.n) × Converted l.palette l.flat l.n l.i l.initial.s l.s × Remembered l.palette l.memo
+invariant-loop-i l = (length l.s ≡ 4 * l.references.n) × Converted l.levels.palette.numbers.now l.references.flat.now l.references.n l.i l.initial.s l.s × Remembered l.levels.palette.numbers.now l.memo
 
 abbrev pub decreases-loop-i : goal.decreases-loop-i
-decreases-loop-i l = l.n - l.i
+decreases-loop-i l = l.references.n - l.i

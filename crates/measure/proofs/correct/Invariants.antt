@@ -9,7 +9,7 @@ use Rattle.measure.specs.Columns.{Corrected}
 use Rattle.measure.proofs.correct.Given as goal
 
 abbrev pub invariant-loop-i : goal.invariant-loop-i
-invariant-loop-i l = (length l.s ≡ 4 * l.n) × Corrected l.model l.flat l.n 0 l.i l.s × (l.held ≤ l.i) × Left (raise (held_reference l.model l.flat)) l.n l.i l.held (held_of l.model l.flat l.n)
+invariant-loop-i l = (length l.s ≡ 4 * l.n) × Corrected l.model l.references.flat.now l.n 0 l.i l.s × (l.held ≤ l.i) × Left (raise (held_reference l.model l.references.flat.now)) l.n l.i l.held (held_of l.model l.references.flat.now l.n)
 
 abbrev pub decreases-loop-i : goal.decreases-loop-i
 decreases-loop-i l = l.n - l.i

@@ -15,7 +15,7 @@ use Rattle.illum.specs.declared.IlluminationModel.{IlluminationModel}
 use Rattle.references.specs.References.{wild_colours}
 use Rattle.measure.specs.declared.Measurement.{Measurement}
 use Rattle.measure.specs.Measure.{bad_corrected, measurement, final, request, sentences_for, measure_of}
-use Rattle.measure.specs.Ready.{Given}
+use Rattle.measure.specs.Ready.{Scratch}
 use Rattle.measure.proofs.Accepted.{accepted, sent_back, taken}
 use Rattle.measure.proofs.measure_counted.Goals as goal
 
@@ -27,10 +27,10 @@ module _ (flat palette s : List Float) (n side hues : ℕ) (m : IlluminationMode
   four : 4 * n ≡ length (take (4 * n) s)
   four = sym (length-take-le (4 * n) s room)
 
-  ready : (n ≤ 16384 → 8 * n ≤ length flat) → Given palette n flat (take (4 * n) s) × (wild_colours flat n ≡ false) × (bad_corrected m flat n ≡ false)
-  ready h =
+  ready : Scratch n (take (4 * n) s) × (wild_colours flat n ≡ false) × (bad_corrected m flat n ≡ false)
+  ready =
       let a = accepted flat false n side m palette hues (length s) e in
-      (record { levels = a.levels; lent = record { stand = h a.few; most = a.few; four = sym four } }, a.colours, a.corrected)
+      (record { most = a.few; four = sym four }, a.colours, a.corrected)
 
   -- u is the first 4 × n numbers of s as the core left them
   module _ (u : List Float) (lu : length u ≡ length (take (4 * n) s)) where
@@ -58,8 +58,19 @@ slice_bounds-measurement_of-end c = room _ _ _ _ _ _ _ c.in_ok-check.ensures
 pub slice_bounds-measurement_of-end-2 : goal.slice_bounds-measurement_of-end-2
 slice_bounds-measurement_of-end-2 c = four _ _ _ _ _ _ _ c.in_ok-check.ensures
 
-pub measurement_of-measurement-requires : goal.measurement_of-measurement-requires
-measurement_of-measurement-requires c = ready _ _ _ _ _ _ _ c.in_ok-check.ensures c.requires
+pub measurement_of-measurement-requires-clause-scratch : goal.measurement_of-measurement-requires-clause-scratch
+measurement_of-measurement-requires-clause-scratch c = (ready _ _ _ _ _ _ _ c.in_ok-check.ensures).0
+
+pub measurement_of-measurement-requires-clause-passed : goal.measurement_of-measurement-requires-clause-passed
+measurement_of-measurement-requires-clause-passed c = let r = ready _ _ _ _ _ _ _ c.in_ok-check.ensures in (r.1, r.2)
+
+pub invariant_of-references : goal.invariant_of-references
+invariant_of-references c =
+    let few = (accepted _ _ _ _ _ _ _ _ c.in_ok-check.ensures).few in
+    record { stand = c.requires few; few = few }
+
+pub invariant_of-palette : goal.invariant_of-palette
+invariant_of-palette c = record { long = (accepted _ _ _ _ _ _ _ _ c.in_ok-check.ensures).long }
 
 pub overflow_mul-n-2 : goal.overflow_mul-n-2
 overflow_mul-n-2 c = omega (arith, (accepted _ _ _ _ _ _ _ _ c.in_ok-check.ensures).few)

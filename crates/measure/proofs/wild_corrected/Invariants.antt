@@ -5,7 +5,7 @@ use Rattle.measure.specs.Measure.{wild_corrected_at, wild_corrected}
 use Rattle.measure.proofs.wild_corrected.Given as goal
 
 abbrev pub invariant-loop-i : goal.invariant-loop-i
-invariant-loop-i l = LeftAny (wild_corrected_at l.model l.flat) l.n l.i (wild_corrected l.model l.flat l.n)
+invariant-loop-i l = LeftAny (wild_corrected_at l.model l.references.flat.now) l.references.n l.i (wild_corrected l.model l.references.flat.now l.references.n)
 
 abbrev pub decreases-loop-i : goal.decreases-loop-i
-decreases-loop-i l = l.n - l.i
+decreases-loop-i l = l.references.n - l.i
