@@ -10,7 +10,7 @@ ghost use Rattle.std.specs.Prelude.{◌≡◌, ◌*◌, ◌≤◌, Ok, length};
 ghost use Rattle.sentences.specs.Sentences.{refusal};
 ghost use Rattle.answers.specs.Answers.{outcome_number};
 ghost use Rattle.color.specs.Palette.{palette_len};
-ghost use Rattle.observed.specs.Colours.{module_colour, cell_colour, wild_colours};
+ghost use Rattle.observed.specs.Colours.{module_spot, cell_spot, module_colour, cell_colour, spot_colour};
 ghost use Rattle.demod.specs.Ready.{Seen, Scorable};
 ghost use Rattle.demod.specs.Call as call;
 ghost use Rattle.demod.specs.Call.{request, sentences_of, final, done, scored_of};
@@ -34,7 +34,7 @@ pub struct ScoreReport {
 
 // A card as a call is handed it, before anything is known of it. Its lists are slices side by side, since the C interface lends them
 // so.
-#[derive(Clone, Copy)]
+#[derive(Clone, Copy, Debug)]
 struct Card<'a> {
     layout: Layout,
     xs: &'a [i32],
@@ -48,7 +48,26 @@ struct Card<'a> {
     noise: ChannelStats,
 }
 
+// A card's modules and cells in their places, with their colours as they were observed.
+#[derive(Clone, Copy, Debug)]
+struct SeenCard<'a> {
+    modules: SeenModules<'a>,
+    cells: SeenCells<'a>,
+}
+
 // ---- the sentences
+
+impl SeenCard<'_> {
+    // Sentence 12: of modules, and with chroma on of cells.
+    #[tactic(auto, unfolding(crate::specs::Call::bad_corrected))]
+    fn bad_corrected(&self, model: IlluminationModel, hues: usize) -> bool
+        ensures { let m = self.now.modules in let s = self.now.cells in
+            result ≡ call.bad_corrected hues (spot_colour model (module_spot m.modules.xs.now m.modules.ys.now m.raw.now)) (length m.modules.xs.now) (spot_colour model (cell_spot s.size s.cells.cxs.now s.cells.cys.now s.raw.now)) (length s.cells.cxs.now) }
+    {
+        observed::any_wild(model, &self.modules)
+            || limits::chroma_on(hues) && observed::any_wild(model, &self.cells)
+    }
+}
 
 impl<'a> Card<'a> {
     // Sentence 5, of modules.
@@ -102,56 +121,32 @@ impl<'a> Card<'a> {
             || Channel::new(self.noise, self.palette, self.layout.hues).has_bad_numbers()
     }
 
-    // Its modules with their colours, where 2 to 7 are passed.
-    fn modules(&self) -> SeenModules<'a>
+    // Its modules and cells with their colours, where 2 to 7 are passed.
+    fn seen(&self) -> SeenCard<'a>
         requires { let c = self.now in Seen c.layout c.xs.now c.ys.now c.raw.now c.cxs.now c.cys.now c.craw.now }
-        ensures places { let m = result.modules in (m.side ≡ self.now.layout.side) × (m.grid ≡ self.now.layout.grid) × (m.xs.now ≡ self.now.xs.now) × (m.ys.now ≡ self.now.ys.now) }
-        ensures colours { result.raw.now ≡ self.now.raw.now }
+        ensures modules { let m = result.modules in (m.modules.side ≡ self.now.layout.side) × (m.modules.grid ≡ self.now.layout.grid) × (m.modules.xs.now ≡ self.now.xs.now) × (m.modules.ys.now ≡ self.now.ys.now) × (m.raw.now ≡ self.now.raw.now) }
+        ensures cells { let s = result.cells in (s.size ≡ self.now.layout.size) × (s.cells.cxs.now ≡ self.now.cxs.now) × (s.cells.cys.now ≡ self.now.cys.now) × (s.raw.now ≡ self.now.craw.now) }
     {
-        SeenModules {
-            modules: Modules::new(self.layout.side, self.layout.grid, self.xs, self.ys),
-            raw: self.raw,
+        SeenCard {
+            modules: SeenModules {
+                modules: Modules::new(self.layout.side, self.layout.grid, self.xs, self.ys),
+                raw: self.raw,
+            },
+            cells: SeenCells {
+                size: self.layout.size,
+                cells: Cells::new(self.cxs, self.cys),
+                raw: self.craw,
+            },
         }
     }
 
-    // Its cells with theirs.
-    fn cells(&self) -> SeenCells<'a>
-        requires { let c = self.now in Seen c.layout c.xs.now c.ys.now c.raw.now c.cxs.now c.cys.now c.craw.now }
-        ensures places { (result.size ≡ self.now.layout.size) × (result.cells.cxs.now ≡ self.now.cxs.now) × (result.cells.cys.now ≡ self.now.cys.now) }
-        ensures colours { result.raw.now ≡ self.now.craw.now }
-    {
-        SeenCells {
-            size: self.layout.size,
-            cells: Cells::new(self.cxs, self.cys),
-            raw: self.craw,
-        }
-    }
-
-    // Sentence 12, of modules.
-    #[tactic(auto, using(crate::proofs::Wild::wild_modules))]
-    fn wild_modules(&self) -> bool
-        requires { let c = self.now in Seen c.layout c.xs.now c.ys.now c.raw.now c.cxs.now c.cys.now c.craw.now }
-        ensures { let c = self.now in result ≡ wild_colours (module_colour c.model c.xs.now c.ys.now c.raw.now) (length c.xs.now) }
-    {
-        observed::any_wild(self.model, &self.modules())
-    }
-
-    // Sentence 12, of cells.
-    #[tactic(auto, using(crate::proofs::Wild::wild_cells))]
-    fn wild_cells(&self) -> bool
-        requires { let c = self.now in Seen c.layout c.xs.now c.ys.now c.raw.now c.cxs.now c.cys.now c.craw.now }
-        ensures { let c = self.now in result ≡ wild_colours (cell_colour c.model c.layout.size c.cxs.now c.cys.now c.craw.now) (length c.cxs.now) }
-    {
-        observed::any_wild(self.model, &self.cells())
-    }
-
-    // Sentence 12: of modules, and with chroma on of cells.
-    #[tactic(auto, unfolding(crate::specs::Call::bad_corrected))]
+    // Sentence 12.
+    #[tactic(auto, using(crate::proofs::Wild::bad_seen))]
     fn bad_corrected(&self) -> bool
         requires { let c = self.now in Seen c.layout c.xs.now c.ys.now c.raw.now c.cxs.now c.cys.now c.craw.now }
         ensures { let c = self.now in result ≡ call.bad_corrected c.layout.hues (module_colour c.model c.xs.now c.ys.now c.raw.now) (length c.xs.now) (cell_colour c.model c.layout.size c.cxs.now c.cys.now c.craw.now) (length c.cxs.now) }
     {
-        self.wild_modules() || limits::chroma_on(self.layout.hues) && self.wild_cells()
+        self.seen().bad_corrected(self.model, self.layout.hues)
     }
 
     // Whether it passes, to be scored into these lists. Refused: 2, 3, 4, 5, 6, 7, 8, 9, 10, 12.
@@ -188,12 +183,12 @@ impl Card<'_> {
         ensures { let c = self.now in final (Ok result) luma.new colours.new chroma.new ≡ done (request c.layout c.xs.now c.ys.now c.raw.now c.cxs.now c.cys.now c.craw.now c.palette.now c.model c.noise luma.old colours.old chroma.old) }
     {
         let meter = Meter::new(Channel::new(self.noise, self.palette, self.layout.hues));
-        let seen = self.modules();
-        let held_modules = meter.write_modules(self.model, &seen, luma, colours);
+        let seen = self.seen();
+        let held_modules = meter.write_modules(self.model, &seen.modules, luma, colours);
         let card = ChromaCard {
             meter,
-            seen: self.cells(),
-            modules: seen.modules,
+            seen: seen.cells,
+            modules: seen.modules.modules,
             colours,
         };
         let held_cells = card.write(self.model, chroma);

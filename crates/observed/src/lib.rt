@@ -177,7 +177,7 @@ pub fn correct<S: Spots>(
 // ---- sentence 12
 
 // A model with the positions at which no moderate colour breaks sentence 12.
-#[derive(Clone, Copy)]
+#[derive(Clone, Copy, Debug)]
 struct Reach {
     model: IlluminationModel,
     span: Span,

@@ -112,5 +112,5 @@ module _ (model : IlluminationModel) (size : ℕ) (cxs cys : List ℕ) (raw : Li
       room ≡ write_colours (onwards (spot_colour model (cell_spot size cxs cys raw)) from) n lent → 3 * n ≤ length lent → Samples noise palette hues (onwards (cell_colour model size cxs cys raw) from) k labs weights
   cells_sampled noise palette hues k labs weights lent room s q e h = of_room noise palette hues (onwards (cell_colour model size cxs cys raw) from) k labs weights room (rw q (cells_corrected lent room e h)) s
 
-  pub cells-counted : (held r : ℕ) → r ≡ held_from model (cell_spot size cxs cys raw) from n held → r ≡ held_onwards model size cxs cys from n held
-  cells-counted held r e = rw (← cells-held model size cxs cys raw) e
+  pub cells_counted : (held r : ℕ) → r ≡ held_from model (cell_spot size cxs cys raw) from n held → r ≡ held_onwards model size cxs cys from n held
+  cells_counted held r e = rw (← cells-held model size cxs cys raw) e

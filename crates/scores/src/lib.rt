@@ -34,6 +34,7 @@ fn weigh(llr: f32, weight: f32) -> f32
 }
 
 // The lightness of a colour. It is that of its Y alone, so no cube root is taken of X or Z.
+#[tactic(auto, using(crate::proofs::Parts::by_y))]
 fn lightness(c: Linear) -> f32
     ensures { result ≡ (linear_to_lab c).l }
 {
@@ -89,6 +90,7 @@ impl Meter<'_> {
     }
 
     // Writes the luma scores of the first n modules.
+    #[tactic(auto, using(crate::proofs::Parts::plain))]
     fn write_lumas(&self, colours: &[f32], n: usize, luma: &mut [f32])
         requires { (3 * n ≤ length colours.now) × (n ≤ length luma.old) }
         ensures { luma.new ≡ spec.write_lumas self.now.channel.noise self.now.channel.palette.numbers.now self.now.channel.palette.hues (linear_at colours.now) n luma.old }
@@ -123,6 +125,7 @@ impl Meter<'_> {
 // ---- chroma
 
 // A bit's score, weighed and held to ±20.
+#[tactic(auto, using(color::proofs::Numbers::n20), unfolding(crate::specs::Score::chroma_score))]
 fn chroma_score(v: f32, weight: f32) -> f32
     ensures { result ≡ spec.chroma_score v weight }
 {
@@ -141,6 +144,7 @@ fn put_scores(bits: &[f32], weight: f32, n: usize, at: usize, chroma: &mut [f32]
 
 impl Meter<'_> {
     // Writes the scores of entry e of the chroma list, of a sample and its weight.
+    #[tactic(auto, using(crate::proofs::Chroma::few, crate::proofs::Chroma::short, crate::proofs::Chroma::room, crate::proofs::Chroma::bits_room, crate::proofs::Chroma::entry_in))]
     fn write_entry(&self, cell: Cell, lab: Lab, weight: f32, e: usize, chroma: &mut [f32])
         requires { e * symbol_bits self.now.channel.palette.hues + symbol_bits self.now.channel.palette.hues ≤ length chroma.old }
         ensures { chroma.new ≡ spec.write_sample self.now.channel.noise self.now.channel.palette.numbers.now self.now.channel.palette.hues cell lab weight e chroma.old }
@@ -258,6 +262,7 @@ impl ChromaCard<'_> {
     }
 
     // The chroma scores of ring modules, which carry chroma only at cell size 1.
+    #[tactic(auto, using(crate::proofs::Parts::rings, crate::proofs::Parts::no_rings))]
     fn ring_chroma(&self, chroma: &mut [f32])
         requires { chroma_length self.now.meter.channel.palette.hues (length self.now.seen.cells.cxs.now) (ring_modules (length self.now.modules.xs.now) self.now.modules.grid) self.now.seen.size ≤ length chroma.old }
         ensures { let c = self.now.meter.channel in
@@ -270,6 +275,7 @@ impl ChromaCard<'_> {
 
     // Core: the chroma scores: with chroma on those of the cells, then those of the ring modules.
     // Says how many cells have a mark: none with chroma off, where they are not corrected. Ring modules were counted with the modules.
+    #[tactic(auto, using(crate::proofs::Parts::chroma_scored, crate::proofs::Parts::cells_marked, crate::proofs::Parts::chroma_off, crate::proofs::Parts::none_marked))]
     pub fn write(&self, model: IlluminationModel, chroma: &mut [f32]) -> usize
         requires { chroma_length self.now.meter.channel.palette.hues (length self.now.seen.cells.cxs.now) (ring_modules (length self.now.modules.xs.now) self.now.modules.grid) self.now.seen.size ≤ length chroma.old }
         ensures { let c = self.now.meter.channel in let s = self.now.seen in let l = layout_of self.now.modules.side c.palette.hues s.size self.now.modules.grid in

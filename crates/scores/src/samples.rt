@@ -78,6 +78,7 @@ pub struct Samples {
 
 impl Samples {
     // Core: the samples of n colours of a list, from colour `from` on.
+    #[tactic(auto, using(crate::proofs::Blocks::by_stages))]
     pub fn of(meter: &Meter, colours: &[f32], from: usize, n: usize) -> Samples
         requires { (n ≤ 16) × (3 * (from + n) ≤ length colours.now) }
         ensures { spec.Samples meter.now.channel.noise meter.now.channel.palette.numbers.now meter.now.channel.palette.hues (entry.onwards (linear_at colours.now) from) result.n result.labs result.weights × (result.n ≡ n) }

@@ -50,9 +50,8 @@ pub returns : goal.returns
 returns c =
     let n = c.new.ensures in
     let t = c.new-meter.ensures in
-    let p = c.modules-seen.ensures.places in
-    let r = c.modules-seen.ensures.colours in
-    let k = c.cells.ensures.places in
-    let m = rw (t, n.0, n.1, n.2, p.2, p.3, r) at c.write_modules-held_modules.ensures in
-    let e = rw (t, n.0, n.1, n.2, p.0, p.1, p.2, k.0, k.1, k.2, c.cells.ensures.colours) at c.write-held_cells.ensures in
+    let p = c.seen-seen.ensures.modules in
+    let k = c.seen-seen.ensures.cells in
+    let m = rw (t, n.0, n.1, n.2, p.2, p.3, p.4) at c.write_modules-held_modules.ensures in
+    let e = rw (t, n.0, n.1, n.2, p.0, p.1, p.2, k.0, k.1, k.2, k.3) at c.write-held_cells.ensures in
     wrote _ _ _ _ _ _ _ _ _ _ _ _ _ c.requires _ _ _ m.0 _ _ m.1 e.1 e.0
