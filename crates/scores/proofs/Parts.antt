@@ -2,12 +2,14 @@
 use mathlib.Core.Path.{◌≡◌, ◌∙◌}
 use mathlib.Core.Bool.{Bool, true, false, cond}
 use mathlib.Core.List.{List}
-use Prim.Native.Nat.{ℕ, ◌+◌, ◌-◌, ◌*◌, ◌≤◌}
+use Prim.Native.Nat.{ℕ, ◌+◌, ◌-◌, ◌*◌, ◌≤◌, ◌<◌}
 use native.Mathlib.Nat.{mul_comm, mul-le-mul_right, le_trans, le_of_eq}
 use native.Mathlib.Omega.{arith}
 use borrow.Author.Tests.{eq-eqb, ne_eqb}
 use lib.Dec.{eqb}
-use lib.ListN.{length}
+use lib.ListN.{length, get_or, take}
+use lib.Seq.{length-take-le}
+use Rattle.std.proofs.lemmas.List.{get_or-take}
 use lib.Ieee.{Float}
 use Rattle.loops.proofs.Laws.{for_up_same}
 use Rattle.limits.specs.Chroma.{chroma_on, weighted, symbol_bits, ring_modules, chroma_entries, chroma_length}
@@ -20,6 +22,17 @@ use Rattle.illum.specs.declared.IlluminationModel.{IlluminationModel}
 use Rattle.stats.specs.declared.ChannelStats.{ChannelStats}
 use Rattle.observed.specs.Colours.{held_cells}
 use Rattle.scores.specs.Score.{luma_score, luma_at, write_lumas, plain_luma, plain_lumas, write_cells, write_rings, ring_chroma, chroma_written, chroma_held}
+
+-- a loop over the first n of a list: where a turn is, what it reads, and that the last one was made
+module _ {A : Type 0} (n : ℕ) (l : List A) (i : ℕ) (h : n ≤ length l) where
+  pub front_in : i < length (take n l) → i < n
+  front_in k = let p = length-take-le n l h in omega arith
+
+  pub front_past : length (take n l) ≤ i → n ≤ i
+  front_past k = let p = length-take-le n l h in omega arith
+
+  pub front_read : (d : A) → i < length (take n l) → get_or (take n l) i d ≡ get_or l i d
+  front_read d k = get_or-take n l i d (front_in k)
 
 -- the L of an XYZ takes its Y alone
 pub by_y : (c : Linear) (q : Xyz) (x z : Float) (lab : Lab) → lab ≡ xyz_to_lab (record { x = x; y = q.y; z = z }) → q ≡ linear_to_xyz c → lab.l ≡ (linear_to_lab c).l

@@ -23,6 +23,9 @@ use stats::ChannelStats;
 
 mod samples;
 
+// Facts: that a block of n ≤ 16 colours, or all n, stand in the list of colours, and their scores in that of scores, is one
+// inequality each; a struct for a block would move them to where it is made, and no function has fewer.
+
 // ---- luma
 
 // A score, weighed by the reliability of its sample.
@@ -63,8 +66,8 @@ impl Samples {
         requires { from + self.now.n ≤ length luma.old }
         ensures { luma.new ≡ spec.put_lumas noise self.now.labs self.now.weights from self.now.n luma.old }
     {
-        for j in 0..self.n {
-            let llr = noise.luma_llr_of(self.labs[j].l);
+        for (j, lab) in self.labs[..self.n].iter().enumerate() {
+            let llr = noise.luma_llr_of(lab.l);
             luma[from + j] = weigh(llr, self.weights[j]);
         }
     }
@@ -188,15 +191,9 @@ impl ChromaCard<'_> {
         ensures { let c = self.now.meter.channel in let s = self.now.seen.cells in
             chroma.new ≡ spec.put_entries c.noise c.palette.numbers.now c.palette.hues s.cxs.now s.cys.now samples.now.labs samples.now.weights first samples.now.n chroma.old }
     {
-        for j in 0..samples.n {
+        for (j, &lab) in samples.labs[..samples.n].iter().enumerate() {
             let e = first + j;
-            self.meter.write_entry(
-                self.drawn_at(e),
-                samples.labs[j],
-                samples.weights[j],
-                e,
-                chroma,
-            );
+            self.meter.write_entry(self.drawn_at(e), lab, samples.weights[j], e, chroma);
         }
     }
 
