@@ -12,7 +12,7 @@ use Rattle.loops.proofs.Laws.{for_up_to}
 use Rattle.color.specs.declared.Linear.{Linear}
 use Rattle.color.specs.Palette.{linear_at}
 use Rattle.observed.specs.Entries.{Block}
-use Rattle.observed.specs.Colours.{put_colour, colour_at, write_colours}
+use Rattle.observed.specs.Colours.{colour_at, write_colours}
 use Rattle.observed.proofs.Threes.{three-long, colour-own, colour-other}
 
 -- a loop over the first n entries came to their end, and wrote each of them

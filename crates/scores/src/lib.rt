@@ -193,7 +193,8 @@ impl ChromaCard<'_> {
     {
         for (j, &lab) in samples.labs[..samples.n].iter().enumerate() {
             let e = first + j;
-            self.meter.write_entry(self.drawn_at(e), lab, samples.weights[j], e, chroma);
+            self.meter
+                .write_entry(self.drawn_at(e), lab, samples.weights[j], e, chroma);
         }
     }
 

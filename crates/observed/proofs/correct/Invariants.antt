@@ -1,7 +1,5 @@
 -- `correct` meets its contract: what is left from j on gives the same, of the colours and of the count. Assumes nothing.
-use mathlib.Core.Path.{◌≡◌}
 use Prim.Native.Nat.{◌+◌, ◌≤◌}
-use lib.ListN.{length}
 use Rattle.loops.specs.Loops.{raise}
 use Rattle.loops.proofs.Laws.{Left}
 use Rattle.observed.specs.Entries.{onwards}

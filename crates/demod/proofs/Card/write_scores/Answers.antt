@@ -1,6 +1,5 @@
 -- `write_scores` meets its contract: the chroma list takes each module's colour from the list that was written, which holds it; the report is the two counts. Assumes nothing.
 use mathlib.Core.Path.{◌≡◌, ap, ◌∙◌}
-use borrow.Author.Rules.{rules}
 use mathlib.Core.List.{List}
 use Prim.Native.Nat.{ℕ, ◌<◌}
 use lib.IntN.{ℤ}

@@ -1,6 +1,4 @@
 -- `ChromaCard::put_entries` meets its contract: what is left from j on gives the same. Assumes nothing.
-use mathlib.Core.Path.{◌≡◌}
-use lib.ListN.{length}
 use Rattle.loops.proofs.Laws.{Left}
 use Rattle.scores.specs.Score.{put_entry, put_entries}
 use Rattle.scores.proofs.ChromaCard.put_entries.Given as goal

@@ -1,5 +1,4 @@
 -- `ChromaCard::write_cells` meets its contract: what is left from the block's first cell on gives the same, of the scores and of the count, and a block makes the turns of its cells. Assumes nothing.
-use mathlib.Core.Path.{◌≡◌}
 use Prim.Native.Nat.{◌≤◌}
 use lib.ListN.{length}
 use Rattle.loops.specs.Loops.{raise}

@@ -1,5 +1,4 @@
 -- `ChromaCard::write_rings` meets its contract: what is left from the block's first module on gives the same, and a block makes the turns of its modules. Assumes nothing.
-use mathlib.Core.Path.{◌≡◌}
 use Prim.Native.Nat.{◌≤◌}
 use lib.ListN.{length}
 use Rattle.loops.proofs.Laws.{Left}

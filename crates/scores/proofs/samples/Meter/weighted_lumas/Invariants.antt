@@ -1,5 +1,4 @@
 -- `Meter::weighted_lumas` meets its contract: what is left from the block's first module on gives the same, and a block makes the turns of its modules. Assumes nothing.
-use mathlib.Core.Path.{◌≡◌}
 use Rattle.loops.proofs.Laws.{Left}
 use Rattle.color.specs.Palette.{linear_at}
 use Rattle.scores.specs.Score.{luma_at, write_lumas}
