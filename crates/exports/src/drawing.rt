@@ -1,5 +1,8 @@
 // What stands between a card's bits and its colours: Gray code, masks, bit scores, drawing, unmasking, reading, and a read card's
 // page.
+//
+// Twin: the C interface has a function for each call, and a call that hands on as many arguments has the same shape.
+// Slices: the C interface lends them so, each a pointer and a length.
 ghost use Rattle.std.specs.Prelude.{◌≡◌};
 ghost use Rattle.limits.specs.Chroma as symbols;
 ghost use Rattle.answers.specs.Answers as told;

@@ -1,4 +1,6 @@
 // Linear systems and order statistics.
+//
+// Slices: the C interface lends them so, each a pointer and a length.
 ghost use Rattle.std.specs.Prelude.{◌≡◌};
 ghost use Rattle.math.specs.Gauss as gauss;
 ghost use Rattle.math.specs.Normal as normal;

@@ -1,4 +1,6 @@
 // Which of the kept references stand near a module.
+//
+// Twin: the C interface has a function for each call, and a call that hands on as many arguments has the same shape.
 ghost use Rattle.std.specs.Prelude.{◌≡◌};
 ghost use Rattle.near.specs.Near as near_call;
 ghost use Rattle.near.specs.declared.Query.TheVariants as query;

@@ -1,4 +1,7 @@
 // The illumination model and the noise record from references as records.
+//
+// Twin: the C interface has a function for each call, and a call that hands on as many arguments has the same shape.
+// Slices: the C interface lends them so, each a pointer and a length.
 ghost use Rattle.std.specs.Prelude.{◌≡◌};
 ghost use Rattle.fit.specs.Fit as fit_call;
 ghost use Rattle.measure.specs.Measure as measure_call;

@@ -1,5 +1,6 @@
 // What calls answer, as structs that C can take: document 01's number, 0 where the call is accepted, and the values, zeros where
-// there are none. C has no generic structs, so each kind of value has a struct of its own.
+// there are none. They stay as they are since the C interface needs them: C has no generic structs, so each kind of value has a
+// struct of its own, with its number beside it.
 ghost use Rattle.std.specs.Prelude.{◌≡◌};
 ghost use Rattle.std.proofs.Math.Option.{get_or};
 ghost use Rattle.answers.specs.Answers.{said};
@@ -29,7 +30,7 @@ const NO_RECORD: ChannelStats = ChannelStats {
 
 // Whether a linear system was solved.
 #[repr(C)]
-#[derive(Clone, Copy)]
+#[derive(Clone, Copy, Debug)]
 pub struct SolveAnswer {
     pub number: u32,
     pub solved: bool,
@@ -37,7 +38,7 @@ pub struct SolveAnswer {
 
 // A whole number.
 #[repr(C)]
-#[derive(Clone, Copy)]
+#[derive(Clone, Copy, Debug)]
 pub struct NumberAnswer {
     pub number: u32,
     pub value: usize,
@@ -45,7 +46,7 @@ pub struct NumberAnswer {
 
 // Yes or no.
 #[repr(C)]
-#[derive(Clone, Copy)]
+#[derive(Clone, Copy, Debug)]
 pub struct FlagAnswer {
     pub number: u32,
     pub yes: bool,
@@ -53,7 +54,7 @@ pub struct FlagAnswer {
 
 // A float.
 #[repr(C)]
-#[derive(Clone, Copy)]
+#[derive(Clone, Copy, Debug)]
 pub struct FloatAnswer {
     pub number: u32,
     pub value: f32,
@@ -61,7 +62,7 @@ pub struct FloatAnswer {
 
 // A corrected colour, and the channels whose gain was held.
 #[repr(C)]
-#[derive(Clone, Copy)]
+#[derive(Clone, Copy, Debug)]
 pub struct LinearAnswer {
     pub number: u32,
     pub colour: Linear,
@@ -72,7 +73,7 @@ pub struct LinearAnswer {
 
 // An illumination model.
 #[repr(C)]
-#[derive(Clone, Copy)]
+#[derive(Clone, Copy, Debug)]
 pub struct ModelAnswer {
     pub number: u32,
     pub model: IlluminationModel,
@@ -80,7 +81,7 @@ pub struct ModelAnswer {
 
 // A noise record.
 #[repr(C)]
-#[derive(Clone, Copy)]
+#[derive(Clone, Copy, Debug)]
 pub struct NoiseAnswer {
     pub number: u32,
     pub noise: ChannelStats,
@@ -88,7 +89,7 @@ pub struct NoiseAnswer {
 
 // Totals.
 #[repr(C)]
-#[derive(Clone, Copy)]
+#[derive(Clone, Copy, Debug)]
 pub struct TotalsAnswer {
     pub number: u32,
     pub totals: Totals,
@@ -96,7 +97,7 @@ pub struct TotalsAnswer {
 
 // A fraction.
 #[repr(C)]
-#[derive(Clone, Copy)]
+#[derive(Clone, Copy, Debug)]
 pub struct RatioAnswer {
     pub number: u32,
     pub ratio: Ratio,
@@ -104,7 +105,7 @@ pub struct RatioAnswer {
 
 // A measured noise record, and how many of its references have a mark.
 #[repr(C)]
-#[derive(Clone, Copy)]
+#[derive(Clone, Copy, Debug)]
 pub struct MeasureAnswer {
     pub number: u32,
     pub noise: ChannelStats,
@@ -113,7 +114,7 @@ pub struct MeasureAnswer {
 
 // How many modules and how many cells have a mark.
 #[repr(C)]
-#[derive(Clone, Copy)]
+#[derive(Clone, Copy, Debug)]
 pub struct ScoreAnswer {
     pub number: u32,
     pub held_modules: usize,

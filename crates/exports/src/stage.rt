@@ -1,4 +1,7 @@
 // The illumination model, the noise record, scoring and refinement, and reading a card in one call.
+//
+// Twin: the C interface has a function for each call, and a call that hands on as many arguments has the same shape.
+// Slices: the C interface lends them so, each a pointer and a length.
 ghost use Rattle.std.specs.Prelude.{◌≡◌};
 ghost use Rattle.bits.specs.Reading.{setting, card, read_of};
 ghost use Rattle.counts.specs.Calls.{counts_of};

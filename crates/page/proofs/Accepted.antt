@@ -23,6 +23,7 @@ use Rattle.page.proofs.Passed.{Lengths, lengths, tally_in}
 pub record Accepted (q : Request) : Type 0 where
   pub narrow : q.side ≤ columns
   pub positions : Positions q.side q.grid q.xs q.ys
+  pub counted : (q.grid ≤ length q.xs) × (length q.xs ≤ 1048576)
   pub long : Lengths q.side (length q.xs) (length q.ys) (length q.luma) (length q.page)
   pub tally : (q.kept ≤ 16384) × (q.rejected ≤ 16384) × (q.held ≤ 1048576)
   pub terms-good : bad_terms q.terms ≡ false
@@ -62,6 +63,7 @@ module _ (q : Request) (n : ℕ) (e : n ≡ refusal (sentences_of q)) (z : n ≡
       record {
         narrow = omega (arith, ltb-false widest q.side (last 14));
         positions = record { side-most = (side_in q.side (first 2)).1; pairs = long.pairs; places-good = placed.places-good };
+        counted = (placed.grid-most, placed.modules-most);
         long = long;
         tally = tally_in q.kept q.rejected q.held (first 6);
         terms-good = last 10;

@@ -21,7 +21,7 @@ use Rattle.places.proofs.Placed.{in_ring, grid_in_ring, on_grid, grid-position}
 use Rattle.places.proofs.Squares.{index_one}
 use Rattle.reading.specs.Read.{reads}
 use Rattle.page.specs.Lines.{columns, page_length, field_columns, shown, Modules, page_text, overlaid}
-use Rattle.page.specs.Steps.{field_byte, blank_byte, blank_at, blank_page, place_of, show_at, show_all}
+use Rattle.page.specs.Steps.{field_byte, blank_byte, blank_at, blank_page, place_of, show_score, show_at, show_all}
 use Rattle.page.proofs.Pieces.{behind}
 use Rattle.page.proofs.Text.{Numbers, text-length, text_head, text-square, text-padding, text_end}
 
@@ -122,7 +122,7 @@ module _ (m : Modules) (g : ℕ) (s : m.side ≤ columns) (good : (i : ℕ) → 
         }
 
   next : (i : ℕ) (l : List ℕ) → i < length m.xs → Shows i l → Shows (suc i) (show_at m i l)
-  unfolding show_at
+  unfolding show_score
   next i l h p = by (off_grid m.side (get_or m.xs i (pos 0)) (get_or m.ys i (pos 0))) refl
     where
       by : (b : Bool) → off_grid m.side (get_or m.xs i (pos 0)) (get_or m.ys i (pos 0)) ≡ b →

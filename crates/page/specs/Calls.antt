@@ -29,8 +29,8 @@ request side terms kept rejected held xs ys grid luma page =
 abbrev pub request_on : Sheet → List ℕ → Request
 request_on s page = request s.side s.terms s.kept s.rejected s.held s.xs.now s.ys.now s.grid s.luma.now page
 
-abbrev pub modules_on : Sheet → Modules
-modules_on s = modules s.side s.xs.now s.ys.now s.luma.now
+abbrev pub numbers_on : Sheet → List ℕ
+numbers_on s = s.side ∷ s.terms ∷ s.kept ∷ s.rejected ∷ s.held ∷ []
 
 -- ---- the sentences
 

@@ -1,5 +1,5 @@
 -- How the code lays a page out: every byte as it is where no module stands on the grid, then, in list order, each module's digit on its square. Definitions only.
-use Rattle.std.specs.Prelude.{cond, List, ℕ, zero, suc, ◌+◌, ◌-◌, ◌*◌, ◌/◌, ◌%◌, ◌≤◌, ltb, eqb, pos, nat_abs, length, get_or, set}
+use Rattle.std.specs.Prelude.{cond, List, ℕ, zero, suc, ◌+◌, ◌-◌, ◌*◌, ◌/◌, ◌%◌, ◌≤◌, ltb, eqb, ℤ, pos, nat_abs, length, get_or, set, Float}
 use Rattle.std.specs.Float.{nan}
 use Rattle.loops.specs.Loops as loop
 use Rattle.lists.specs.Lists.{replaced}
@@ -40,11 +40,13 @@ blank_page numbers side page = replaced 0 (page_length side) (blank_at numbers s
 abbrev pub place_of : ℕ → ℕ → ℕ
 place_of x y = (columns + 1) * (y + 1) + x
 
--- module i, where it stands on the grid
-unfoldable pub show_at : Modules → ℕ → List ℕ → List ℕ
-show_at m i page =
-    cond (off_grid m.side (get_or m.xs i (pos 0)) (get_or m.ys i (pos 0))) page
-    (set page (place_of (nat_abs (get_or m.xs i (pos 0))) (nat_abs (get_or m.ys i (pos 0)))) (48 + reads (get_or m.luma i nan)))
+-- a module at (x, y), where it stands on the grid
+unfoldable pub show_score : ℕ → ℤ → ℤ → Float → List ℕ → List ℕ
+show_score side x y score page = cond (off_grid side x y) page (set page (place_of (nat_abs x) (nat_abs y)) (48 + reads score))
+
+-- module i
+abbrev pub show_at : Modules → ℕ → List ℕ → List ℕ
+show_at m i page = show_score m.side (get_or m.xs i (pos 0)) (get_or m.ys i (pos 0)) (get_or m.luma i nan) page
 
 abbrev pub show_all : Modules → List ℕ → List ℕ
 show_all m page = loop.for_up 0 (length m.xs) (show_at m) page

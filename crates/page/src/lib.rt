@@ -9,15 +9,15 @@
 // lays the card out in the first 51 × (side + 1) bytes.
 #![tactic(auto)]
 
-ghost use Rattle.std.specs.Prelude.{◌≡◌, ◌+◌, ◌<◌, ◌≤◌, ◌^◌, length};
+ghost use Rattle.std.specs.Prelude.{◌≡◌, ◌+◌, ◌<◌, ◌≤◌, pos, length, get_or};
 ghost use Rattle.sentences.specs.Sentences.{refusal};
-ghost use Rattle.layout.specs.Groups.{Positions};
 ghost use Rattle.answers.specs.Answers.{ended, outcome_number};
-ghost use Rattle.page.specs.Lines.{page_length, overlaid};
+ghost use Rattle.page.specs.Lines.{page_length, modules};
 ghost use Rattle.page.specs.Steps as step;
 ghost use Rattle.page.specs.Calls as call;
 
 use answers::Refusal;
+use layout::Modules;
 
 // The columns of a line; a line feed comes after them.
 pub const COLUMNS: usize = 50;
@@ -82,11 +82,47 @@ fn lay_blank(numbers: &[usize], side: usize, out: &mut [u8])
     }
 }
 
+// ---- the modules
+
+// What is shown on the grid: a card's listed modules, with their unmasked luma scores.
+#[derive(Clone, Copy, Debug)]
+struct Shown<'a> {
+    modules: Modules<'a>,
+    luma: &'a [f32],
+    ghost scored: { length modules.xs.now ≤ length luma.now },
+}
+
+impl Shown<'_> {
+    // The digit of module i, which has this score, on its square, where it stands on the grid.
+    fn show(&self, i: usize, score: f32, out: &mut [u8])
+        requires { step.RoomFor self.now.modules.side out.old × (i < length self.now.modules.xs.now) }
+        ensures { out.new ≡ step.show_score self.now.modules.side (get_or self.now.modules.xs.now i (pos 0)) (get_or self.now.modules.ys.now i (pos 0)) score out.old }
+    {
+        let Modules { side, xs, ys, .. } = self.modules;
+        if self.modules.off_grid_at(i) {
+            return;
+        }
+        let x = usize::from(places::coordinate_at(side, xs, i));
+        let y = usize::from(places::coordinate_at(side, ys, i));
+        out[(COLUMNS + 1) * (y + 1) + x] = b'0' + reading::read(score);
+    }
+
+    // Every module's digit, in list order: of several at one position the last stays.
+    fn show_all(&self, out: &mut [u8])
+        requires { step.RoomFor self.now.modules.side out.old }
+        ensures { out.new ≡ step.show_all (modules self.now.modules.side self.now.modules.xs.now self.now.modules.ys.now self.now.luma.now) out.old }
+    {
+        for (i, &score) in self.luma[..self.modules.len()].iter().enumerate() {
+            self.show(i, score, out);
+        }
+    }
+}
+
 // ---- the call
 
-// What is laid out: the listed modules of a card, of which the first `grid` are grid modules, with their unmasked luma
-// scores, and the figures of line one.
-#[derive(Clone, Copy)]
+// What a call is asked to lay out: the listed modules of a card, of which the first `grid` are grid modules, with their
+// unmasked luma scores, and the figures of line one.
+#[derive(Clone, Copy, Debug)]
 struct Sheet<'a> {
     side: usize,
     terms: usize,
@@ -100,44 +136,13 @@ struct Sheet<'a> {
 }
 
 impl Sheet<'_> {
-    // Module i's digit on its square, where it stands on the grid.
-    fn show_at(&self, i: usize, out: &mut [u8])
-        requires { step.RoomFor self.now.side out.old × (i < length self.now.xs.now) × (length self.now.xs.now ≡ length self.now.ys.now) × (length self.now.xs.now ≤ length self.now.luma.now) }
-        ensures { out.new ≡ step.show_at (call.modules_on self.now) i out.old }
+    // The numbers of line one.
+    fn numbers(&self) -> [usize; 5]
+        ensures { result ≡ call.numbers_on self.now }
     {
-        if places::off_grid_at(self.side, self.xs, self.ys, i) {
-            return;
-        }
-        let x = usize::from(places::coordinate_at(self.side, self.xs, i));
-        let y = usize::from(places::coordinate_at(self.side, self.ys, i));
-        out[(COLUMNS + 1) * (y + 1) + x] = b'0' + reading::read(self.luma[i]);
-    }
-
-    // Every module's digit, in list order: of several at one position the last stays.
-    fn show_all(&self, out: &mut [u8])
-        requires { step.RoomFor self.now.side out.old × (length self.now.xs.now ≡ length self.now.ys.now) × (length self.now.xs.now ≤ length self.now.luma.now) }
-        ensures { out.new ≡ step.show_all (call.modules_on self.now) out.old }
-    {
-        // By index: `places` reads the two coordinates of module i from their slices.
-        for i in 0..self.xs.len() {
-            self.show_at(i, out);
-        }
-    }
-
-    // The page's text at the front of `out`.
-    fn lay_out(&self, out: &mut [u8])
-        requires { step.RoomFor self.now.side out.old × Positions self.now.side self.now.grid self.now.xs.now self.now.ys.now × (length self.now.xs.now ≤ length self.now.luma.now) × (self.now.terms < 10 ^ 10) × (self.now.held < 10 ^ 10) }
-        ensures { out.new ≡ call.laid_out_bytes (call.request_on self.now out.old) }
-    {
-        let numbers = [
-            self.side,
-            self.terms,
-            self.kept as usize,
-            self.rejected as usize,
-            self.held,
-        ];
-        lay_blank(&numbers, self.side, out);
-        self.show_all(out);
+        // By hand: From has no conversion from u32 to usize.
+        let (kept, rejected) = (self.kept as usize, self.rejected as usize);
+        [self.side, self.terms, kept, rejected, self.held]
     }
 
     // Sentence 5: x and y run in pairs, there is a score for each module, and room for the page.
@@ -216,6 +221,11 @@ pub fn page(
         luma,
     };
     sheet.check(out)?;
-    sheet.lay_out(out);
+    let shown = Shown {
+        modules: Modules::new(side, grid, xs, ys),
+        luma,
+    };
+    lay_blank(&sheet.numbers(), side, out);
+    shown.show_all(out);
     Ok(())
 }

@@ -1,4 +1,4 @@
--- `page::Sheet::show_at` meets its contract: a module off the grid changes nothing, one on it stands in one of the grid's columns and rows. Assumes nothing.
+-- `page::Shown::show` meets its contract: a module off the grid changes nothing, one on it stands in one of the grid's columns and rows. Assumes nothing.
 use mathlib.Core.Path.{◌≡◌, sym, ap, ◌∙◌}
 use mathlib.Core.Bool.{Bool, true, false}
 use mathlib.Core.List.{List}
@@ -6,8 +6,8 @@ use Prim.Native.Nat.{ℕ, ◌+◌, ◌*◌, ◌≤◌, ◌<◌}
 use native.Mathlib.Omega.{arith}
 use borrow.Author.Rules.{rules}
 use lib.IntN.{ℤ, pos, nat_abs}
-use lib.ListN.{get_or, set}
-use lib.Ieee.{Float, nan}
+use lib.ListN.{set}
+use lib.Ieee.{Float}
 use mir.Syntax.{w8}
 use mir.Val.{Fits}
 use Rattle.sentences.proofs.Laws.{neither}
@@ -15,9 +15,9 @@ use Rattle.places.specs.Places.{outside, off_grid}
 use Rattle.places.proofs.Placed.{on_grid}
 use Rattle.reading.specs.Read.{reads}
 use Rattle.reading.proofs.Erasure.{reads-most}
-use Rattle.page.specs.Lines.{page_length, modules}
-use Rattle.page.specs.Steps.{show_at}
-use Rattle.page.proofs.Sheet.show_at.Goals as goal
+use Rattle.page.specs.Lines.{page_length}
+use Rattle.page.specs.Steps.{show_score}
+use Rattle.page.proofs.Shown.show.Goals as goal
 
 digit-fits : (v : Float) (r : ℕ) → r ≡ reads v → Fits w8 (48 + r)
 digit-fits v r e = record { fits = omega (arith, reads-most v) }
@@ -37,13 +37,13 @@ module _ (side : ℕ) (x y : ℤ) (r : Bool) (e : r ≡ off_grid side x y) (f : 
       let v : nat_abs y ≡ b = sym (ap nat_abs eb) in
       omega arith
 
-module _ (side : ℕ) (xs ys : List ℤ) (luma : List Float) (i : ℕ) (out : List ℕ) (r : Bool) (e : r ≡ off_grid side (get_or xs i (pos 0)) (get_or ys i (pos 0))) where
-  stays : r ≡ true → out ≡ show_at (modules side xs ys luma) i out
-  unfolding show_at
+module _ (side : ℕ) (x y : ℤ) (score : Float) (out : List ℕ) (r : Bool) (e : r ≡ off_grid side x y) where
+  stays : r ≡ true → out ≡ show_score side x y score out
+  unfolding show_score
   stays t = rw (← e, t)
 
-  wrote : (a b v : ℕ) → r ≡ false → pos a ≡ get_or xs i (pos 0) → pos b ≡ get_or ys i (pos 0) → v ≡ reads (get_or luma i nan) → set out ((50 + 1) * (b + 1) + a) (48 + v) ≡ show_at (modules side xs ys luma) i out
-  unfolding show_at
+  wrote : (a b v : ℕ) → r ≡ false → pos a ≡ x → pos b ≡ y → v ≡ reads score → set out ((50 + 1) * (b + 1) + a) (48 + v) ≡ show_score side x y score out
+  unfolding show_score
   wrote a b v f ea eb ev = rw (← e, f, ← ea, ← eb, ev)
 
 pub coordinate_at-requires : goal.coordinate_at-requires
