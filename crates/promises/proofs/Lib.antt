@@ -2,6 +2,7 @@
 -- standard's. `OnlyNearest`: one float is the nearest. `Identity`: what the model of `identity` makes of a colour. `Systems`: what `solve` writes. `Window`: refinement's window in
 -- coordinates. `Marks`: which colours have a mark, and how many. `Premises`: which of the read guarantee's premises hold by themselves. `Season`: refined scores are within 20, or a NaN.
 mod Held
+mod Theorems
 mod Neighbours
 mod Formula
 mod OnlyNearest

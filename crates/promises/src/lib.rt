@@ -2,7 +2,7 @@
 // without code: it takes nothing, does nothing and ensures the promise, so a promise whose proof is gone, or that a
 // changed definition makes false, fails this crate. The definitions are in the specs/ of the crates named below, the
 // theorems in their proofs/.
-#![tactic(auto)]
+#![tactic(auto, using(crate::proofs::Theorems::theorems))]
 
 ghost use Rattle.guarantee.specs.Guarantee.{EachReadAtNine};
 ghost use Rattle.promises.specs.Card.{Met, Worked};
@@ -70,6 +70,7 @@ pub fn none_erased()
 
 // The square root and the cube root of every f32 are the nearest f32 values, and no other value is as near. A zero,
 // an infinity and a NaN are their own roots, and a square root below zero is NaN.
+#[tactic(auto, using(crate::proofs::Theorems::roots))]
 pub fn nearest_roots()
     ensures { NearestRoots }
 {}
@@ -116,6 +117,7 @@ pub fn median_is_the_middle()
 
 // The order in which values are given does not change their median, where none is a NaN and no zero is negative, nor
 // the median of their distances from a number, where none of these is a NaN.
+#[tactic(auto, using(crate::proofs::Theorems::any_order))]
 pub fn median_in_any_order()
     ensures { AnyOrder }
 {}
@@ -138,6 +140,7 @@ pub fn neighbouring_hues()
 // cell at the sums of their coordinates, in either order; removing undoes applying and applying removing, of hues below
 // the count, and of the calls too: where one gives a hue, the other, handed that hue at the same cell, gives back the
 // first's.
+#[tactic(auto, using(symbols::proofs::Laws::rotations_add, symbols::proofs::Laws::calls_undo))]
 pub fn hue_rotations()
     ensures { Rotations }
 {}
@@ -178,6 +181,7 @@ pub fn identity_returns_the_colour()
 // A channel's mark is set exactly where its gain at the position, before it is held, is under 0.05 in magnitude: at either
 // zero, not at 0.05 itself, an infinity or a NaN. A channel without a mark is divided by its own gain, one with a mark by
 // 0.05 of its gain's sign. The colour plays no part in the marks.
+#[tactic(auto, using(crate::proofs::Marks::marks, crate::proofs::Marks::gains))]
 pub fn marks_by_the_gain()
     ensures { MarksByTheGain }
 {}
@@ -246,6 +250,7 @@ pub fn held_counts()
 // columns and k / 7 - 3 rows from the module in the middle. Outside the grid and the ring around it there is no
 // luminance. The window's samples are those of the places whose luminance is known, the module's own too, in the
 // order of k, each with its columns, its rows and its luminance; `count` is their number.
+#[tactic(auto, using(crate::proofs::Window::looks_at, crate::proofs::Window::looks_at_position, crate::proofs::Window::middle, crate::proofs::Window::samples))]
 pub fn window_in_coordinates()
     ensures { WindowInCoordinates }
 {}
