@@ -54,6 +54,7 @@ impl Cursor<'_> {
     // ---- bytes
 
     // One byte.
+    #[tactic(auto, using(crate::proofs::Write::room, crate::proofs::Write::full))]
     fn put(&mut self, b: u8)
         ensures { Writes (b ∷ []) self.old self.new }
     {

@@ -32,6 +32,7 @@ fn read_all(scores: &[f32], bits: &mut [u8])
 }
 
 // The bits of a list of scores, one a score, 2 where a score is an erasure. Refused: 5; nothing is written then.
+#[tactic(auto, unfolding(sentences::specs::Sentences::refusal, sentences::specs::Sentences::decided, crate::specs::Read::read_sentences, crate::specs::Read::read_list_of))]
 pub fn read_list(scores: &[f32], bits: &mut [u8]) -> Result<(), Refusal>
     ensures { ended result bits.new ≡ spec.read_list_of scores.now bits.old }
 {

@@ -67,3 +67,5 @@ module _ (s : Settings) (m c : ℕ) (few : Few s m c) where
 
   pub few_thrice : 3 * m ≤ 3060
   few_thrice = omega arith
+
+pub ruleset places_are = (is_chroma, product-below, product-fits)

@@ -38,6 +38,7 @@ struct Lent<'a> {
 }
 
 // The length of the chroma score list.
+#[tactic(auto, using(crate::proofs::Places::places_are))]
 fn chroma_places(settings: Settings, modules: usize, cells: usize) -> usize
     requires { Few settings modules cells }
     ensures { (result ≡ spec.places_of settings modules cells) × (result ≤ 8160) }

@@ -17,6 +17,7 @@ use Rattle.std.specs.Result.{IsErr, IsErrAnd}
 use Rattle.answers.specs.declared.refusal.Refusal.{Refusal}
 use Rattle.answers.specs.Answers.{number_of, said, gives, refused_by}
 use Rattle.answers.proofs.Answers.{none_of, turned_away, says-refused, says-given, given-none-holds, given_is}
+use Rattle.totals.proofs.Batches.{add_up}
 use Rattle.totals.specs.declared.Totals.{Totals}
 use Rattle.totals.specs.declared.Ratio.{Ratio}
 use Rattle.totals.specs.Batch.{plus, of_card, of_cards, bad_totals, Good, FitCard, AllFit, nil, cons}
@@ -200,3 +201,9 @@ module _ (t : Totals) where
         unique = λ p q h m l. only-lowest t p q m l (is_lowest q h);
         none = λ q h z. is_ratio q h ∙ sym (ratio-none t z);
       }
+
+-- ---- what the check finds by itself
+
+pub ruleset means = (mean-away, mean-given, mean-lowest)
+
+pub ruleset sums_of_totals = (totals-away, totals_sum, both-before, batches-added, add_up)

@@ -186,3 +186,5 @@ only-lowest t q r B p o =
     let n : q.numerator ≡ r.numerator =
     eq_of_mul-eq-mul_right q.denominator p.above_zero q.numerator r.numerator (ap (λ (x : ℕ). q.numerator * x) d ∙ c) in
     ap₂ over n d
+
+pub ruleset ratios = (ratio-none, ratio-some, divisor-pos)

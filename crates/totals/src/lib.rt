@@ -196,6 +196,7 @@ fn too_many(a: Totals, b: Totals) -> bool
 
 // The totals of two batches added. What is answered can be handed in again, and where a and b are the totals of some
 // cards it is the totals of them all, in any order and however they are split. Refused: 18.
+#[tactic(auto, using(crate::proofs::Answers::sums_of_totals))]
 pub fn add_totals(a: Totals, b: Totals) -> Result<Totals, Refusal>
     ensures { (said result ≡ call.add_totals_of a b) × call.BatchesAdded a b × spec.AddUp }
 {
@@ -219,6 +220,7 @@ fn gcd(a: u64, b: u64) -> u64
 }
 
 // The mean of totals that sentence 18 lets pass.
+#[tactic(auto, using(crate::proofs::Divisor::ratios))]
 fn reduced(t: Totals) -> Ratio
     ensures { result ≡ average.ratio_of t }
 {
@@ -236,6 +238,7 @@ fn reduced(t: Totals) -> Ratio
 }
 
 // The mean magnitude in 65,536ths, as two whole numbers without common factor; 0 over 1 with no modules. Refused: 18.
+#[tactic(auto, using(crate::proofs::Answers::means))]
 pub fn mean(t: Totals) -> Result<Ratio, Refusal>
     ensures { (said result ≡ average.mean_of t) × average.MeanLowest t }
 {

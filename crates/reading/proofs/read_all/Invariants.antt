@@ -1,6 +1,5 @@
 -- `reading::read_all` meets its contract: what is left of the scores gives the list. Assumes nothing.
 use mathlib.Core.Path.{◌≡◌}
-use Prim.Native.Nat.{◌-◌}
 use lib.ListN.{length}
 use Rattle.loops.proofs.Laws.{Left}
 use Rattle.lists.specs.Lists.{replace_at}
