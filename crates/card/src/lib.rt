@@ -31,6 +31,7 @@ pub struct Settings {
 }
 
 // Where a section's records start, and how many they are.
+// Slices: an offset and a count are what a directory says; the records stay in the file until they are decoded.
 #[derive(Clone, Copy, Debug, PartialEq, Eq)]
 pub struct Section {
     pub at: usize,
@@ -264,6 +265,7 @@ fn card_of(file: &[u8]) -> Card
 }
 
 // Opens a card file: what it holds. Refused: 1.
+// Twin: of `totals::mean` by its words alone; each has one test, one refusal and one answer of its own.
 #[tactic(auto, unfolding(sentences::specs::Sentences::refusal, sentences::specs::Sentences::decided, crate::specs::File::opened))]
 pub fn open(file: &[u8]) -> Result<Card, Refusal>
     ensures { said result ≡ layout.opened 5 file.now }

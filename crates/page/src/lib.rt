@@ -195,6 +195,7 @@ impl Sheet<'_> {
 // it does not, and of several modules at one position the last listed one shows. The rest of a longer slice stays.
 // Refused: 2, 5 (fewer than 51 × (side + 1) bytes too), 6 (kept or rejected above 16,384, or held above 1,048,576, too), 7, 10, 14 (the side is above 40);
 // nothing is written then.
+// Slices: the call is public, and the C interface lends them so.
 pub fn page(
     side: usize,
     terms: usize,

@@ -238,6 +238,7 @@ fn reduced(t: Totals) -> Ratio
 }
 
 // The mean magnitude in 65,536ths, as two whole numbers without common factor; 0 over 1 with no modules. Refused: 18.
+// Twin: of `card::open` by its words alone; each has one test, one refusal and one answer of its own.
 #[tactic(auto, using(crate::proofs::Answers::means))]
 pub fn mean(t: Totals) -> Result<Ratio, Refusal>
     ensures { (said result ≡ average.mean_of t) × average.MeanLowest t }
