@@ -1,12 +1,7 @@
 -- `reader::measure_card` meets its contract: the scratch is 4 zeros a reference; the line of a refusal, or what follows the noise record. Assumes nothing.
-use borrow.Author.Rules.{rules}
-use Rattle.readout.proofs.Lists.{same_long}
 use Rattle.reader.proofs.Lists.{scratch_first}
 use Rattle.reader.proofs.Next.{measured, not-measured}
 use Rattle.reader.proofs.measure_card.Goals as goal
-
-pub slice_bounds-measure_flat-end : goal.slice_bounds-measure_flat-end
-slice_bounds-measure_flat-end c = same_long _ 2040 _ (search rules)
 
 pub returns-in-Err-clause-listed : goal.returns-in-Err-clause-listed
 returns-in-Err-clause-listed c = search (not-measured, scratch_first)
