@@ -131,5 +131,8 @@ module _ (luma : List Float) (side : ℕ) (xs ys : List ℤ) (g : ℕ) (e : 0 �
   pub unmask-grid : g ≤ length xs
   unmask-grid = on_card.grid-most
 
+  pub unmask-modules : length xs ≤ 1048576
+  unmask-modules = on_card.modules-most
+
   pub unmask-scores : length xs ≤ length luma
   unmask-scores = one_each.1

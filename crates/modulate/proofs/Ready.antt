@@ -2,7 +2,7 @@
 use mathlib.Core.Path.{◌≡◌}
 use mathlib.Core.Bool.{false}
 use mathlib.Core.List.{List}
-use Prim.Native.Nat.{ℕ, ◌<◌}
+use Prim.Native.Nat.{ℕ, ◌<◌, ◌≤◌}
 use lib.IntN.{ℤ, pos}
 use lib.ListN.{get_or}
 use Rattle.places.specs.Places.{outside}
@@ -10,10 +10,12 @@ use Rattle.places.proofs.Placed.{in_grid}
 use Rattle.limits.specs.Limits.{bad_hues}
 use Rattle.limits.proofs.Laws.{hues_in}
 use Rattle.layout.specs.Groups.{PositionAt}
-use Rattle.symbols.specs.Ready.{HueCount}
 
-pub hue-count : (k : ℕ) → bad_hues k ≡ false → HueCount k
-hue-count k h = let p = hues_in k h in record { least = p.least; most = p.most }
+pub hues-least : (k : ℕ) → bad_hues k ≡ false → 0 < k
+hues-least k h = (hues_in k h).least
+
+pub hues-most : (k : ℕ) → bad_hues k ≡ false → k ≤ 16
+hues-most k h = (hues_in k h).most
 
 module _ (side grid : ℕ) (xs ys : List ℤ) (i : ℕ) (p : PositionAt side grid xs ys i) (l : i < grid) where
   pub column_in_grid : outside side 0 (get_or xs i (pos 0)) ≡ false

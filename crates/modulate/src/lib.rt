@@ -13,15 +13,15 @@ ghost use Rattle.limits.specs.Limits.{bad_hues};
 ghost use Rattle.limits.specs.Chroma.{log2, symbol_bits};
 ghost use Rattle.layout.specs.Groups.{Shaped, Positions, PositionAt};
 ghost use Rattle.answers.specs.Answers.{said, outcome_number, answered, hues_only, hues_and_cell, ended};
-ghost use Rattle.symbols.specs.Ready.{HueCount};
 ghost use Rattle.modulate.specs.Score as scores;
 ghost use Rattle.modulate.specs.Draw as drawing;
 
 use answers::Refusal;
-use layout::Layout;
+use layout::{Layout, Modules};
+use symbols::Hues;
 
 // Where a chroma entry is drawn: a ring module, on which no mask lies, or a cell of the grid, by its coordinates.
-#[derive(Clone, Copy)]
+#[derive(Clone, Copy, Debug)]
 pub enum Cell {
     Unmasked,
     At(u16, u16),
@@ -30,7 +30,7 @@ pub enum Cell {
 // ---- bit scores
 
 // The best likelihood so far of the hues whose bit is 0, and of those whose bit is 1.
-#[derive(Clone, Copy)]
+#[derive(Clone, Copy, Debug)]
 struct Best {
     zero: f32,
     one: f32,
@@ -55,40 +55,52 @@ impl Best {
     }
 }
 
-#[tactic(auto, unfolding(crate::specs::Score::unmasked_hue))]
-fn unmasked_hue(cell: Cell, hues: usize, h: usize) -> usize
-    requires { HueCount hues }
-    ensures { result ≡ scores.unmasked_hue cell hues h }
-{
-    match cell {
-        Cell::Unmasked => h,
-        Cell::At(cx, cy) => symbols::remove(h, cx, cy, hues),
-    }
+// A chroma entry: where it is drawn, in how many hues, and how many bits its symbol has.
+#[derive(Clone, Copy, Debug)]
+struct Entry {
+    cell: Cell,
+    hues: Hues,
+    bits: usize,
+    ghost counted: { bits ≡ log2 hues.count },
+    ghost few: { bits ≤ 4 },
 }
 
-// Bit b, from the high end, of the symbol of `bits` bits behind hue h.
-#[tactic(auto, unfolding(crate::specs::Score::bit_of_hue, crate::specs::Score::symbol_bit))]
-fn bit_of_hue(cell: Cell, hues: usize, bits: usize, b: usize, h: usize) -> usize
-    requires { HueCount hues × (bits ≡ log2 hues) × (bits ≤ 4) × (b < bits) }
-    ensures { result ≡ scores.bit_of_hue cell hues b h }
-{
-    let symbol = symbols::hue_symbol(unmasked_hue(cell, hues, h), hues);
-    (symbol >> (bits - 1 - b)) % 2
-}
-
-// The score of bit b: the best likelihood where it is 0 less the best where it is 1.
-fn bit_llr(ll: &[f32], cell: Cell, hues: usize, bits: usize, b: usize) -> f32
-    requires { HueCount hues × (bits ≡ log2 hues) × (bits ≤ 4) × (b < bits) × (hues ≤ length ll.now) }
-    ensures { result ≡ scores.bit_llr ll.now cell hues b }
-{
-    let mut best = Best {
-        zero: f32::NEG_INFINITY,
-        one: f32::NEG_INFINITY,
-    };
-    for (h, &likelihood) in ll[..hues].iter().enumerate() {
-        best = best.bettered(bit_of_hue(cell, hues, bits, b, h), likelihood);
+impl Entry {
+    // The hue that was drawn as h.
+    #[tactic(auto, unfolding(crate::specs::Score::unmasked_hue))]
+    fn unmasked_hue(&self, h: usize) -> usize
+        ensures { result ≡ scores.unmasked_hue self.now.cell self.now.hues.count h }
+    {
+        match self.cell {
+            Cell::Unmasked => h,
+            Cell::At(cx, cy) => self.hues.remove(h, cx, cy),
+        }
     }
-    best.zero - best.one
+
+    // Bit b, from the high end, of the symbol behind hue h.
+    #[tactic(auto, unfolding(crate::specs::Score::bit_of_hue, crate::specs::Score::symbol_bit))]
+    fn bit_of_hue(&self, b: usize, h: usize) -> usize
+        requires { b < self.now.bits }
+        ensures { result ≡ scores.bit_of_hue self.now.cell self.now.hues.count b h }
+    {
+        let symbol = self.hues.symbol_of(self.unmasked_hue(h));
+        (symbol >> (self.bits - 1 - b)) % 2
+    }
+
+    // The score of bit b: the best likelihood where it is 0 less the best where it is 1.
+    fn bit_llr(&self, ll: &[f32], b: usize) -> f32
+        requires { (b < self.now.bits) × (self.now.hues.count ≤ length ll.now) }
+        ensures { result ≡ scores.bit_llr ll.now self.now.cell self.now.hues.count b }
+    {
+        let mut best = Best {
+            zero: f32::NEG_INFINITY,
+            one: f32::NEG_INFINITY,
+        };
+        for (h, &likelihood) in ll[..self.hues.count].iter().enumerate() {
+            best = best.bettered(self.bit_of_hue(b, h), likelihood);
+        }
+        best.zero - best.one
+    }
 }
 
 // Core: the bit scores of one chroma entry, positive for a 0, for every float; `chroma_bit_llrs` without its refusals.
@@ -97,8 +109,13 @@ pub fn bit_llrs(ll: &[f32], cell: Cell, hues: usize, out: &mut [f32])
     ensures { out.new ≡ scores.chroma_bit_llrs ll.now cell hues out.old }
 {
     let bits = limits::log2(hues);
+    let entry = Entry {
+        cell,
+        hues: Hues { count: hues },
+        bits,
+    };
     for (b, score) in out[..bits].iter_mut().enumerate() {
-        *score = bit_llr(ll, cell, hues, bits, b);
+        *score = entry.bit_llr(ll, b);
     }
 }
 
@@ -150,22 +167,22 @@ pub fn chroma_bit_llrs(ll: &[f32], cell: Cell, hues: usize, out: &mut [f32]) -> 
 // ---- unmasking
 
 // Whether the mask turns grid module i.
-fn masked_at(mask: u8, side: usize, xs: &[i32], ys: &[i32], grid: usize, i: usize) -> bool
-    requires { PositionAt side grid xs.now ys.now i × (i < grid) }
-    ensures { result ≡ scores.masked_at mask xs.now ys.now i }
+fn masked_at(mask: u8, modules: &Modules, i: usize) -> bool
+    requires { i < modules.now.grid }
+    ensures { result ≡ scores.masked_at mask modules.now.xs.now modules.now.ys.now i }
 {
-    let x = places::coordinate_at(side, xs, i);
-    let y = places::coordinate_at(side, ys, i);
+    let x = places::coordinate_at(modules.side, modules.xs, i);
+    let y = places::coordinate_at(modules.side, modules.ys, i);
     symbols::luma_mask(mask, x, y)
 }
 
 // Turns the sign of the score of every grid module that the mask turns.
-fn unmask_grid(mask: u8, side: usize, xs: &[i32], ys: &[i32], grid: usize, luma: &mut [f32])
-    requires { Positions side grid xs.now ys.now × (grid ≤ length xs.now) × (length xs.now ≤ length luma.old) }
-    ensures { luma.new ≡ scores.unmasked mask xs.now ys.now grid luma.old }
+fn unmask_grid(mask: u8, modules: &Modules, luma: &mut [f32])
+    requires { length modules.now.xs.now ≤ length luma.old }
+    ensures { luma.new ≡ scores.unmasked mask modules.now.xs.now modules.now.ys.now modules.now.grid luma.old }
 {
-    for (i, score) in luma[..grid].iter_mut().enumerate() {
-        if masked_at(mask, side, xs, ys, grid, i) {
+    for (i, score) in luma[..modules.grid].iter_mut().enumerate() {
+        if masked_at(mask, modules, i) {
             *score = -*score;
         }
     }
@@ -212,7 +229,8 @@ pub fn unmask_luma(
     ensures { ended result luma.new ≡ scores.unmask_luma_of luma.old side xs.now ys.now grid mask }
 {
     check_unmask(luma, side, xs, ys, grid)?;
-    unmask_grid(mask, side, xs, ys, grid, luma);
+    let modules = Modules { side, grid, xs, ys };
+    unmask_grid(mask, &modules, luma);
     Ok(())
 }
 
@@ -282,7 +300,8 @@ pub fn cell_hue(symbol: usize, cx: u16, cy: u16, hues: usize) -> Result<usize, R
     ensures { said result ≡ answered (hues_and_cell hues cx cy) (drawing.cell_hue symbol cx cy hues) }
 {
     symbols::check_cell(hues, cx, cy)?;
-    Ok(symbols::apply(symbols::symbol_hue(symbol, hues), cx, cy, hues))
+    let known = Hues { count: hues };
+    Ok(known.apply(known.hue_of(symbol), cx, cy))
 }
 
 // The hue that a ring module is drawn in for its symbol: no mask lies on it. Refused: 3.
@@ -296,7 +315,7 @@ pub fn ring_hue(symbol: usize, hues: usize) -> Result<usize, Refusal>
 // ---- drawing: the whole list
 
 // What a card is drawn from: its bits, and where its modules and cells stand.
-#[derive(Clone, Copy)]
+#[derive(Clone, Copy, Debug)]
 struct Source<'a> {
     bits: &'a [u8],
     layout: Layout,
@@ -335,15 +354,17 @@ impl Source<'_> {
     // The hue at place j of the chroma list: that of a cell, or past the cells of a ring module.
     #[tactic(auto, unfolding(crate::specs::Draw::hue_at, crate::specs::Draw::cell_hue, crate::specs::Draw::ring_hue))]
     fn hue_at(&self, j: usize) -> usize
-        requires { HueCount self.now.layout.hues × (symbol_bits self.now.layout.hues ≤ 4) × (length self.now.xs.now + symbol_bits self.now.layout.hues * j + symbol_bits self.now.layout.hues ≤ length self.now.bits.now) × (length self.now.cxs.now ≡ length self.now.cys.now) }
+        requires { (0 < self.now.layout.hues) × (self.now.layout.hues ≤ 16) × (symbol_bits self.now.layout.hues ≤ 4) × (length self.now.xs.now + symbol_bits self.now.layout.hues * j + symbol_bits self.now.layout.hues ≤ length self.now.bits.now) × (length self.now.cxs.now ≡ length self.now.cys.now) }
         ensures { result ≡ drawing.hue_at self.now.bits.now self.now.layout.hues (length self.now.xs.now) self.now.cxs.now self.now.cys.now j }
     {
-        let hues = self.layout.hues;
-        let q = limits::symbol_bits(hues);
+        let hues = Hues {
+            count: self.layout.hues,
+        };
+        let q = limits::symbol_bits(hues.count);
         let symbol = symbol_at(self.bits, self.xs.len() + q * j, q);
-        let hue = symbols::symbol_hue(symbol, hues);
+        let hue = hues.hue_of(symbol);
         if j < self.cxs.len() {
-            symbols::apply(hue, self.cxs[j], self.cys[j], hues)
+            hues.apply(hue, self.cxs[j], self.cys[j])
         } else {
             hue
         }

@@ -1,6 +1,6 @@
 -- Rotations add up: applying a rotation adds it by remainder, so sums and their order follow from those of whole numbers. Below the count removing is the inverse of applying at the same cell, so what is
 -- removed is found by applying it again: two removals, and a removal beside an application, are decided by what undoes them. Over any hue count above 0. Assumes nothing.
-use mathlib.Core.Path.{◌≡◌, refl, sym, ap, ◌∙◌}
+use mathlib.Core.Path.{◌≡◌, sym, ap, ◌∙◌}
 use Prim.Native.Nat.{ℕ, ◌+◌, ◌%◌, ◌<◌}
 use native.Mathlib.Nat.{mod-lt}
 use Rattle.answers.specs.Answers.{gives, answered, hues_and_cell}

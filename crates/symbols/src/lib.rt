@@ -2,10 +2,9 @@
 // the hues (the Rust's symbol.rs and mask.rs).
 #![tactic(auto)]
 
-ghost use Rattle.std.specs.Prelude.{◌≡◌, ◌/◌, ◌%◌, ◌<◌};
+ghost use Rattle.std.specs.Prelude.{◌≡◌, ◌/◌, ◌%◌, ◌<◌, ◌≤◌};
 ghost use Rattle.sentences.specs.Sentences.{refusal};
 ghost use Rattle.answers.specs.Answers.{said, outcome_number, answered, hues_only, hues_and_cell};
-ghost use Rattle.symbols.specs.Ready.{HueCount};
 ghost use Rattle.symbols.specs.Gray as gray_code;
 ghost use Rattle.symbols.specs.Mask as masks;
 
@@ -14,6 +13,7 @@ use answers::Refusal;
 // ---- Gray code
 
 // The reflected binary code of n: the codes of n and n + 1 differ in one bit. Refuses nothing.
+#[tactic(auto, unfolding(crate::specs::Gray::gray))]
 pub fn gray(n: usize) -> usize
     ensures { result ≡ gray_code.gray n }
 {
@@ -33,36 +33,65 @@ pub fn gray_inverse(g: usize) -> usize
     n
 }
 
-// The remainder by the hue count: by a constant, which takes no division, for the counts above 1 that cards have.
-fn remainder(n: usize, hues: usize) -> usize
-    requires { 0 < hues }
-    ensures { result ≡ n % hues }
-{
-    match hues {
-        2 => n % 2,
-        4 => n % 4,
-        8 => n % 8,
-        16 => n % 16,
-        _ => n % hues,
+// A hue count that sentence 3 lets pass: at least one hue, and so few that no sum of two hues wraps.
+#[derive(Clone, Copy, Debug)]
+pub struct Hues {
+    pub count: usize,
+    ghost least: { 0 < count },
+    ghost most: { count ≤ 16 },
+}
+
+impl Hues {
+    // The remainder by the hue count: by a constant, which takes no division, for the counts above 1 that cards have.
+    fn remainder(self, n: usize) -> usize
+        ensures { result ≡ n % self.count }
+    {
+        match self.count {
+            2 => n % 2,
+            4 => n % 4,
+            8 => n % 8,
+            16 => n % 16,
+            _ => n % self.count,
+        }
     }
-}
 
-// Core: the hue state of a chroma symbol, of a hue count that sentence 3 lets pass.
-#[tactic(auto, unfolding(crate::specs::Gray::chroma_symbol_to_hue))]
-pub fn symbol_hue(symbol: usize, hues: usize) -> usize
-    requires { 0 < hues }
-    ensures { result ≡ gray_code.chroma_symbol_to_hue symbol hues }
-{
-    remainder(gray_inverse(remainder(symbol, hues)), hues)
-}
+    // Core: the hue state of a chroma symbol.
+    #[tactic(auto, unfolding(crate::specs::Gray::chroma_symbol_to_hue))]
+    pub fn hue_of(self, symbol: usize) -> usize
+        ensures { result ≡ gray_code.chroma_symbol_to_hue symbol self.count }
+    {
+        self.remainder(gray_inverse(self.remainder(symbol)))
+    }
 
-// Core: the chroma symbol of a hue state, of a hue count that sentence 3 lets pass.
-#[tactic(auto, unfolding(crate::specs::Gray::hue_to_chroma_symbol))]
-pub fn hue_symbol(hue: usize, hues: usize) -> usize
-    requires { 0 < hues }
-    ensures { result ≡ gray_code.hue_to_chroma_symbol hue hues }
-{
-    remainder(gray(remainder(hue, hues)), hues)
+    // Core: the chroma symbol of a hue state.
+    #[tactic(auto, unfolding(crate::specs::Gray::hue_to_chroma_symbol))]
+    pub fn symbol_of(self, hue: usize) -> usize
+        ensures { result ≡ gray_code.hue_to_chroma_symbol hue self.count }
+    {
+        self.remainder(gray(self.remainder(hue)))
+    }
+
+    // By how many hues a cell is rotated.
+    #[tactic(auto, unfolding(crate::specs::Mask::chroma_rotation))]
+    fn rotation(self, cx: u16, cy: u16) -> usize
+        ensures { (result ≡ masks.chroma_rotation cx cy self.count) × (result < self.count) }
+    {
+        self.remainder(usize::from(cx) + usize::from(cy))
+    }
+
+    // Core: `chroma_mask_apply` without its refusals.
+    pub fn apply(self, hue: usize, cx: u16, cy: u16) -> usize
+        ensures { result ≡ masks.chroma_mask_apply hue cx cy self.count }
+    {
+        self.remainder(self.remainder(hue) + self.rotation(cx, cy))
+    }
+
+    // Core: `chroma_mask_remove` without its refusals.
+    pub fn remove(self, hue: usize, cx: u16, cy: u16) -> usize
+        ensures { result ≡ masks.chroma_mask_remove hue cx cy self.count }
+    {
+        self.remainder(self.remainder(hue) + self.count - self.rotation(cx, cy))
+    }
 }
 
 // The hue state of a chroma symbol: neighbours on the colour wheel differ in one bit of the symbol. Refused: 3.
@@ -72,17 +101,20 @@ pub fn chroma_symbol_to_hue(symbol: usize, hues: usize) -> Result<usize, Refusal
     if limits::bad_hues(hues) {
         return Err(Refusal::Hues);
     }
-    Ok(symbol_hue(symbol, hues))
+    let known = Hues { count: hues };
+    Ok(known.hue_of(symbol))
 }
 
 // The chroma symbol of a hue state. Refused: 3.
+// Twin: of `chroma_symbol_to_hue`, which C calls beside it; what differs is one call of a core.
 pub fn hue_to_chroma_symbol(hue: usize, hues: usize) -> Result<usize, Refusal>
     ensures { said result ≡ answered (hues_only hues) (gray_code.hue_to_chroma_symbol hue hues) }
 {
     if limits::bad_hues(hues) {
         return Err(Refusal::Hues);
     }
-    Ok(hue_symbol(hue, hues))
+    let known = Hues { count: hues };
+    Ok(known.symbol_of(hue))
 }
 
 // ---- masks
@@ -113,30 +145,6 @@ pub fn luma_mask(id: u8, x: u16, y: u16) -> bool
     }
 }
 
-#[tactic(auto, unfolding(crate::specs::Mask::chroma_rotation))]
-fn rotation(cx: u16, cy: u16, hues: usize) -> usize
-    requires { 0 < hues }
-    ensures { (result ≡ masks.chroma_rotation cx cy hues) × (result < hues) }
-{
-    remainder(usize::from(cx) + usize::from(cy), hues)
-}
-
-// Core: `chroma_mask_apply` without its refusals.
-pub fn apply(hue: usize, cx: u16, cy: u16, hues: usize) -> usize
-    requires { HueCount hues }
-    ensures { result ≡ masks.chroma_mask_apply hue cx cy hues }
-{
-    remainder(remainder(hue, hues) + rotation(cx, cy, hues), hues)
-}
-
-// Core: `chroma_mask_remove` without its refusals.
-pub fn remove(hue: usize, cx: u16, cy: u16, hues: usize) -> usize
-    requires { HueCount hues }
-    ensures { result ≡ masks.chroma_mask_remove hue cx cy hues }
-{
-    remainder(remainder(hue, hues) + hues - rotation(cx, cy, hues), hues)
-}
-
 // Core: whether a hue count and a cell pass. Refused: 3, 7.
 #[tactic(auto, unfolding(sentences::specs::Sentences::refusal))]
 pub fn check_cell(hues: usize, cx: u16, cy: u16) -> Result<(), Refusal>
@@ -156,7 +164,8 @@ pub fn chroma_rotation(cx: u16, cy: u16, hues: usize) -> Result<usize, Refusal>
     ensures { said result ≡ answered (hues_and_cell hues cx cy) (masks.chroma_rotation cx cy hues) }
 {
     check_cell(hues, cx, cy)?;
-    Ok(rotation(cx, cy, hues))
+    let known = Hues { count: hues };
+    Ok(known.rotation(cx, cy))
 }
 
 // The hue that the cell (cx, cy) draws for `hue`, of which the remainder by `hues` counts. Refused: 3, 7.
@@ -164,13 +173,16 @@ pub fn chroma_mask_apply(hue: usize, cx: u16, cy: u16, hues: usize) -> Result<us
     ensures { said result ≡ answered (hues_and_cell hues cx cy) (masks.chroma_mask_apply hue cx cy hues) }
 {
     check_cell(hues, cx, cy)?;
-    Ok(apply(hue, cx, cy, hues))
+    let known = Hues { count: hues };
+    Ok(known.apply(hue, cx, cy))
 }
 
 // The hue that the cell (cx, cy) drew as `hue`, of which the remainder by `hues` counts. Refused: 3, 7.
+// Twin: of `chroma_mask_apply`, which C calls beside it; what differs is one call of a core.
 pub fn chroma_mask_remove(hue: usize, cx: u16, cy: u16, hues: usize) -> Result<usize, Refusal>
     ensures { said result ≡ answered (hues_and_cell hues cx cy) (masks.chroma_mask_remove hue cx cy hues) }
 {
     check_cell(hues, cx, cy)?;
-    Ok(remove(hue, cx, cy, hues))
+    let known = Hues { count: hues };
+    Ok(known.remove(hue, cx, cy))
 }

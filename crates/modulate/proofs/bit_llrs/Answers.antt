@@ -13,7 +13,7 @@ use Rattle.modulate.specs.declared.Cell.{Cell}
 use Rattle.lists.specs.Lists.{replaced}
 use Rattle.modulate.specs.Score.{bit_llr, bit_llr_at, chroma_bit_llrs}
 use Rattle.modulate.proofs.Front.{front-below, front_written}
-use Rattle.modulate.proofs.Ready.{hue-count}
+use Rattle.modulate.proofs.Ready.{hues-least, hues-most}
 use Rattle.modulate.proofs.bit_llrs.Goals as goal
 
 module _ (k bits : ℕ) (e : bits ≡ log2 k) where
@@ -32,8 +32,14 @@ module _ (k bits : ℕ) (e : bits ≡ log2 k) where
     whole ll cell s b l past done =
         front_written nan bits (bit_llr_at ll cell k) out s room l b past done ∙ ap (λ (m : ℕ). replaced nan m (bit_llr_at ll cell k) out) e
 
+pub invariant_of-entry : goal.invariant_of-entry
+invariant_of-entry c = record { least = search (hues-least); most = search (hues-most) }
+
+pub invariant_of-entry-in-loop-b : goal.invariant_of-entry-in-loop-b
+invariant_of-entry-in-loop-b c = record { counted = c.log2-bits.ensures; few = search (short) }
+
 pub bit_llr-requires : goal.bit_llr-requires
-bit_llr-requires c = (search (hue-count), search rules, search (short), search (one_of), search rules)
+bit_llr-requires c = (search (one_of), search rules)
 
 pub returns : goal.returns
 returns c = whole _ _ c.log2-bits.ensures _ c.requires.2 _ _ _ _ c.loop-b.auto.score-items c.loop-b-test.false c.loop-b.invariant

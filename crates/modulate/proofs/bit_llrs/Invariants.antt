@@ -7,4 +7,4 @@ use Rattle.modulate.specs.Score.{bit_llr}
 use Rattle.modulate.proofs.bit_llrs.Given as goal
 
 abbrev pub invariant-loop-b : goal.invariant-loop-b
-invariant-loop-b l = (j : ℕ) → j < l.b → get_or l.score-items j nan ≡ bit_llr l.ll l.cell l.hues j
+invariant-loop-b l = (j : ℕ) → j < l.b → get_or l.score-items j nan ≡ bit_llr l.ll l.fn.cell l.hues j

@@ -6,6 +6,8 @@ use mathlib.Core.List.{List}
 use Prim.Native.Nat.{ℕ}
 use lib.IntN.{ℤ, pos, nat_abs}
 use lib.ListN.{get_or}
+use Rattle.layout.specs.Groups.{Positions}
+use Rattle.layout.proofs.Laws.{position_at}
 use Rattle.symbols.specs.Mask.{luma_mask}
 use Rattle.modulate.specs.Score.{coordinate, masked_at}
 use Rattle.modulate.proofs.Ready.{column_in_grid, row_in_grid}
@@ -19,10 +21,16 @@ steps id xs ys i x y r ex ey e =
     cc
 
 pub coordinate_at-x-requires : goal.coordinate_at-x-requires
-coordinate_at-x-requires c = (search rules, search rules, search (column_in_grid))
+coordinate_at-x-requires c =
+    let at = c in
+    let p : Positions at.args.modules.now.side at.args.modules.now.grid at.args.modules.now.xs.now at.args.modules.now.ys.now = search rules in
+    (search rules, search rules, column_in_grid _ _ _ _ _ (position_at _ _ _ _ _ p (search rules)) at.requires)
 
 pub coordinate_at-y-requires : goal.coordinate_at-y-requires
-coordinate_at-y-requires c = (search rules, search rules, search (row_in_grid))
+coordinate_at-y-requires c =
+    let at = c in
+    let p : Positions at.args.modules.now.side at.args.modules.now.grid at.args.modules.now.xs.now at.args.modules.now.ys.now = search rules in
+    (search rules, search rules, row_in_grid _ _ _ _ _ (position_at _ _ _ _ _ p (search rules)) at.requires)
 
 pub returns : goal.returns
 returns c = search (steps)

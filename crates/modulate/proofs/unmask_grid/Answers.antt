@@ -10,7 +10,6 @@ use lib.ListN.{length, get_or, set}
 use lib.Seq.{get_or-set_same, get_or-set_other, set-get_or}
 use lib.Ieee.{Float, nan, neg}
 use Rattle.std.proofs.Common.{below_more}
-use Rattle.layout.proofs.Laws.{position_at}
 use Rattle.modulate.specs.Score.{masked_at, unmask_at}
 use Rattle.modulate.proofs.Front.{front-below, front_written}
 use Rattle.modulate.proofs.unmask_grid.Goals as goal
@@ -34,7 +33,7 @@ module _ (id : ℕ) (xs ys : List ℤ) (first : List Float) where
     kept m = rw set-get_or (below_more _ _ p.0 (rw (← e, m) (p.1 i (omega arith))), λ j h. p.1 j (omega arith))
 
 pub masked_at-requires : goal.masked_at-requires
-masked_at-requires c = (search (position_at, front-below, rules), search (front-below, rules))
+masked_at-requires c = search (front-below, rules)
 
 pub loop-i-preserved : goal.loop-i-preserved
 loop-i-preserved c =
@@ -44,4 +43,4 @@ loop-i-preserved c =
     ]
 
 pub returns : goal.returns
-returns c = let p = c.requires in front_written nan _ (unmask_at _ _ _) _ _ (omega (arith, p.1, p.2)) c.loop-i.auto.score-items _ c.loop-i-test.false c.loop-i.invariant.0
+returns c = front_written nan _ (unmask_at _ _ _) _ _ (search rules) c.loop-i.auto.score-items _ c.loop-i-test.false c.loop-i.invariant.0

@@ -8,4 +8,4 @@ use Rattle.modulate.proofs.unmask_grid.Given as goal
 
 abbrev pub invariant-loop-i : goal.invariant-loop-i
 invariant-loop-i l =
-    ((j : ℕ) → j < l.i → get_or l.score-items j nan ≡ unmask_at l.mask l.xs l.ys j (get_or l.initial.score-items j nan)) × ((j : ℕ) → l.i ≤ j → get_or l.score-items j nan ≡ get_or l.initial.score-items j nan)
+    ((j : ℕ) → j < l.i → get_or l.score-items j nan ≡ unmask_at l.mask l.modules.xs.now l.modules.ys.now j (get_or l.initial.score-items j nan)) × ((j : ℕ) → l.i ≤ j → get_or l.score-items j nan ≡ get_or l.initial.score-items j nan)

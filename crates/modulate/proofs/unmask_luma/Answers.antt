@@ -11,7 +11,7 @@ use Rattle.answers.specs.declared.refusal.Refusal.{Refusal}
 use Rattle.answers.specs.Answers.{number_of, ended}
 use Rattle.modulate.specs.Score.{unmasked, unmask_sentences, unmask_luma_of}
 use Rattle.answers.proofs.Answers.{list_on, list_written}
-use Rattle.modulate.proofs.Accepted.{unmask-positions, unmask-grid, unmask-scores}
+use Rattle.modulate.proofs.Accepted.{unmask-positions, unmask-grid, unmask-modules, unmask-scores}
 use Rattle.modulate.proofs.unmask_luma.Goals as goal
 
 module _ (luma : List Float) (side : ℕ) (xs ys : List ℤ) (g mask : ℕ) (l : List Float) where
@@ -26,9 +26,13 @@ module _ (luma : List Float) (side : ℕ) (xs ys : List ℤ) (g mask : ℕ) (l :
 pub returns-in_err-check_unmask : goal.returns-in_err-check_unmask
 returns-in_err-check_unmask c = search (away, c.in_err-check_unmask.ensures)
 
+pub invariant_of-modules : goal.invariant_of-modules
+invariant_of-modules c =
+    let e = c.in_ok-check_unmask.ensures in
+    record { placed = unmask-positions _ _ _ _ _ e; counted = (unmask-grid _ _ _ _ _ e, unmask-modules _ _ _ _ _ e) }
+
 pub unmask_grid-requires : goal.unmask_grid-requires
-unmask_grid-requires c =
-    let e = c.in_ok-check_unmask.ensures in (unmask-positions _ _ _ _ _ e, unmask-grid _ _ _ _ _ e, unmask-scores _ _ _ _ _ e)
+unmask_grid-requires c = unmask-scores _ _ _ _ _ c.in_ok-check_unmask.ensures
 
 pub returns : goal.returns
 returns c = search (wrote, c.in_ok-check_unmask.ensures)

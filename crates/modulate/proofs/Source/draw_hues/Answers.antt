@@ -15,7 +15,7 @@ use Rattle.lists.specs.Lists.{replaced}
 use Rattle.modulate.specs.Draw.{entries_of, hue_at, hue_at_of, short_bits, short_hues, drawn_hues}
 use Rattle.modulate.proofs.Front.{front-below, front_written}
 use Rattle.modulate.proofs.Lengths.{bits_long, hues-long}
-use Rattle.modulate.proofs.Ready.{hue-count}
+use Rattle.modulate.proofs.Ready.{hues-least, hues-most}
 use Rattle.modulate.proofs.Source.draw_hues.Goals as goal
 
 off : (bits : List ℕ) (l : Layout) (m : ℕ) (cxs cys hues : List ℕ) (on : Bool) → on ≡ chroma_on l.hues → on ≡ false → hues ≡ drawn_hues bits l m cxs cys hues
@@ -56,7 +56,7 @@ pub slice_bounds-hue-items-end-2 : goal.slice_bounds-hue-items-end-2
 slice_bounds-hue-items-end-2 c = search (first)
 
 pub hue_at-requires : goal.hue_at-requires
-hue_at-requires c = (search (hue-count), search (symbol_bits_few), search (bits_in), search rules)
+hue_at-requires c = (search (hues-least), search (hues-most), search (symbol_bits_few), search (bits_in), search rules)
 
 pub returns : goal.returns
 returns c = drawn _ _ _ _ _ _ _ c.chroma_on.ensures c.if-not-chroma_on.false c.requires.5 _ c.entries-count.ensures _ _ c.loop-j.auto.hue-items c.loop-j-test.false c.loop-j.invariant

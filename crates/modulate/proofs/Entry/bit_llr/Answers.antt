@@ -1,4 +1,4 @@
--- `modulate::bit_llr` meets its contract: what is left of the hues gives the best of all; the code starts at minus infinity. Assumes nothing.
+-- `modulate::Entry::bit_llr` meets its contract: what is left of the hues gives the best of all; the code starts at minus infinity. Assumes nothing.
 use mathlib.Core.Path.{◌≡◌, ap}
 use borrow.Author.Rules.{rules}
 use mathlib.Core.List.{List}
@@ -13,7 +13,7 @@ use Rattle.modulate.specs.declared.Cell.{Cell}
 use Rattle.modulate.specs.declared.Best.{Best}
 use Rattle.modulate.specs.Score.{bit_of_hue, bettered, better_at, best_of, bit_llr}
 use Rattle.modulate.proofs.Front.{front-below}
-use Rattle.modulate.proofs.bit_llr.Goals as goal
+use Rattle.modulate.proofs.Entry.bit_llr.Goals as goal
 
 module _ (ll : List Float) (cell : Cell) (k b : ℕ) where
   turned : (h n : ℕ) (s s' : Best) → k ≤ length ll → h < length (take k ll) → n ≡ bit_of_hue cell k b h → s' ≡ bettered n (get_or (take k ll) h nan) s → s' ≡ better_at ll cell k b h s
