@@ -221,54 +221,6 @@ impl<'a> Channel<'a> {
     }
 }
 
-// The same of a palette's numbers and its hue count.
-impl ChannelStats {
-    // Core: `Channel::palette_sigmas`.
-    pub fn palette_sigmas(self, palette: &[f32], hues: usize, sigmas: &mut [f32])
-        requires { (palette_len hues ≤ length palette.now) × (2 * hues ≤ length sigmas.old) }
-        ensures { sigmas.new ≡ spec.palette_sigmas self palette.now hues sigmas.old }
-    {
-        let channel = Channel {
-            noise: self,
-            palette: Palette {
-                numbers: palette,
-                hues,
-            },
-        };
-        channel.palette_sigmas(sigmas);
-    }
-
-    // Core: `Channel::nearest_by`.
-    pub fn nearest_by(self, sample: Lab, palette: &[f32], hues: usize, sigmas: &[f32]) -> f32
-        requires { (palette_len hues ≤ length palette.now) × spec.Sigmas self palette.now hues sigmas.now }
-        ensures { result ≡ spec.nearest self sample palette.now hues }
-    {
-        let channel = Channel {
-            noise: self,
-            palette: Palette {
-                numbers: palette,
-                hues,
-            },
-        };
-        channel.nearest_by(sample, sigmas)
-    }
-
-    // Core: `Channel::hue_log_likelihoods_of`.
-    pub fn hue_log_likelihoods_of(self, sample: Lab, palette: &[f32], hues: usize, out: &mut [f32])
-        requires { (palette_len hues ≤ length palette.now) × (hues ≤ length out.old) }
-        ensures { out.new ≡ spec.hue_log_likelihoods self sample palette.now hues out.old }
-    {
-        let channel = Channel {
-            noise: self,
-            palette: Palette {
-                numbers: palette,
-                hues,
-            },
-        };
-        channel.hue_log_likelihoods_of(sample, out);
-    }
-}
-
 // ---- the sentences
 
 // Core: sentence 5, of a palette: it is shorter than 2 + 8 × hues.
@@ -318,21 +270,6 @@ pub fn bad_sigmas(noise: ChannelStats) -> bool
         || noise.sigma_ab < 0.75
         || bad_level_sigma(noise.sigma_ab_dark)
         || bad_level_sigma(noise.sigma_ab_light)
-}
-
-// Core: sentence 8, of a noise record and of a palette that is long enough.
-pub fn bad_numbers(noise: ChannelStats, palette: &[f32], hues: usize) -> bool
-    requires { palette_len hues ≤ length palette.now }
-    ensures { result ≡ call.bad_numbers noise palette.now hues }
-{
-    let channel = Channel {
-        noise,
-        palette: Palette {
-            numbers: palette,
-            hues,
-        },
-    };
-    channel.has_bad_numbers()
 }
 
 // Whether a noise record passes. Refused: 8, 9.
