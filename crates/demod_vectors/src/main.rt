@@ -2,42 +2,36 @@
 // every bit.
 #![tactic(auto)]
 
-use layout::Layout;
+use stage_words::{Card, CardRoom};
 use std::io;
 use vectors::{Answers, Inputs};
 
 // score side hues size |xs| |ys| grid |raw| |cxs| |cys| |cell_raw| |palette| MODEL STATS luma colours chroma fill
 //     = no modules cells |luma|' |colours|' |chroma|'
 fn score(inputs: &mut Inputs, answers: &mut Answers) {
-    let (mut xs, mut ys, mut raw) = ([0i32; 64], [0i32; 64], [0.0f32; 64]);
-    let (mut cxs, mut cys, mut cell_raw) = ([0u16; 64], [0u16; 64], [0.0f32; 64]);
+    let mut room = CardRoom::new();
     let (mut luma, mut colours, mut chroma) = ([0.0f32; 64], [0.0f32; 64], [0.0f32; 64]);
-    let mut palette = [0.0f32; 256];
     let side = inputs.take();
     let hues = inputs.take();
     let size = inputs.take();
-    let xs = inputs.list(&mut xs);
-    let ys = inputs.list(&mut ys);
-    let grid = inputs.take();
-    let raw = inputs.list(&mut raw);
-    let cxs = inputs.list(&mut cxs);
-    let cys = inputs.list(&mut cys);
-    let cell_raw = inputs.list(&mut cell_raw);
-    let palette = inputs.list(&mut palette);
-    let model = stage_words::take_model(inputs);
-    let noise = stage_words::take_noise(inputs);
+    let Card {
+        layout,
+        xs,
+        ys,
+        raw,
+        cxs,
+        cys,
+        cell_raw,
+        palette,
+        model,
+        noise,
+    } = stage_words::take_card(inputs, side, hues, size, &mut room);
     let mut lens = [0usize; 3];
     inputs.take_all(&mut lens);
     let fill = inputs.take();
     let luma = vectors::spread(&mut luma, lens[0], fill);
     let colours = vectors::spread(&mut colours, lens[1], fill);
     let chroma = vectors::spread(&mut chroma, lens[2], fill);
-    let layout = Layout {
-        side,
-        hues,
-        size,
-        grid,
-    };
     let scored = demod::score(
         layout, xs, ys, raw, cxs, cys, cell_raw, palette, model, noise, luma, colours, chroma,
     );

@@ -1,13 +1,14 @@
-// The records of the colour stage as words of a list: a colour, a noise record (STATS), an illumination model (MODEL); and the
-// references and the scratch that are lent to a call.
+// The records of the colour stage as words of a list: a colour, a noise record (STATS), an illumination model (MODEL), a card; and
+// the references and the scratch that are lent to a call.
 //
 // STATS is l0 l1 sigma_l sigma_ab level0 level1 (f32), samples. MODEL is terms side rms rejected kept width, then f64: affine
 // 3 x 4, gain 3 x width, flare 3 x width; side and rms are f32, width is 4 or 9.
 #![tactic(auto)]
 
-ghost use Rattle.std.specs.Prelude.{◌≡◌, ◌+◌, ◌*◌, ◌≤◌, length, take, drop};
+ghost use Rattle.std.specs.Prelude.{◌≡◌, ◌+◌, ◌*◌, ◌≤◌, length, take, drop, slice_index};
 ghost use Rattle.vectors.specs.Answers.{placed, put};
 ghost use Rattle.stage_words.specs.Records as spec;
+ghost use Rattle.stage_words.specs.Cards as card;
 ghost use Rattle.stage_words.specs.Answered as answered;
 ghost use Rattle.stage_words.specs.Scratch.{lent_of};
 
@@ -16,6 +17,7 @@ pub mod rows;
 use answers::Refusal;
 use color::{Lab, Linear};
 use illum::IlluminationModel;
+use layout::Layout;
 use stats::ChannelStats;
 use vectors::{Answers, Inputs, Value};
 
@@ -251,4 +253,101 @@ pub fn lent(flat: &[f32], n: usize) -> &[f32]
         return flat;
     }
     &flat[..8 * whole - 1]
+}
+
+// ---- a card
+
+// What a card is scored from: its layout, the places and the raw colours of its modules and of its cells, its palette, and the
+// model and the noise record of its capture.
+#[derive(Clone, Copy, Debug)]
+pub struct Card<'a> {
+    pub layout: Layout,
+    pub xs: &'a [i32],
+    pub ys: &'a [i32],
+    pub raw: &'a [f32],
+    pub cxs: &'a [u16],
+    pub cys: &'a [u16],
+    pub cell_raw: &'a [f32],
+    pub palette: &'a [f32],
+    pub model: IlluminationModel,
+    pub noise: ChannelStats,
+}
+
+// Room for the lists of a card.
+#[derive(Clone, Copy, Debug)]
+pub struct CardRoom {
+    xs: [i32; 512],
+    ys: [i32; 512],
+    raw: [f32; 2048],
+    cxs: [u16; 512],
+    cys: [u16; 512],
+    cell_raw: [f32; 2048],
+    palette: [f32; 256],
+}
+
+impl CardRoom {
+    // Room with nothing in it.
+    pub fn new() -> CardRoom {
+        CardRoom {
+            xs: [0; 512],
+            ys: [0; 512],
+            raw: [0.0; 2048],
+            cxs: [0; 512],
+            cys: [0; 512],
+            cell_raw: [0.0; 2048],
+            palette: [0.0; 256],
+        }
+    }
+}
+
+// Takes what stands in a record from a card's modules on, of a card with this side, these hues and cells of this size.
+pub fn take_card<'a>(
+    inputs: &mut Inputs,
+    side: usize,
+    hues: usize,
+    size: usize,
+    room: &'a mut CardRoom,
+) -> Card<'a>
+    ensures shape { (result.layout.side ≡ side) × (result.layout.hues ≡ hues) × (result.layout.size ≡ size) }
+    ensures grid { result.layout.grid ≡ slice_index (card.at_grid inputs.old.rest.now) 0 }
+    ensures xs { card.listed card.signed 512 inputs.old.rest.now result.xs.now }
+    ensures ys { card.listed card.signed 512 (card.at_ys inputs.old.rest.now) result.ys.now }
+    ensures raw { card.listed card.single 2048 (card.at_raw inputs.old.rest.now) result.raw.now }
+    ensures cxs { card.listed card.short 512 (card.at_cxs inputs.old.rest.now) result.cxs.now }
+    ensures cys { card.listed card.short 512 (card.at_cys inputs.old.rest.now) result.cys.now }
+    ensures cell_raw { card.listed card.single 2048 (card.at_cell_raw inputs.old.rest.now) result.cell_raw.now }
+    ensures palette { card.listed card.single 256 (card.at_palette inputs.old.rest.now) result.palette.now }
+    ensures model { result.model ≡ spec.model_taken (card.at_model inputs.old.rest.now) (spec.width_taken (card.at_model inputs.old.rest.now)) }
+    ensures noise { result.noise ≡ spec.noise_at (card.at_noise inputs.old.rest.now) 0 }
+    ensures rest { inputs.new.rest.now ≡ drop 7 (card.at_noise inputs.old.rest.now) }
+{
+    let CardRoom {
+        xs,
+        ys,
+        raw,
+        cxs,
+        cys,
+        cell_raw,
+        palette,
+    } = room;
+    let xs = inputs.list(xs);
+    let ys = inputs.list(ys);
+    let grid = inputs.take();
+    Card {
+        layout: Layout {
+            side,
+            hues,
+            size,
+            grid,
+        },
+        xs,
+        ys,
+        raw: inputs.list(raw),
+        cxs: inputs.list(cxs),
+        cys: inputs.list(cys),
+        cell_raw: inputs.list(cell_raw),
+        palette: inputs.list(palette),
+        model: take_model(inputs),
+        noise: take_noise(inputs),
+    }
 }

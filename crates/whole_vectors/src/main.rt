@@ -5,27 +5,9 @@
 
 use answers::Refusal;
 use demod::ScoreReport;
-use illum::IlluminationModel;
-use layout::Layout;
-use stats::ChannelStats;
+use stage_words::{Card, CardRoom};
 use std::io;
 use vectors::{Answers, Inputs};
-
-// What a card is read from.
-#[derive(Clone, Copy, Debug)]
-struct Card<'a> {
-    layout: Layout,
-    mask: u8,
-    xs: &'a [i32],
-    ys: &'a [i32],
-    raw: &'a [f32],
-    cxs: &'a [u16],
-    cys: &'a [u16],
-    cell_raw: &'a [f32],
-    palette: &'a [f32],
-    model: IlluminationModel,
-    noise: ChannelStats,
-}
 
 // Scores and refines a card, and answers scoring's report, or the refusal of the first call refused.
 fn demodulate(
@@ -45,7 +27,6 @@ fn demodulate(
         palette,
         model,
         noise,
-        ..
     } = *card;
     let mut scratch = [0.0f32; 2048];
     let report = demod::score(
@@ -77,9 +58,9 @@ fn put_bits(answers: &mut Answers, scores: &[f32]) {
 }
 
 // Unmasks the luma scores, and puts the bits of both lists or the refusal's number.
-fn put_card_bits(answers: &mut Answers, card: &Card, luma: &mut [f32], chroma: &[f32]) {
+fn put_card_bits(answers: &mut Answers, card: &Card, mask: u8, luma: &mut [f32], chroma: &[f32]) {
     let layout = card.layout;
-    match modulate::unmask_luma(luma, layout.side, card.xs, card.ys, layout.grid, card.mask) {
+    match modulate::unmask_luma(luma, layout.side, card.xs, card.ys, layout.grid, mask) {
         Ok(()) => {
             put_bits(answers, luma);
             put_bits(answers, chroma);
@@ -90,7 +71,7 @@ fn put_card_bits(answers: &mut Answers, card: &Card, luma: &mut [f32], chroma: &
 
 // Puts what the calls on a card give, or the number of the first call refused. The outputs are each as long as they must be:
 // `scores` chroma scores.
-fn put_card(answers: &mut Answers, card: &Card, scores: usize) {
+fn put_card(answers: &mut Answers, card: &Card, mask: u8, scores: usize) {
     let (mut luma, mut colours, mut chroma) = ([0.0f32; 512], [0.0f32; 2048], [0.0f32; 2048]);
     let luma = vectors::spread(&mut luma, card.xs.len(), 0.0);
     let colours = vectors::spread(&mut colours, card.raw.len(), 0.0);
@@ -102,42 +83,20 @@ fn put_card(answers: &mut Answers, card: &Card, scores: usize) {
         answers.put_list(luma);
         answers.put_list(colours);
         answers.put_list(chroma);
-        put_card_bits(answers, card, luma, chroma);
+        put_card_bits(answers, card, mask, luma, chroma);
     });
 }
 
 // whole side hues size mask |xs| |ys| grid |raw| |cxs| |cys| |cell_raw| |palette| MODEL STATS chroma
 //     = no modules cells |luma| |colours| |chroma| |luma bits| |chroma bits|
 fn whole(inputs: &mut Inputs, answers: &mut Answers) {
-    let (mut xs, mut ys, mut raw) = ([0i32; 512], [0i32; 512], [0.0f32; 2048]);
-    let (mut cxs, mut cys, mut cell_raw) = ([0u16; 512], [0u16; 512], [0.0f32; 2048]);
-    let mut palette = [0.0f32; 256];
+    let mut room = CardRoom::new();
     let side = inputs.take();
     let hues = inputs.take();
     let size = inputs.take();
     let mask = inputs.take();
-    let xs = inputs.list(&mut xs);
-    let ys = inputs.list(&mut ys);
-    let grid = inputs.take();
-    let card = Card {
-        layout: Layout {
-            side,
-            hues,
-            size,
-            grid,
-        },
-        mask,
-        xs,
-        ys,
-        raw: inputs.list(&mut raw),
-        cxs: inputs.list(&mut cxs),
-        cys: inputs.list(&mut cys),
-        cell_raw: inputs.list(&mut cell_raw),
-        palette: inputs.list(&mut palette),
-        model: stage_words::take_model(inputs),
-        noise: stage_words::take_noise(inputs),
-    };
-    put_card(answers, &card, inputs.take());
+    let card = stage_words::take_card(inputs, side, hues, size, &mut room);
+    put_card(answers, &card, mask, inputs.take());
 }
 
 // Calls the function of this name.
