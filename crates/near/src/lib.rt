@@ -66,9 +66,9 @@ fn wide(i: u32) -> usize
 impl Search<'_> {
     // The squared distance of reference i from the centre.
     #[tactic(auto, unfolding(crate::specs::Near::distance))]
-    fn distance(&self, i: usize) -> f64
-        requires { i < self.now.n }
-        ensures { result ≡ seen.distance self.now i }
+    fn distance(self, i: usize) -> f64
+        requires { i < self.n }
+        ensures { result ≡ seen.distance self.entry i }
     {
         let dx = float::widen(self.xy[2 * i]) - self.cx;
         let dy = float::widen(self.xy[2 * i + 1]) - self.cy;
@@ -77,22 +77,28 @@ impl Search<'_> {
 
     // Whether reference i comes before reference j.
     #[tactic(auto, unfolding(crate::specs::Near::before))]
-    fn before(&self, i: usize, j: usize) -> bool
-        requires { (i < self.now.n) × (j < self.now.n) }
-        ensures { result ≡ seen.before self.now i j }
+    fn before(self, i: usize, j: usize) -> bool
+        requires { (i < self.n) × (j < self.n) }
+        ensures { result ≡ seen.before self.entry i j }
     {
         let a = self.distance(i);
         let b = self.distance(j);
-        a < b || a == b && i < j
+        if a < b {
+            return true;
+        }
+        if a == b {
+            return i < j;
+        }
+        false
     }
 
     // ---- which references are listed
 
     // Whether reference i is within the radius.
     #[tactic(auto, unfolding(crate::specs::Near::asked))]
-    fn within(&self, radius: f32, i: usize) -> bool
-        requires { i < self.now.n }
-        ensures { result ≡ spec.asked (query.Within radius) self.now.xy.now self.now.cx self.now.cy i }
+    fn within(self, radius: f32, i: usize) -> bool
+        requires { i < self.n }
+        ensures { result ≡ spec.asked (query.Within radius) self.entry.xy.now self.entry.cx self.entry.cy i }
     {
         let r = float::widen(radius);
         self.distance(i) <= r * r
@@ -100,18 +106,18 @@ impl Search<'_> {
 
     // Whether the column cuts reference i off.
     #[tactic(auto, unfolding(crate::specs::Near::asked))]
-    fn cut_off(&self, column: i32, i: usize) -> bool
-        requires { i < self.now.n }
-        ensures { result ≡ spec.asked (query.CutOff column) self.now.xy.now self.now.cx self.now.cy i }
+    fn cut_off(self, column: i32, i: usize) -> bool
+        requires { i < self.n }
+        ensures { result ≡ spec.asked (query.CutOff column) self.entry.xy.now self.entry.cx self.entry.cy i }
     {
         between(float::widen(self.xy[2 * i]), centre(column), self.cx)
     }
 
     // Whether reference i is one that the query asks for.
     #[tactic(auto, unfolding(crate::specs::Near::asked))]
-    fn asked(&self, i: usize) -> bool
-        requires { i < self.now.n }
-        ensures { result ≡ spec.asked self.now.query self.now.xy.now self.now.cx self.now.cy i }
+    fn asked(self, i: usize) -> bool
+        requires { i < self.n }
+        ensures { result ≡ spec.asked self.entry.query self.entry.xy.now self.entry.cx self.entry.cy i }
     {
         match self.query {
             Query::Nearest => true,
@@ -122,9 +128,9 @@ impl Search<'_> {
 
     // Whether reference i, whose mark this is, is one of them and was kept.
     #[tactic(auto, unfolding(crate::specs::Near::chosen, crate::specs::Near::is_kept))]
-    fn chosen(&self, i: usize, mark: u8) -> bool
-        requires { (i < self.now.n) × (mark ≡ get_or self.now.kept.now i 0) }
-        ensures { result ≡ seen.chosen self.now i }
+    fn chosen(self, i: usize, mark: u8) -> bool
+        requires { (i < self.n) × (mark ≡ get_or self.kept.now i 0) }
+        ensures { result ≡ seen.chosen self.entry i }
     {
         mark != 0 && self.asked(i)
     }
@@ -132,17 +138,17 @@ impl Search<'_> {
     // ---- sorting
 
     // Whether what stands at j comes before what stands at k.
-    fn earlier(&self, out: &[u32], j: usize, k: usize) -> bool
-        requires { (j < length out.now) × (k < length out.now) × (get_or out.now j 0 < self.now.n) × (get_or out.now k 0 < self.now.n) }
-        ensures { result ≡ seen.before self.now (get_or out.now j 0) (get_or out.now k 0) }
+    fn earlier(self, out: &[u32], j: usize, k: usize) -> bool
+        requires { (j < length out.now) × (k < length out.now) × (get_or out.now j 0 < self.n) × (get_or out.now k 0 < self.n) }
+        ensures { result ≡ seen.before self.entry (get_or out.now j 0) (get_or out.now k 0) }
     {
         self.before(wide(out[j]), wide(out[k]))
     }
 
     // Moves what stands at k down by steps of `gap`, past all that it comes before.
-    fn sift(&self, gap: usize, k: usize, out: &mut [u32])
-        requires { (0 < gap) × (k < length out.old) × order.Places self.now.n (k + 1) out.old }
-        ensures { order.Sifted (seen.before self.now) self.now.n gap k out.old out.new }
+    fn sift(self, gap: usize, k: usize, out: &mut [u32])
+        requires { (0 < gap) × (k < length out.old) × order.Places self.n (k + 1) out.old }
+        ensures { order.Sifted (seen.before self.entry) self.entry.n gap k out.old out.new }
     {
         let mut j = k;
         // By index: the place goes down by the gap, as far as the order asks.
@@ -153,9 +159,9 @@ impl Search<'_> {
     }
 
     // One pass over the first m places; with a gap of 1 it sorts them.
-    fn pass(&self, gap: usize, m: usize, out: &mut [u32])
-        requires { (0 < gap) × (m ≤ length out.old) × order.Places self.now.n m out.old }
-        ensures { order.Passed (seen.before self.now) self.now.n gap m m out.old out.new }
+    fn pass(self, gap: usize, m: usize, out: &mut [u32])
+        requires { (0 < gap) × (m ≤ length out.old) × order.Places self.n m out.old }
+        ensures { order.Passed (seen.before self.entry) self.entry.n gap m m out.old out.new }
     {
         // By index: each turn moves places of the whole list.
         for k in 0..m {
@@ -165,9 +171,9 @@ impl Search<'_> {
 
     // Sorts the first m places by Shell's passes: each with a gap above 1 brings places near where they belong, and the last,
     // of gap 1, sorts them.
-    fn sort(&self, m: usize, out: &mut [u32])
-        requires { (m ≤ length out.old) × order.Places self.now.n m out.old }
-        ensures { order.Passed (seen.before self.now) self.now.n 1 m m out.old out.new }
+    fn sort(self, m: usize, out: &mut [u32])
+        requires { (m ≤ length out.old) × order.Places self.n m out.old }
+        ensures { order.Passed (seen.before self.entry) self.entry.n 1 m m out.old out.new }
     {
         let mut gap = 9841;
         while gap > 1 {
@@ -180,9 +186,9 @@ impl Search<'_> {
     // ---- the lists
 
     // Lists all chosen references in their order.
-    fn list(&self, out: &mut [u32]) -> usize
-        requires { self.now.n ≤ length out.old }
-        ensures { spec.Collected (seen.chosen self.now) self.now.n result out.old out.new }
+    fn list(self, out: &mut [u32]) -> usize
+        requires { self.n ≤ length out.old }
+        ensures { spec.Collected (seen.chosen self.entry) self.entry.n result out.old out.new }
     {
         let mut m = 0;
         for (i, &mark) in self.kept[..self.n].iter().enumerate() {
@@ -195,10 +201,10 @@ impl Search<'_> {
     }
 
     // Lists all chosen references, the nearest first.
-    fn list_all(&self, out: &mut [u32]) -> usize
-        requires { self.now.n ≤ length out.old }
-        ensures all { spec.All (seen.before self.now) (seen.chosen self.now) self.now.n result out.new }
-        ensures upper_bound { (result ≤ self.now.n) × spec.Rest result out.old out.new }
+    fn list_all(self, out: &mut [u32]) -> usize
+        requires { self.n ≤ length out.old }
+        ensures all { spec.All (seen.before self.entry) (seen.chosen self.entry) self.entry.n result out.new }
+        ensures upper_bound { (result ≤ self.entry.n) × spec.Rest result out.old out.new }
     {
         let m = self.list(out);
         self.sort(m, out);
@@ -206,19 +212,19 @@ impl Search<'_> {
     }
 
     // Puts reference i at place k, and moves it to where it belongs among the first k + 1.
-    fn put(&self, i: usize, k: usize, out: &mut [u32])
-        requires { (i < self.now.n) × (k < length out.old) × order.Places self.now.n k out.old }
-        ensures { order.Sifted (seen.before self.now) self.now.n 1 k (order.placed k i out.old) out.new }
+    fn put(self, i: usize, k: usize, out: &mut [u32])
+        requires { (i < self.n) × (k < length out.old) × order.Places self.n k out.old }
+        ensures { order.Sifted (seen.before self.entry) self.entry.n 1 k (order.placed k i out.old) out.new }
     {
         out[k] = i as u32;
         self.sift(1, k, out);
     }
 
     // Offers reference i, which is chosen, to the first three, m of which are there.
-    fn offer(&self, i: usize, m: usize, out: &mut [u32]) -> usize
-        requires room { (self.now.n ≤ length out.old) × (i < self.now.n) × (m ≤ i) × order.Places self.now.n m out.old }
-        requires chosen { seen.chosen self.now i ≡ true }
-        ensures { spec.Offered (seen.before self.now) (seen.chosen self.now) self.now.n i m out.old result out.new }
+    fn offer(self, i: usize, m: usize, out: &mut [u32]) -> usize
+        requires room { (self.n ≤ length out.old) × (i < self.n) × (m ≤ i) × order.Places self.n m out.old }
+        requires chosen { seen.chosen self i ≡ true }
+        ensures { spec.Offered (seen.before self.entry) (seen.chosen self.entry) self.entry.n i m out.old result out.new }
     {
         if m < 3 {
             self.put(i, m, out);
@@ -232,10 +238,10 @@ impl Search<'_> {
     }
 
     // Lists the first three of the chosen references, all if fewer, the nearest first.
-    fn nearest(&self, out: &mut [u32]) -> usize
-        requires { self.now.n ≤ length out.old }
-        ensures first_three { spec.FirstThree (seen.before self.now) (seen.chosen self.now) self.now.n result out.new }
-        ensures upper_bound { (result ≤ self.now.n) × spec.Rest result out.old out.new }
+    fn nearest(self, out: &mut [u32]) -> usize
+        requires { self.n ≤ length out.old }
+        ensures first_three { spec.FirstThree (seen.before self.entry) (seen.chosen self.entry) self.entry.n result out.new }
+        ensures upper_bound { (result ≤ self.entry.n) × spec.Rest result out.old out.new }
     {
         let mut m = 0;
         for (i, &mark) in self.kept[..self.n].iter().enumerate() {
@@ -247,10 +253,10 @@ impl Search<'_> {
     }
 
     // Lists what the query asks for.
-    fn find(&self, out: &mut [u32]) -> usize
-        requires { self.now.n ≤ length out.old }
-        ensures promised { spec.IsPromised self.now.query (seen.before self.now) (seen.chosen self.now) self.now.n result out.new }
-        ensures upper_bound { (result ≤ self.now.n) × spec.Rest result out.old out.new }
+    fn find(self, out: &mut [u32]) -> usize
+        requires { self.n ≤ length out.old }
+        ensures promised { spec.IsPromised self.entry.query (seen.before self.entry) (seen.chosen self.entry) self.entry.n result out.new }
+        ensures upper_bound { (result ≤ self.entry.n) × spec.Rest result out.old out.new }
     {
         match self.query {
             Query::Nearest => self.nearest(out),

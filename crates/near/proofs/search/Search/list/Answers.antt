@@ -13,7 +13,7 @@ loop-i-init c = (omega arith, collect_starts _)
 pub loop-i-preserved : goal.loop-i-preserved
 loop-i-preserved c =
     let a = c.loop-i.invariant.1 in
-    let s = c.args.self.now in
+    let s = c.args.self in
     let e = length-take-le s.n s.kept.now s.marked in (
       omega (arith, e, c.loop-i-test.true),
       elim c.if-chosen.branch [
@@ -24,6 +24,6 @@ loop-i-preserved c =
 
 pub returns : goal.returns
 returns c =
-    let s = c.args.self.now in
+    let s = c.args.self in
     let e = length-take-le s.n s.kept.now s.marked in
     collect_ends c.loop-i.invariant.1 (omega (arith, e, c.loop-i-test.false, c.loop-i.invariant.0))

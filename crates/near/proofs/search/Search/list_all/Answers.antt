@@ -14,4 +14,4 @@ pub returns : goal.returns
 returns c =
     let w = c.list-m.ensures in
     let z = c.sort.ensures in
-    record { all = sorted_all w z c.args.self.now.strict; upper_bound = (w.under, sorted_rest w z) }
+    record { all = sorted_all w z c.args.self.strict; upper_bound = (w.under, sorted_rest w z) }

@@ -14,14 +14,14 @@ loop-i-init c = (omega arith, lead-starts _)
 pub offer-m-requires-clause-room : goal.offer-m-requires-clause-room
 offer-m-requires-clause-room c =
     let a = c.loop-i.invariant.1 in
-    let s = c.args.self.now in
+    let s = c.args.self in
     let e = length-take-le s.n s.kept.now s.marked in
     (omega (arith, a.rest.long, c.requires), omega (arith, e, c.loop-i-test.true), a.under, lead-places a (omega (arith, e, c.loop-i-test.true)))
 
 pub loop-i-preserved : goal.loop-i-preserved
 loop-i-preserved c =
     let a = c.loop-i.invariant.1 in
-    let s = c.args.self.now in
+    let s = c.args.self in
     let e = length-take-le s.n s.kept.now s.marked in (
       omega (arith, e, c.loop-i-test.true),
       elim c.if-chosen.branch [
@@ -34,7 +34,7 @@ loop-i-preserved c =
 
 pub returns : goal.returns
 returns c =
-    let s = c.args.self.now in
+    let s = c.args.self in
     let e = length-take-le s.n s.kept.now s.marked in
     let w = lead_ends {n = s.n} c.loop-i.invariant.1 (omega (arith, e, c.loop-i-test.false, c.loop-i.invariant.0)) in
     record { first_three = w.three; upper_bound = (w.under, w.rest) }
