@@ -11,20 +11,19 @@ ghost use Rattle.scores.specs.Score as spec;
 ghost use Rattle.scores.specs.Score.{sheet};
 ghost use Rattle.scores.specs.Ready.{layout_of};
 
-use color::palette::linear_at;
 use color::{Lab, Linear, Xyz, linear_to_xyz, xyz_to_lab};
 use illum::IlluminationModel;
 use layout::Modules;
 use modulate::Cell;
 use observed::{SeenCells, SeenModules};
 pub use samples::Meter;
-use samples::Samples;
+use samples::{Colours, Samples};
 use stats::ChannelStats;
 
 mod samples;
 
-// Facts: that a block of n ≤ 16 colours, or all n, stand in the list of colours, and their scores in that of scores, is one
-// inequality each; a struct for a block would move them to where it is made, and no function has fewer.
+// Facts: that a block has at most 16 colours, and that there is room for a luma score a colour, is one comparison of two numbers; a
+// struct with the fact would be made where the comparison stands, and be no shorter.
 
 // ---- luma
 
@@ -50,13 +49,13 @@ fn lightness(c: Linear) -> f32
     lab.l
 }
 
-// Writes the luma scores of the first n modules, not weighted; their corrected colours stand in `colours`.
-fn plain_lumas(noise: ChannelStats, colours: &[f32], n: usize, luma: &mut [f32])
-    requires { (3 * n ≤ length colours.now) × (n ≤ length luma.old) }
-    ensures { luma.new ≡ spec.plain_lumas noise (linear_at colours.now) n luma.old }
+// Writes the luma scores of modules, not weighted.
+fn plain_lumas(noise: ChannelStats, colours: &Colours, luma: &mut [f32])
+    requires { colours.now.n ≤ length luma.old }
+    ensures { luma.new ≡ spec.plain_lumas noise (linear_at colours.now.numbers.now) colours.now.n luma.old }
 {
-    for (i, score) in luma[..n].iter_mut().enumerate() {
-        *score = noise.luma_llr_of(lightness(linear_at(colours, i)));
+    for (i, score) in luma[..colours.n].iter_mut().enumerate() {
+        *score = noise.luma_llr_of(lightness(colours.at(i)));
     }
 }
 
@@ -75,33 +74,33 @@ impl Samples {
 
 impl Meter<'_> {
     // The luma scores of a block of modules.
-    fn luma_block(&self, colours: &[f32], from: usize, n: usize, luma: &mut [f32])
-        requires { (weighted self.now.channel.palette.hues ≡ true) × (n ≤ 16) × (3 * (from + n) ≤ length colours.now) × (from + n ≤ length luma.old) }
-        ensures { luma.new ≡ spec.luma_block self.now.channel.noise self.now.channel.palette.numbers.now self.now.channel.palette.hues (linear_at colours.now) from n luma.old }
+    fn luma_block(&self, colours: &Colours, from: usize, n: usize, luma: &mut [f32])
+        requires { (weighted self.now.channel.palette.hues ≡ true) × (n ≤ 16) × (from + n ≤ colours.now.n) × (from + n ≤ length luma.old) }
+        ensures { luma.new ≡ spec.luma_block self.now.channel.noise self.now.channel.palette.numbers.now self.now.channel.palette.hues (linear_at colours.now.numbers.now) from n luma.old }
     {
         Samples::of(self, colours, from, n).put_lumas(self.channel.noise, from, luma);
     }
 
-    // Writes the luma scores of the first n modules, each weighted by the reliability of its colour.
-    fn weighted_lumas(&self, colours: &[f32], n: usize, luma: &mut [f32])
-        requires { (weighted self.now.channel.palette.hues ≡ true) × (3 * n ≤ length colours.now) × (n ≤ length luma.old) }
-        ensures { luma.new ≡ spec.write_lumas self.now.channel.noise self.now.channel.palette.numbers.now self.now.channel.palette.hues (linear_at colours.now) n luma.old }
+    // Writes the luma scores of modules, each weighted by the reliability of its colour.
+    fn weighted_lumas(&self, colours: &Colours, luma: &mut [f32])
+        requires { (weighted self.now.channel.palette.hues ≡ true) × (colours.now.n ≤ length luma.old) }
+        ensures { luma.new ≡ spec.write_lumas self.now.channel.noise self.now.channel.palette.numbers.now self.now.channel.palette.hues (linear_at colours.now.numbers.now) colours.now.n luma.old }
     {
-        for from in (0..n).step_by(16) {
-            self.luma_block(colours, from, usize::min(16, n - from), luma);
+        for from in (0..colours.n).step_by(16) {
+            self.luma_block(colours, from, usize::min(16, colours.n - from), luma);
         }
     }
 
-    // Writes the luma scores of the first n modules.
+    // Writes the luma scores of modules.
     #[tactic(auto, using(crate::proofs::Parts::plain))]
-    fn write_lumas(&self, colours: &[f32], n: usize, luma: &mut [f32])
-        requires { (3 * n ≤ length colours.now) × (n ≤ length luma.old) }
-        ensures { luma.new ≡ spec.write_lumas self.now.channel.noise self.now.channel.palette.numbers.now self.now.channel.palette.hues (linear_at colours.now) n luma.old }
+    fn write_lumas(&self, colours: &Colours, luma: &mut [f32])
+        requires { colours.now.n ≤ length luma.old }
+        ensures { luma.new ≡ spec.write_lumas self.now.channel.noise self.now.channel.palette.numbers.now self.now.channel.palette.hues (linear_at colours.now.numbers.now) colours.now.n luma.old }
     {
         if limits::weighted(self.channel.palette.hues) {
-            self.weighted_lumas(colours, n, luma);
+            self.weighted_lumas(colours, luma);
         } else {
-            plain_lumas(self.channel.noise, colours, n, luma);
+            plain_lumas(self.channel.noise, colours, luma);
         }
     }
 
@@ -120,7 +119,11 @@ impl Meter<'_> {
     {
         let n = seen.modules.len();
         let held = observed::correct(model, seen, 0, n, 0, colours);
-        self.write_lumas(colours, n, luma);
+        let all = Colours {
+            numbers: colours,
+            n,
+        };
+        self.write_lumas(&all, luma);
         held
     }
 }
@@ -214,7 +217,8 @@ impl ChromaCard<'_> {
     {
         let mut room = [0.0f32; 48];
         let after = observed::correct(model, &self.seen, from, n, held, &mut room);
-        self.put_entries(&Samples::of(&self.meter, &room, 0, n), from, chroma);
+        let corrected = Colours { numbers: &room, n };
+        self.put_entries(&Samples::of(&self.meter, &corrected, 0, n), from, chroma);
         after
     }
 
@@ -240,11 +244,11 @@ impl ChromaCard<'_> {
             chroma.new ≡ spec.ring_block c.noise c.palette.numbers.now c.palette.hues (length self.now.seen.cells.cxs.now) self.now.modules.grid (linear_at self.now.colours.now) from n chroma.old }
     {
         let first = self.seen.cells.len() + (from - self.modules.grid);
-        self.put_entries(
-            &Samples::of(&self.meter, self.colours, from, n),
-            first,
-            chroma,
-        );
+        let colours = Colours {
+            numbers: self.colours,
+            n: self.modules.len(),
+        };
+        self.put_entries(&Samples::of(&self.meter, &colours, from, n), first, chroma);
     }
 
     // The chroma scores of the ring modules, those that are listed after the grid modules.

@@ -9,8 +9,26 @@ ghost use Rattle.observed.specs.Entries.{Block};
 ghost use Rattle.scores.specs.Samples as spec;
 
 use color::palette::linear_at;
-use color::{Lab, linear_to_lab};
+use color::{Lab, Linear, linear_to_lab};
 use stats::Channel;
+
+// The corrected colours of a card's modules, or of a block of its cells: n of them, three numbers each.
+#[derive(Clone, Copy, Debug)]
+pub struct Colours<'a> {
+    pub numbers: &'a [f32],
+    pub n: usize,
+    ghost three: { 3 * n ≤ length numbers.now },
+}
+
+impl Colours<'_> {
+    // Core: colour i.
+    pub fn at(&self, i: usize) -> Linear
+        requires { i < self.now.n }
+        ensures { result ≡ linear_at self.now.numbers.now i }
+    {
+        linear_at(self.numbers, i)
+    }
+}
 
 // What a card's colours are scored by: its channel, and the chroma noise of each palette colour, which no sample changes.
 #[derive(Clone, Copy, Debug)]
@@ -45,14 +63,14 @@ impl<'a> Meter<'a> {
     }
 }
 
-// Writes the Labs of n colours of a list, from colour `from` on.
+// Writes the Labs of n colours, from colour `from` on.
 #[tactic(auto, unfolding(crate::specs::Samples::lab_of, observed::specs::Entries::onwards))]
-fn write_labs(colours: &[f32], from: usize, n: usize, labs: &mut [Lab])
-    requires { (3 * (from + n) ≤ length colours.now) × (n ≤ length labs.old) }
-    ensures { Block entry.lab_at (spec.lab_of (entry.onwards (linear_at colours.now) from)) n labs.new }
+fn write_labs(colours: &Colours, from: usize, n: usize, labs: &mut [Lab])
+    requires { (from + n ≤ colours.now.n) × (n ≤ length labs.old) }
+    ensures { Block entry.lab_at (spec.lab_of (entry.onwards (linear_at colours.now.numbers.now) from)) n labs.new }
 {
     for (j, lab) in labs[..n].iter_mut().enumerate() {
-        *lab = linear_to_lab(linear_at(colours, from + j));
+        *lab = linear_to_lab(colours.at(from + j));
     }
 }
 
@@ -77,11 +95,11 @@ pub struct Samples {
 }
 
 impl Samples {
-    // Core: the samples of n colours of a list, from colour `from` on.
+    // Core: the samples of n colours, from colour `from` on.
     #[tactic(auto, using(crate::proofs::Blocks::by_stages))]
-    pub fn of(meter: &Meter, colours: &[f32], from: usize, n: usize) -> Samples
-        requires { (n ≤ 16) × (3 * (from + n) ≤ length colours.now) }
-        ensures { spec.Samples meter.now.channel.noise meter.now.channel.palette.numbers.now meter.now.channel.palette.hues (entry.onwards (linear_at colours.now) from) result.n result.labs result.weights × (result.n ≡ n) }
+    pub fn of(meter: &Meter, colours: &Colours, from: usize, n: usize) -> Samples
+        requires { (n ≤ 16) × (from + n ≤ colours.now.n) }
+        ensures { spec.Samples meter.now.channel.noise meter.now.channel.palette.numbers.now meter.now.channel.palette.hues (entry.onwards (linear_at colours.now.numbers.now) from) result.n result.labs result.weights × (result.n ≡ n) }
     {
         let none = Lab {
             l: 0.0,

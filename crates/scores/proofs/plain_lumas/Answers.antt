@@ -21,4 +21,4 @@ all_written noise colours n i luma s l long past done =
     front_replaced nan n (λ j v. luma_llr noise (linear_to_lab (linear_at colours j)).l) luma s l long (λ j q. done j (let p = length-take-le n luma l in omega arith))
 
 pub returns : goal.returns
-returns c = all_written _ _ _ _ _ _ c.requires.1 c.loop-i.auto.score-items c.loop-i-test.false c.loop-i.invariant
+returns c = all_written _ _ _ _ _ _ c.requires c.loop-i.auto.score-items c.loop-i-test.false c.loop-i.invariant

@@ -9,4 +9,4 @@ use Rattle.stats.specs.Noise.{luma_llr}
 use Rattle.scores.proofs.plain_lumas.Given as goal
 
 abbrev pub invariant-loop-i : goal.invariant-loop-i
-invariant-loop-i l = (j : ℕ) → j < l.i → get_or l.score-items j nan ≡ luma_llr l.noise (linear_to_lab (linear_at l.colours j)).l
+invariant-loop-i l = (j : ℕ) → j < l.i → get_or l.score-items j nan ≡ luma_llr l.noise (linear_to_lab (linear_at l.colours.numbers.now j)).l

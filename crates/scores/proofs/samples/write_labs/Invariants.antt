@@ -7,4 +7,4 @@ use Rattle.scores.specs.Samples.{lab_of}
 use Rattle.scores.proofs.samples.write_labs.Given as goal
 
 abbrev pub invariant-loop-j : goal.invariant-loop-j
-invariant-loop-j l = (i : ℕ) → i < l.j → lab_at l.lab-items i ≡ lab_of (onwards (linear_at l.colours) l.from) i
+invariant-loop-j l = (i : ℕ) → i < l.j → lab_at l.lab-items i ≡ lab_of (onwards (linear_at l.colours.numbers.now) l.from) i

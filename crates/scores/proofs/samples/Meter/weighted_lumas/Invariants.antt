@@ -7,4 +7,4 @@ use Rattle.scores.proofs.samples.Meter.weighted_lumas.Given as goal
 abbrev pub invariant-loop-from : goal.invariant-loop-from
 invariant-loop-from l =
     let c = l.self.channel in
-    Left (luma_at c.noise c.palette.numbers.now c.palette.hues (linear_at l.colours)) l.n l.from l.luma (write_lumas c.noise c.palette.numbers.now c.palette.hues (linear_at l.colours) l.n l.initial.luma)
+    Left (luma_at c.noise c.palette.numbers.now c.palette.hues (linear_at l.colours.numbers.now)) l.colours.n l.from l.luma (write_lumas c.noise c.palette.numbers.now c.palette.hues (linear_at l.colours.numbers.now) l.colours.n l.initial.luma)
