@@ -24,6 +24,7 @@ use references::References;
 
 // ---- the passes. Of their scratch, 4 floats a reference, the first n are the live marks, the next n the residuals, and the rest
 // is room for a median.
+// Facts: the slices' lengths stand in each clause, since a struct that held them would have to keep their ghost names in each.
 
 // The model with another residual.
 fn with_rms(m: IlluminationModel, rms: f32) -> IlluminationModel
@@ -164,6 +165,7 @@ fn write_marks(count: u32, live: &[f32], kept: &mut [u8])
 }
 
 // ---- the calls
+// Slices: the C interface lends them so.
 
 // 4 terms below version 10, 9 from it on.
 #[tactic(auto, unfolding(crate::specs::Fit::terms_for))]

@@ -5,9 +5,8 @@ use mathlib.Core.Bool.{Bool, true, false, cond}
 use native.Mathlib.Omega.{arith}
 use borrow.Author.Tests.{ne_eqb, lt-ltb, le-ltb}
 use mathlib.Core.List.{List, [], ◌∷◌, ◌++◌, map, Permᴰ}
-use Prim.Native.Nat.{ℕ, ◌+◌, ◌*◌, ◌-◌, ◌≤◌, ◌<◌}
-use lib.Seq.{length-take-le, drop-append-add, drop-drop}
-use lib.ListN.{length, get_or, take, drop}
+use Prim.Native.Nat.{ℕ, ◌+◌, ◌*◌, ◌≤◌, ◌<◌}
+use lib.ListN.{length, get_or}
 use lib.Dec.{ltb}
 use lib.Ieee.{Float, nan, binary32, of_bits, mul, round}
 use Rattle.float.specs.Select.{max}

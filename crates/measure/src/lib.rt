@@ -235,6 +235,7 @@ impl<'a> Levels<'a> {
 }
 
 // ---- the columns are written
+// Facts: the scratch stands in each clause, since a struct that held it would have to keep its ghost name in each.
 
 // Writes three numbers of reference i of n, each into its column.
 fn place(n: usize, i: usize, a: f32, b: f32, c: f32, s: &mut [f32])
@@ -529,6 +530,7 @@ fn measurement_of(
 }
 
 // ---- the sentences
+// Slices: the C interface lends them so, and the calls below too.
 
 // Sentence 5: the palette or the scratch is too short.
 #[tactic(auto, unfolding(crate::specs::Measure::too_short))]

@@ -1,6 +1,7 @@
 // References of known colour as flat floats, eight each: x, y, the observed colour, the nominal colour. What stands where,
 // sentences 6, 7 and 8 of them, and the scratch of 4 × references that is lent with them.
-// The C interface lends the floats; behind a call's refusals they and their count are a `References`.
+// Behind a call's refusals the floats and their count are a `References`.
+// Slices: the C interface lends the floats and their count apart, and so `check_references` takes them.
 #![tactic(auto)]
 
 ghost use Rattle.std.specs.Prelude.{◌≡◌, ◌+◌, ◌*◌, ◌<◌, ◌≤◌, length};
@@ -212,6 +213,7 @@ pub fn short_scratch(lent: usize, n: usize) -> bool
 }
 
 // Core: zeros in the first n places.
+// By hand: the library's `fill` of a part, with what it leaves of the whole as its contract, which two calls cite.
 pub fn clear(scratch: &mut [f32], n: usize)
     requires { n ≤ length scratch.old }
     ensures { scratch.new ≡ cleared n scratch.old }

@@ -1,5 +1,4 @@
 -- `equations::append_terms` meets its contract: what is left of the terms from k on is written. Assumes nothing.
-use lib.Ieee.{of_bits}
 use Rattle.loops.proofs.Laws.{turn_to, loops}
 use Rattle.equations.specs.Once.{append_at}
 use borrow.Author.Rules.{rules}

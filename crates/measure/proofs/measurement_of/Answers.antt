@@ -1,9 +1,8 @@
 -- `measure::measurement_of` meets its contract: `nominal` and no mark below 8, and else the record of the columns and the marks that were counted. Assumes nothing.
-use mathlib.Core.Path.{◌≡◌, ap, sym, ◌∙◌}
+use mathlib.Core.Path.{ap, ◌∙◌}
 use native.Mathlib.Omega.{arith}
 use Rattle.measure.specs.Columns.{record_in}
 use Rattle.measure.proofs.Noting.{levels-fit, spreads_real, enough, too_few}
-use borrow.Author.Rules.{rules}
 use Rattle.measure.proofs.measurement_of.Goals as goal
 
 pub returns-then-references-lt8 : goal.returns-then-references-lt8

@@ -2,14 +2,14 @@
 use mathlib.Core.Path.{◌≡◌, ap, ap₂, ◌∙◌}
 use mathlib.Core.Bool.{true, false}
 use mathlib.Core.List.{List}
-use Prim.Native.Nat.{ℕ, ◌+◌, ◌/◌, ◌<◌, ◌≤◌}
+use Prim.Native.Nat.{ℕ, ◌+◌, ◌<◌, ◌≤◌}
 use native.Mathlib.Omega.{arith}
-use lib.ListN.{length, get_or, set}
+use lib.ListN.{get_or, set}
 use lib.Ieee.{Float, nan, lt}
 use borrow.Author.Tests.{lt-ltb, le-ltb}
 use Rattle.loops.proofs.Laws.{turn_to, loops}
 use Rattle.equations.specs.Live.{dropped_mark}
-use Rattle.residuals.specs.Residual.{Rejection, rejection, reject_at, reject_above}
+use Rattle.residuals.specs.Residual.{rejection, reject_at, reject_above}
 use Rattle.residuals.proofs.Literals.{zero}
 use borrow.Author.Rules.{rules}
 use Rattle.residuals.proofs.reject.Goals as goal

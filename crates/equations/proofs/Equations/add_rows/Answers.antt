@@ -11,7 +11,6 @@ use Rattle.math.specs.Normal.{add_row}
 use Rattle.equations.specs.declared.Equations.{Equations}
 use Rattle.equations.specs.Live.{is_live}
 use Rattle.equations.specs.Once.{live_row}
-use borrow.Author.Rules.{rules}
 use Rattle.equations.proofs.Equations.add_rows.Goals as goal
 use Rattle.equations.proofs.Equations.add_rows.Goals.{then-is_live, else-is_live}
 

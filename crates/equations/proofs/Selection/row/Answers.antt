@@ -1,9 +1,9 @@
 -- `Selection::row` meets its contract: the solution's first four numbers, where there is one. Assumes nothing.
-use mathlib.Core.Path.{◌≡◌, sym, ap, ◌∙◌}
+use mathlib.Core.Path.{◌≡◌, ◌∙◌}
 use mathlib.Core.List.{List}
 use Prim.Native.Nat.{ℕ}
 use lib.Ieee.{Float}
-use Rattle.std.specs.Prelude.{Option, None, Some}
+use Rattle.std.specs.Prelude.{Option}
 use Rattle.std.specs.Option.{option_map}
 use Rattle.math.specs.Gauss.{System}
 use Rattle.illum.specs.declared.IlluminationModel.{IlluminationModel}

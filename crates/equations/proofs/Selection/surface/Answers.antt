@@ -4,12 +4,12 @@ use mathlib.Core.List.{List}
 use Prim.Native.Nat.{ℕ, ◌<◌, ◌≤◌}
 use borrow.Author.Tests.{lt-ltb, le-ltb}
 use lib.Ieee.{Float}
-use Rattle.std.specs.Prelude.{Option, None, Some}
+use Rattle.std.specs.Prelude.{Option}
 use Rattle.math.specs.Gauss.{System}
 use Rattle.references.specs.References.{observed_of, place_of}
 use Rattle.equations.specs.declared.Plan.{Plan}
 use Rattle.equations.specs.declared.Surface.{Surface}
-use Rattle.equations.specs.Once.{width_of, no_equations, live_rows, surface_row, solution, unit_surface, solved_surface, or_unit, surface_of}
+use Rattle.equations.specs.Once.{width_of, no_equations, live_rows, surface_row, solution, unit_surface, or_unit, surface_of}
 use borrow.Author.Rules.{rules}
 use Rattle.equations.proofs.Selection.surface.Goals as goal
 
