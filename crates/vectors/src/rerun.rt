@@ -48,23 +48,19 @@ fn replayed<F: Fn(&str, &mut Inputs, &mut Answers)>(
     answers.compare(function, at, read, &wanted)
 }
 
-// Goes through all records of a list.
-fn tally<F: Fn(&str, &mut Inputs, &mut Answers)>(
-    text: &[u8],
-    functions: &[&str],
-    answer: F,
-) -> Tally
-    requires { F.IsAlwaysCallable answer }
+// Goes through all records of a list: `compared` compares the one that begins at the place that it is given.
+pub fn tally<F: Fn(usize) -> io::Result<Compared>>(text: &[u8], compared: F) -> io::Result<Tally>
+    requires { F.IsAlwaysCallable compared }
 {
     let mut t = super::empty();
     let mut at = 0usize;
     while at < text.len() {
         if !super::is_comment(text, at) {
-            t = super::counted(t, replayed(text, at, functions, &answer));
+            t = super::counted(t, compared(at)?);
         }
         at = super::next_line(text, at);
     }
-    t
+    Ok(t)
 }
 
 // Prints the line of each function: its name, how many of its records were compared and how many differ.
@@ -73,6 +69,13 @@ fn print_functions(rt: &impl Print, functions: &[&str], t: Tally) -> io::Result<
         println!(rt; "{name} {compared} compared, {differ} differ")?;
     }
     Ok(())
+}
+
+// Prints the report of a run over a list: a line for each function, the first records that differ, and the totals.
+pub fn report(rt: &impl Print, text: &[u8], functions: &[&str], t: Tally) -> io::Result<()> {
+    print_functions(rt, functions, t)?;
+    super::print_differences(rt, text, t)?;
+    super::print_total(rt, t)
 }
 
 // Replays the list that a file holds. A record's function is one of `functions`, by its name, and `answer` calls the function
@@ -86,8 +89,9 @@ pub fn replay<R: Files + Alloc + Print, F: Fn(&str, &mut Inputs, &mut Answers)>(
     requires { F.IsAlwaysCallable answer }
 {
     let text = fs::read(rt, path)?;
-    let t = tally(&text, functions, answer);
-    print_functions(rt, functions, t)?;
-    super::print_differences(rt, &text, t)?;
-    super::print_total(rt, t)
+    let compared = |at: usize| -> io::Result<Compared>
+        requires { F.IsAlwaysCallable answer }
+    { Ok(replayed(&text, at, functions, &answer)) };
+    let t = tally(&text, compared)?;
+    report(rt, &text, functions, t)
 }
