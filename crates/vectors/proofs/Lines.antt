@@ -1,6 +1,9 @@
 -- Lines and names end where `find` finds their last byte, and nothing is found past the end of the text. Assumes nothing.
 use Rattle.std.proofs.Common.{◌≡◌, ℕ, suc, ◌+◌, ◌-◌, ◌<◌, ◌≤◌, Bool, true, false, cond, not, ◌&&◌, eqb, ltb, List, [], ◌∷◌, length, get_or, take, drop, sym, refl, ap, ◌∙◌, add-zero, add-one, arith, ne_eqb, drop-cons, length-drop, drop_of_length-le, length-take, length-take-le, ltb-false, ltb-true, le-ltb, lt-ltb, eq-eqb}
 use Rattle.std.proofs.lemmas.List.{get_or-take}
+use Rattle.std.proofs.lemmas.List.{drop-take}
+use Rattle.std.proofs.lemmas.List.Sums.{prefix_len-le-length}
+use Rattle.std.specs.List.{take_while, prefix_len}
 use lib.Seq.{take-nil}
 use lib.Dec.{eqb-suc-zero}
 use lib.Pointwise.{pointwise}
@@ -27,42 +30,25 @@ found_below text b at to h l = omega (arith, found_within b (drop at (take to te
 
 -- ---- the search for a byte
 
--- where the search has come to place i, what is sought stands first where it stands first from there on
-pub record LeftFind (text : List ℕ) (at to b i : ℕ) : Type 0 where
-  pub left : at + index_of b (slice at to text) ≡ i + index_of b (slice i to text)
+-- what is sought stands behind as many others as there are in front
+before : (b : ℕ) (l : List ℕ) → prefix_len (λ x. not (eqb x b)) l ≡ index_of b l
+unfolding index_of index_after
+before b [] = refl
+before b (x ∷ l) = here (eqb x b) (before b l)
+  where
+    here : (t : Bool) {m n : ℕ} → m ≡ n → cond (not t) (1 + m) 0 ≡ index_after t n
+    here true e = refl
+    here false e = omega (arith, e)
 
--- what stands at a place before the end, and the rest
-slice_front : (text : List ℕ) (to i : ℕ) → i < to → to ≤ length text → slice i to text ≡ get_or text i 0 ∷ slice (i + 1) to text
+pub finds : (text : List ℕ) (at to b : ℕ) {r : ℕ} → at ≤ to → r ≡ length (take_while (λ x. not (eqb x b)) (take (to - at) (drop at text))) → r ≡ index_of b (slice at to text)
 unfolding slice
-slice_front text to i h l =
-    let k : i < length (take to text) = omega (arith, length-take-le to text l) in
-    let e : get_or (take to text) i 0 ≡ get_or text i 0 = get_or-take to text i 0 h in
-    rw (add-one, drop-cons (take to text) i 0 k) (ap (λ (x : ℕ). x ∷ drop (suc i) (take to text)) e)
-
-module _ {text : List ℕ} {at to b : ℕ} where
-  pub begin_find : LeftFind text at to b at
-  begin_find = record { left = refl }
-
-  module _ {i : ℕ} (inv : LeftFind text at to b i) where
-    pub turn_find : i < to → to ≤ length text → (get_or text i 0 ≡ b → ⊥) → LeftFind text at to b (i + 1)
-    unfolding index_of index_after
-    turn_find h l ne =
-        let e : index_of b (slice i to text) ≡ suc (index_of b (slice (i + 1) to text)) =
-        ap (index_of b) (slice_front text to i h l) ∙ ap (λ (t : Bool). index_after t (index_of b (slice (i + 1) to text))) (ne_eqb (get_or text i 0) b ne) in
-        record { left = omega (arith, inv.left, e) }
-
-    pub found_find : i < to → to ≤ length text → get_or text i 0 ≡ b → i ≡ at + index_of b (slice at to text)
-    unfolding index_of index_after
-    found_find h l same =
-        let e : index_of b (slice i to text) ≡ 0 =
-        ap (index_of b) (slice_front text to i h l) ∙ ap (λ (t : Bool). index_after t (index_of b (slice (i + 1) to text))) (eq-eqb (get_or text i 0) b same) in
-        omega (arith, inv.left, e)
-
-    pub done_find : i ≤ to → to ≤ i → to ≡ at + index_of b (slice at to text)
-    unfolding index_of slice
-    done_find h k =
-        let e : index_of b (slice i to text) ≡ 0 = ap (index_of b) (drop_of_length-le (take to text) (omega (arith, length-take to text))) in
-        omega (arith, inv.left, e)
+finds text at to b {r} h e =
+    let part : take (to - at) (drop at text) ≡ drop at (take to text) = sym (drop-take at (to - at) text) ∙ ap (λ (n : ℕ). drop at (take n text)) (omega arith) in
+    let l : List ℕ = take (to - at) (drop at text) in
+    e
+    ∙ length-take-le (prefix_len (λ x. not (eqb x b)) l) l (prefix_len-le-length (λ x. not (eqb x b)) l)
+    ∙ before b l
+    ∙ ap (index_of b) part
 
 -- ---- lines and names
 

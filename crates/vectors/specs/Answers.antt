@@ -1,5 +1,5 @@
 -- Rows of words, what they stand for, and how two of them are compared and counted. Definitions only.
-use Rattle.std.specs.Prelude.{ℕ, suc, ◌+◌, ◌-◌, ◌*◌, ◌/◌, ◌%◌, ◌^◌, Bool, cond, not, ◌&&◌, List, [], ◌∷◌, length, take, replicate, ◌==◌, nat_le, nat_lt, slice_index, slice_set}
+use Rattle.std.specs.Prelude.{ℕ, suc, ◌+◌, ◌-◌, ◌*◌, ◌/◌, ◌%◌, ◌^◌, Bool, cond, not, ◌&&◌, List, [], ◌∷◌, length, take, replicate, ◌==◌, nat_le, nat_lt, slice_index, slice_set, fold, take_while, zip}
 use Rattle.loops.specs.Loops.{for_up}
 use Rattle.vectors.specs.declared.Record.{Record}
 use Rattle.vectors.specs.declared.Compared.{Compared}
@@ -22,10 +22,8 @@ unfoldable pub put : ℕ → Placed → Placed
 put w p = cond (nat_lt p.place (length p.row)) (placed (p.place + 1) (slice_set p.row p.place w)) p
 
 -- how many words two lists share, from the first on
-unfoldable pub shared_front : List ℕ → List ℕ → ℕ
-shared_front [] ys = 0
-shared_front (a ∷ xs) [] = 0
-shared_front (a ∷ xs) (b ∷ ys) = cond (a == b) (suc (shared_front xs ys)) 0
+abbrev pub shared_front : List ℕ → List ℕ → ℕ
+shared_front got wanted = length (take_while (λ p. p.0 == p.1) (zip got wanted))
 
 -- ---- comparing
 
@@ -93,12 +91,9 @@ differing_of t c =
 unfoldable pub counted_of : Tally → Compared → Tally
 counted_of t c = cond (same_of c) (agreed_of t c) (differing_of (agreed_of t c) c)
 
-unfoldable pub add_at : List ℕ → ℕ → ℕ → ℕ
-add_at counts k sum = (sum + slice_index counts k) % 2 ^ 64
-
 -- all counts but the last, to 64 bits
 abbrev pub total_of : List ℕ → ℕ
-total_of counts = for_up 0 31 (add_at counts) 0
+total_of counts = fold (λ sum n. (sum + n) % 2 ^ 64) 0 (take 31 counts)
 
 -- ---- printing
 

@@ -10,11 +10,11 @@ use super::{Compared, Record};
 // How many answers a record has room for.
 pub const ROOM: usize = 4096;
 
-// What stands in a row behind its first n words.
-fn past(row: &[u64], n: usize) -> &[u64]
-    ensures { result.now ≡ drop n row.now }
+// What stands behind the first n elements of a list.
+pub fn past<T>(list: &[T], n: usize) -> &[T]
+    ensures { result.now ≡ drop n list.now }
 {
-    row.get(n..).unwrap_or(&[])
+    list.get(n..).unwrap_or(&[])
 }
 
 // Puts into each place of `out` what the word at that place of a row stands for, and what 0 stands for past the row's end.

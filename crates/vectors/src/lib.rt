@@ -9,7 +9,7 @@
 // One row of words holds the inputs of a record, another the answers that it wants, and a third those got.
 #![tactic(auto)]
 
-ghost use Rattle.std.specs.Prelude.{◌≡◌, ◌+◌, ◌*◌, ◌%◌, ◌^◌, ◌<◌, ◌≤◌, min, true, length, take, from_bits, slice_index, to_bits, IfOk};
+ghost use Rattle.std.specs.Prelude.{◌≡◌, ◌+◌, ◌*◌, ◌%◌, ◌^◌, ◌<◌, ◌≤◌, ◌==◌, not, min, true, length, take, take_while, from_bits, slice_index, to_bits, IfOk};
 ghost use Rattle.std.specs.Int.{w32};
 ghost use Rattle.std.proofs.Common.{to_z};
 ghost use Rattle.std.specs.Float.{nan, binary32, binary64};
@@ -39,10 +39,14 @@ pub const NOT_READ: usize = 31;
 pub fn byte(text: &[u8], at: usize) -> u8
     ensures { result ≡ byte_at text.now at }
 {
-    if at < text.len() {
-        return text[at];
-    }
-    0
+    text.get(at).copied().unwrap_or(0)
+}
+
+// How many bytes stand before the first `b`, all where there is none.
+fn count_before(text: &[u8], b: u8) -> usize
+    ensures { result ≡ length (take_while (λ x. not (x == b)) text.now) }
+{
+    text.iter().take_while(|x| **x != b).count()
 }
 
 // The place of the first byte `b` from `at` on, or `to` where none stands before that.
@@ -51,12 +55,7 @@ fn find(text: &[u8], at: usize, to: usize, b: u8) -> usize
     requires high { to ≤ length text.now }
     ensures { result ≡ at + index_of b (slice at to text.now) }
 {
-    for i in at..to {
-        if text[i] == b {
-            return i;
-        }
-    }
-    to
+    at + count_before(&text[at..to], b)
 }
 
 // The place of the first line feed from `at` on, or the end of the text.
@@ -155,7 +154,7 @@ pub fn digit(b: u8) -> u64
 }
 
 // The digits that stand at a place: the number that they spell, of which the last sixteen count, and where they end.
-#[derive(Clone, Copy)]
+#[derive(Clone, Copy, Debug)]
 pub struct Digits {
     pub value: u64,
     pub end: usize,
@@ -166,20 +165,20 @@ pub fn digits_from(text: &[u8], at: usize) -> Digits
     ensures { result ≡ reading.digits_from text.now at }
 {
     let mut value = 0u64;
-    let mut i = at;
-    while i < text.len() {
-        let d = digit(text[i]);
+    let mut end = at;
+    for &b in call::past(text, at) {
+        let d = digit(b);
         if 16 <= d {
-            return Digits { value, end: i };
+            return Digits { value, end };
         }
         value = value % 0x1000_0000_0000_0000 * 16 + d;
-        i += 1;
+        end += 1;
     }
-    Digits { value, end: i }
+    Digits { value, end }
 }
 
 // What stands at a place between words: a space and a word, with the place past it, or anything else.
-#[derive(Clone, Copy)]
+#[derive(Clone, Copy, Debug)]
 pub enum Word {
     Value(u64, usize),
     Nothing,
@@ -204,7 +203,7 @@ pub fn word_from(text: &[u8], at: usize) -> Word
 }
 
 // A run of words: how many there are, and where they end in the text.
-#[derive(Clone, Copy)]
+#[derive(Clone, Copy, Debug)]
 pub struct Run {
     pub count: usize,
     pub end: usize,
@@ -215,10 +214,10 @@ pub fn words_from(text: &[u8], at: usize, row: &mut [u64]) -> Run
     ensures { reading.words_of result.count result.end row.new ≡ reading.words_from text.now at row.old }
 {
     let mut i = at;
-    for k in 0..row.len() {
+    for (k, word) in row.iter_mut().enumerate() {
         match word_from(text, i) {
             Word::Value(v, end) => {
-                row[k] = v;
+                *word = v;
                 i = end;
             }
             Word::Nothing => {
@@ -233,7 +232,7 @@ pub fn words_from(text: &[u8], at: usize, row: &mut [u64]) -> Run
 }
 
 // A record that was read: how many inputs and how many answers it has, and whether its line kept to the format.
-#[derive(Clone, Copy)]
+#[derive(Clone, Copy, Debug)]
 pub struct Record {
     pub inputs: usize,
     pub answers: usize,
@@ -520,20 +519,13 @@ pub fn store_usize(values: &[usize], row: &mut [u64], at: usize) -> usize
 pub fn agreeing(got: &[u64], wanted: &[u64]) -> usize
     ensures { result ≡ comparing.shared_front got.now wanted.now }
 {
-    let mut k = 0usize;
-    while k < got.len() && k < wanted.len() {
-        if got[k] != wanted[k] {
-            return k;
-        }
-        k += 1;
-    }
-    k
+    got.iter().zip(wanted).take_while(|(g, w)| g == w).count()
 }
 
 // What comparing one record gave: the record's number in the list, from 1, where its line begins, its function, how
 // many answers agree from the first on, how many there were and how many are due, and the first that is got and
 // wanted after those that agree.
-#[derive(Clone, Copy)]
+#[derive(Clone, Copy, Debug)]
 pub struct Compared {
     pub number: u64,
     pub at: usize,
@@ -616,7 +608,7 @@ pub fn same(c: Compared) -> bool
 
 // What a run has met so far: how many records, of each function how many were compared and how many differ, how many
 // that differ are kept, and those: the first eight.
-#[derive(Clone, Copy)]
+#[derive(Clone, Copy, Debug)]
 pub struct Tally {
     pub records: u64,
     pub compared: [u64; 32],
@@ -740,8 +732,8 @@ pub fn hex(word: u64) -> [u8; 16]
     ensures len { 16 ≡ length result }
 {
     let mut out = [0u8; 16];
-    for k in 0..16usize {
-        out[k] = glyph(word >> (60 - 4 * k));
+    for (k, digit) in out.iter_mut().enumerate() {
+        *digit = glyph(word >> (60 - 4 * k));
     }
     out
 }
@@ -819,11 +811,8 @@ fn print_difference(rt: &impl Print, text: &[u8], c: Compared) -> io::Result<()>
 
 // Prints the first records that differ.
 fn print_differences(rt: &impl Print, text: &[u8], t: Tally) -> io::Result<()> {
-    let first = t.first;
-    for k in 0..8usize {
-        if k < t.kept {
-            print_difference(rt, text, first[k])?;
-        }
+    for c in t.first.iter().take(t.kept) {
+        print_difference(rt, text, *c)?;
     }
     Ok(())
 }
@@ -865,11 +854,10 @@ fn print_functions(rt: &impl Print, names: &[u8], t: Tally) -> io::Result<()> {
 fn total(counts: [u64; 32]) -> u64
     ensures { result ≡ comparing.total_of counts }
 {
-    let mut sum = 0u64;
-    for k in 0..31usize {
-        sum = std::num::wrapping_add_u64(sum, counts[k]);
-    }
-    sum
+    counts
+        .iter()
+        .take(NOT_READ)
+        .fold(0, |sum: u64, n| sum.wrapping_add(*n))
 }
 
 // Prints the last line: all that were compared, that differ, and that were not read.

@@ -1,16 +1,7 @@
--- `vectors::find` meets its contract: no byte passed is the one that is sought. Assumes nothing.
-use Rattle.std.proofs.Common.{rules}
-use Rattle.vectors.proofs.Lines.{begin_find, turn_find, found_find, done_find}
+-- `vectors::find` meets its contract: as many other bytes stand in front. Assumes nothing.
+use Rattle.std.proofs.Common.{ℕ, ◌+◌, ap, rules}
+use Rattle.vectors.proofs.Lines.{finds}
 use Rattle.vectors.proofs.find.Goals as goal
 
-pub loop-i-init : goal.loop-i-init
-loop-i-init c = begin_find
-
-pub loop-i-preserved : goal.loop-i-preserved
-loop-i-preserved c = search (turn_find, rules)
-
-pub returns-then-text-i : goal.returns-then-text-i
-returns-then-text-i c = search (found_find, rules)
-
 pub returns : goal.returns
-returns c = search (done_find, rules)
+returns c = ap (λ (n : ℕ). c.args.at + n) (finds c.args.text.now c.args.at c.args.to c.args.b (search rules) c.count_before.ensures)
