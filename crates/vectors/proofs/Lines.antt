@@ -5,12 +5,8 @@ use Rattle.std.proofs.lemmas.List.{drop-take}
 use Rattle.std.proofs.lemmas.List.Sums.{prefix_len-le-length}
 use Rattle.std.specs.List.{take_while, prefix_len}
 use lib.Seq.{take-nil}
-use lib.Dec.{eqb-suc-zero}
-use lib.Pointwise.{pointwise}
-use Rattle.loops.specs.Loops.{while_do}
-use Rattle.loops.proofs.Laws.{LeftWhile, begin_while, turn_while, done_while}
 use Rattle.vectors.specs.Bytes.{slice, index_of, index_after}
-use Rattle.vectors.specs.Lines.{line_end, next_line, name_end, name_of, equal_bytes, Line, line_of, remains, is_other, line_after, number_of, function_of}
+use Rattle.vectors.specs.Lines.{line_end, next_line, name_end, name_of, number_in}
 
 -- ---- what is found stands in the part that was looked at
 
@@ -125,65 +121,36 @@ no_name text at h = ap (take (name_end text at - at)) (drop_of_length-le text h)
 pub no_name_there : (text : List ℕ) (at : ℕ) → length text < at → [] ≡ name_of text at
 no_name_there text at h = sym (no_name text at (omega arith))
 
-no_bytes : (name : List ℕ) → eqb (length name) 0 ≡ equal_bytes [] name
-unfolding equal_bytes
-no_bytes [] = refl
-no_bytes (x ∷ name) = eqb-suc-zero (length name)
-
-pub no_name_is : (text name : List ℕ) (at : ℕ) → length text < at → eqb (length name) 0 ≡ equal_bytes (name_of text at) name
-no_name_is text name at h = cc (no_bytes name, no_name text at (omega arith))
-
 pub name_part : (text : List ℕ) (at e : ℕ) → e ≡ name_end text at → take (e - at) (drop at text) ≡ name_of text at
 unfolding name_of
 name_part text at e h = ap (λ (n : ℕ). take (n - at) (drop at text)) h
 
--- ---- the same bytes
-
-pub pairs_are : (xs ys : List ℕ) → pointwise eqb xs ys ≡ equal_bytes xs ys
-unfolding equal_bytes
-pairs_are [] [] = refl
-pairs_are [] (y ∷ ys) = refl
-pairs_are (x ∷ xs) [] = refl
-pairs_are (x ∷ xs) (y ∷ ys) = ap (λ (t : Bool). eqb x y && t) (pairs_are xs ys)
-
 -- ---- the function that a record names
 
--- the lines passed are other functions'
-pub record LeftNames (text : List ℕ) (at : ℕ) (names : List ℕ) (line number : ℕ) : Type 0 where
-  pub left : LeftWhile (remains names) (is_other text at names) (line_after names) (line_of line number) (while_do (remains names) (is_other text at names) (line_after names) (line_of 0 0))
-  pub low : number ≤ line
+-- with k functions passed, the number sought is that of one from there on
+pub record LeftFunctions {A : Type 0} (is_it : A → Bool) (functions : List A) (k t : ℕ) : Type 0 where
+  pub same : number_in is_it k (drop k functions) ≡ t
 
-left_of : (s t : Bool) → s && t ≡ true → s ≡ true
-left_of true t e = refl
-left_of false t e = e
+module _ {A : Type 0} {is_it : A → Bool} {functions : List A} where
+  pub begin-functions : LeftFunctions is_it functions 0 (number_in is_it 0 functions)
+  begin-functions = record { same = refl }
 
-fewer : (text : List ℕ) (at : ℕ) (names : List ℕ) (l : Line) → is_other text at names l ≡ true → remains names (line_after names l) < remains names l
-unfolding is_other line_after
-fewer text at names l e =
-    line-less names l.start refl
-    (ltb-true l.start (length names) (left_of (ltb l.start (length names)) (not (equal_bytes (name_of text at) (name_of names l.start))) e))
+  module _ {k t : ℕ} (inv : LeftFunctions is_it functions k t) where
+    module _ (d : A) (b : Bool) (e : b ≡ is_it (get_or functions k d)) (h : k < length functions) where
+      here : cond b k (number_in is_it (k + 1) (drop (k + 1) functions)) ≡ t
+      unfolding number_in
+      here =
+          let front : drop k functions ≡ get_or functions k d ∷ drop (k + 1) functions = rw (add-one, drop-cons functions k d h) in
+          ap (λ (c : Bool). cond c k (number_in is_it (k + 1) (drop (k + 1) functions))) e
+          ∙ ap (number_in is_it k) (sym front)
+          ∙ inv.same
 
-module _ {text : List ℕ} {at : ℕ} {names : List ℕ} where
-  pub begin_names : LeftNames text at names 0 0
-  begin_names = record { left = begin_while; low = omega arith }
+      pub found_function : b ≡ true → k ≡ t
+      found_function r = ap (λ (c : Bool). cond c k (number_in is_it (k + 1) (drop (k + 1) functions))) (sym r) ∙ here
 
-  module _ {line number : ℕ} (inv : LeftNames text at names line number) {b : Bool} where
-    pub turn_names : {r : ℕ} → line < length names → b ≡ equal_bytes (name_of text at) (name_of names line) → b ≡ false → r ≡ next_line names line
-        → LeftNames text at names r (number + 1)
-    unfolding is_other line_after
-    turn_names {r} h e f n =
-        record {
-          left =
-              turn_while (remains names) (is_other text at names) (line_after names) (fewer text at names) inv.left (cc (lt-ltb line (length names) h)) (ap (λ (x : ℕ). line_of x (number + 1)) n);
-          low = line-more names line n h inv.low;
-        }
+      pub pass_function : b ≡ false → LeftFunctions is_it functions (k + 1) t
+      pass_function r = record { same = ap (λ (c : Bool). cond c k (number_in is_it (k + 1) (drop (k + 1) functions))) (sym r) ∙ here }
 
-    pub found_name : line < length names → b ≡ equal_bytes (name_of text at) (name_of names line) → b ≡ true → number ≡ function_of text at names
-    unfolding is_other function_of number_of
-    found_name h e f =
-        ap (λ (t : Bool). cond t number 31) (sym (lt-ltb line (length names) h)) ∙ ap (number_of names) (done_while inv.left (cc (lt-ltb line (length names) h)))
-
-  pub no_function : {line number : ℕ} → LeftNames text at names line number → length names ≤ line → 31 ≡ function_of text at names
-  unfolding is_other function_of number_of
-  no_function {line} {number} inv h =
-      ap (λ (t : Bool). cond t number 31) (sym (le-ltb line (length names) h)) ∙ ap (number_of names) (done_while inv.left (cc (le-ltb line (length names) h)))
+    pub no_function : length functions ≤ k → 31 ≡ t
+    unfolding number_in
+    no_function h = ap (number_in is_it k) (sym (drop_of_length-le functions h)) ∙ inv.same

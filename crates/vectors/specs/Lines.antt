@@ -27,36 +27,7 @@ name_end text at = at + index_of 32 (slice at (line_end text at) text)
 unfoldable pub name_of : List ℕ → ℕ → List ℕ
 name_of text at = take (name_end text at - at) (drop at text)
 
--- whether two lists of bytes are the same
-unfoldable pub equal_bytes : List ℕ → List ℕ → Bool
-equal_bytes [] [] = true
-equal_bytes [] (y ∷ ys) = false
-equal_bytes (x ∷ xs) [] = false
-equal_bytes (x ∷ xs) (y ∷ ys) = x == y && equal_bytes xs ys
-
--- a line of the names of functions: where it begins, and its number
-pub record Line : Type 0 where
-  pub start : ℕ
-  pub number : ℕ
-
-abbrev pub line_of : ℕ → ℕ → Line
-line_of s n = record { start = s; number = n }
-
--- what is left of the names
-abbrev pub remains : List ℕ → Line → ℕ
-remains names l = length names - l.start
-
--- whether a line is one of another function than the record's
-unfoldable pub is_other : List ℕ → ℕ → List ℕ → Line → Bool
-is_other text at names l = nat_lt l.start (length names) && not (equal_bytes (name_of text at) (name_of names l.start))
-
-unfoldable pub line_after : List ℕ → Line → Line
-line_after names l = line_of (next_line names l.start) (l.number + 1)
-
--- the number of a line that there is
-unfoldable pub number_of : List ℕ → Line → ℕ
-number_of names l = cond (nat_lt l.start (length names)) l.number 31
-
--- the number of the first line of `names` that is the name of the record that begins at `at`, and 31 where none is
-unfoldable pub function_of : List ℕ → ℕ → List ℕ → ℕ
-function_of text at names = number_of names (while_do (remains names) (is_other text at names) (line_after names) (line_of 0 0))
+-- the number of the first function of a list that is the one sought, where the list begins with number k; 31 where none is
+unfoldable pub number_in : {A : Type 0} → (A → Bool) → ℕ → List A → ℕ
+number_in is_it k [] = 31
+number_in is_it k (f ∷ fs) = cond (is_it f) k (number_in is_it (k + 1) fs)

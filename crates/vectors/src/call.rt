@@ -22,7 +22,7 @@ fn load<T: Value>(row: &[u64], out: &mut [T])
     ensures { (k : ℕ) (d : T) → k < length out.new → slice_index_or out.new k d ≡ T.value_of (slice_index row.now k) }
 {
     for (k, x) in out.iter_mut().enumerate() {
-        *x = T::of_word(super::word_at(row, k, 0));
+        *x = T::of_word(super::word_at(row, k));
     }
 }
 

@@ -1,31 +1,24 @@
 // A run over a list: every record's function is called on its inputs, what it answers is compared with the answers that
 // the record has, and the report says what differs.
-ghost use Rattle.std.specs.Prelude.{◌≡◌};
-ghost use Rattle.vectors.specs.Lines.{name_of};
+ghost use Rattle.std.specs.Prelude.{◌≡◌, nat_eq};
+ghost use Rattle.vectors.specs.Lines.{number_in};
+ghost use Rattle.std.specs.Cmp.Lexicographic.{pointwise};
 
 use super::call::{Answers, Inputs, ROOM};
 use super::{Compared, NOT_READ, Tally};
 use std::rt::Files;
 use std::{fs, io};
 
-// The name of the record that begins at `at`.
-fn name(text: &[u8], at: usize) -> &[u8]
-    ensures { result.now ≡ name_of text.now at }
+// The number of the first function that has this name. Any other name gives NOT_READ.
+fn number_of(name: &[u8], functions: &[&str]) -> usize
+    ensures { result ≡ number_in (λ f. pointwise nat_eq f.now name.now) 0 functions.now }
 {
-    if text.len() < at {
-        return &[];
+    for (k, f) in functions.iter().enumerate() {
+        if f.as_bytes() == name {
+            return k;
+        }
     }
-    let end = super::name_end(text, at);
-    &text[at..end]
-}
-
-// The number of the function that the record that begins at `at` names. Any other name gives NOT_READ.
-fn number_of(text: &[u8], at: usize, functions: &[&str]) -> usize {
-    let wanted = name(text, at);
-    functions
-        .iter()
-        .position(|f| f.as_bytes() == wanted)
-        .unwrap_or(NOT_READ)
+    NOT_READ
 }
 
 // Reads the record that begins at `at`, and compares its answers with what the function that it names answers.
@@ -40,7 +33,7 @@ fn replayed<F: Fn(&str, &mut Inputs, &mut Answers)>(
     let mut row = [0u64; ROOM];
     let mut wanted = [0u64; ROOM];
     let mut answers = Answers::new();
-    let function = number_of(text, at, functions);
+    let function = number_of(super::name(text, at), functions);
     let read = super::read_record(text, at, &mut row, &mut wanted);
     if let Some(name) = functions.get(function) {
         answer(name, &mut Inputs::new(&row), &mut answers);
@@ -49,14 +42,14 @@ fn replayed<F: Fn(&str, &mut Inputs, &mut Answers)>(
 }
 
 // Goes through all records of a list: `compared` compares the one that begins at the place that it is given.
-pub fn tally<F: Fn(usize) -> io::Result<Compared>>(text: &[u8], compared: F) -> io::Result<Tally>
+pub fn compare_all<F: Fn(usize) -> io::Result<Compared>>(text: &[u8], compared: F) -> io::Result<Tally>
     requires { F.IsAlwaysCallable compared }
 {
-    let mut t = super::empty();
+    let mut t = Tally::new();
     let mut at = 0usize;
     while at < text.len() {
         if !super::is_comment(text, at) {
-            t = super::counted(t, compared(at)?);
+            t.add(compared(at)?);
         }
         at = super::next_line(text, at);
     }
@@ -92,6 +85,6 @@ pub fn replay<R: Files + Alloc + Print, F: Fn(&str, &mut Inputs, &mut Answers)>(
     let compared = |at: usize| -> io::Result<Compared>
         requires { F.IsAlwaysCallable answer }
     { Ok(replayed(&text, at, functions, &answer)) };
-    let t = tally(&text, compared)?;
+    let t = compare_all(&text, compared)?;
     report(rt, &text, functions, t)
 }

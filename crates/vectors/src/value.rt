@@ -26,11 +26,18 @@ impl Value for f32 {
     ghost word_of = { to_bits binary32 };
 
     fn of_word(word: u64) -> f32 {
-        super::f32_of(word)
+        let bits = word % 0x1_0000_0000;
+        if 0x7F80_0000 < bits % 0x8000_0000 {
+            return 0.0f32 / 0.0f32;
+        }
+        f32::from_bits(bits as u32)
     }
 
     fn word(self) -> u64 {
-        super::word_of_f32(self)
+        if self != self {
+            return 0x7FC0_0000;
+        }
+        u64::from(f32::to_bits(self))
     }
 }
 
@@ -41,11 +48,17 @@ impl Value for f64 {
     ghost word_of = { to_bits binary64 };
 
     fn of_word(word: u64) -> f64 {
-        super::f64_of(word)
+        if 0x7FF0_0000_0000_0000 < word % 0x8000_0000_0000_0000 {
+            return 0.0f64 / 0.0f64;
+        }
+        f64::from_bits(word)
     }
 
     fn word(self) -> u64 {
-        super::word_of_f64(self)
+        if self != self {
+            return 0x7FF8_0000_0000_0000;
+        }
+        f64::to_bits(self)
     }
 }
 

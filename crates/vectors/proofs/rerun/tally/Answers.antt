@@ -1,6 +1,0 @@
--- `vectors::rerun::tally` ends: each line leaves less of the list. Assumes nothing.
-use Rattle.vectors.proofs.Lines.{line-less}
-use Rattle.vectors.proofs.rerun.tally.Goals as goal
-
-pub loop-at-smaller : goal.loop-at-smaller
-loop-at-smaller g c = search (line-less)
