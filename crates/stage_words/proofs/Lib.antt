@@ -1,5 +1,3 @@
--- `Others`: loops that look for an element with other bits, or count zeros up to one. `Puts`: loops that put a list's elements.
-mod Others
-mod Puts
-pub mod Widths
+-- `Behind`: what stands behind the words that are taken. `Widths`: a surface has at most nine coefficients.
 mod Behind
+pub mod Widths

@@ -1,8 +1,8 @@
 -- A colour, a noise record and a model as words of a row. Definitions only.
-use Rattle.std.specs.Prelude.{Bool, false, cond, not, List, [], ◌∷◌, ℕ, ◌+◌, ◌*◌, ◌%◌, ◌^◌, min, eqb, pos, length, get_or, drop, set, replicate, Float}
-use Rattle.std.specs.Float.{Format, nan, fin, binary32, binary64}
+use Rattle.std.specs.Prelude.{Bool, false, cond, List, [], ◌∷◌, ℕ, ◌+◌, ◌*◌, ◌%◌, ◌^◌, pos, length, get_or, drop, set, replicate, Float}
+use Rattle.std.specs.Float.{fin, binary32, binary64}
 use Rattle.std.specs.Float.Ieee.{of_bits, to_bits}
-use Rattle.loops.specs.Loops.{for_up, any_up}
+use Rattle.loops.specs.Loops.{for_up}
 use Rattle.vectors.specs.Answers.{Placed, put}
 use Rattle.vectors.specs.Slices.{store_at}
 use Rattle.color.specs.declared.Linear.{Linear}
@@ -41,10 +41,6 @@ noise_at row at =
       samples = count32_at row at 6;
     }
 
--- the width of the surfaces of the model at a place: 4, or else 9
-unfoldable pub width_at : List ℕ → ℕ → ℕ
-width_at row at = cond (eqb (get_or row (at + 5) 0) 4) 4 9
-
 unfoldable pub affine_at : List ℕ → ℕ → ℕ → List Float
 affine_at row at k = double_at row at k ∷ double_at row at (k + 1) ∷ double_at row at (k + 2) ∷ double_at row at (k + 3) ∷ []
 
@@ -54,33 +50,6 @@ coefficient_at row at k j c = set c j (double_at row at (k + j))
 -- the w coefficients of a surface that begins at word k, and +0 past them
 unfoldable pub surface_at : List ℕ → ℕ → ℕ → ℕ → List Float
 surface_at row at k w = for_up 0 w (coefficient_at row at k) (replicate 9 (fin false 0 (pos 0)))
-
--- MODEL, with surfaces of width w
-unfoldable pub model_of : List ℕ → ℕ → ℕ → IlluminationModel
-model_of row at w =
-    record {
-      affine_r = affine_at row at 6;
-      affine_g = affine_at row at 10;
-      affine_b = affine_at row at 14;
-      gain_r = surface_at row at 18 w;
-      gain_g = surface_at row at (18 + w) w;
-      gain_b = surface_at row at (18 + 2 * w) w;
-      flare_r = surface_at row at (18 + 3 * w) w;
-      flare_g = surface_at row at (18 + 4 * w) w;
-      flare_b = surface_at row at (18 + 5 * w) w;
-      terms = get_or row (at + 0) 0;
-      side = single_at row at 1;
-      residual_rms = single_at row at 2;
-      rejected = count32_at row at 3;
-      kept = count32_at row at 4;
-    }
-
-abbrev pub model_at : List ℕ → ℕ → IlluminationModel
-model_at row at = model_of row at (width_at row at)
-
--- the place past the model at a place, within the row
-abbrev pub past_model : List ℕ → ℕ → ℕ
-past_model row at = min (at + (18 + 6 * width_at row at)) (length row)
 
 -- ---- taking: what words begin with
 
@@ -129,37 +98,10 @@ noise_words n =
     to_bits binary32 n.l0 ∷ to_bits binary32 n.l1 ∷ to_bits binary32 n.sigma_l ∷ to_bits binary32 n.sigma_ab
     ∷ to_bits binary32 n.sigma_ab_dark ∷ to_bits binary32 n.sigma_ab_light ∷ n.samples ∷ []
 
--- the first n of a list
-abbrev pub put_first : List Float → ℕ → Placed → Placed
-put_first values n p = for_up 0 n (store_at (to_bits binary64) nan values) p
-
--- whether element k has other bits
-unfoldable pub other_at : Format → List Float → ℕ → ℕ → Bool
-other_at f values bits k = not (eqb (to_bits f (get_or values k nan)) bits)
-
 -- one word more where something is not as it should be
 unfoldable pub put_other : Bool → Placed → Placed
 put_other b p = cond b (put 1 p) p
 
--- the first n of nine coefficients, and one word more where one of the others is not +0
-unfoldable pub put_surface : List Float → ℕ → Placed → Placed
-put_surface c n p = put_other (any_up n 9 (other_at binary64 c 0)) (put_first c n p)
-
-unfoldable pub put_surfaces : List Float → List Float → List Float → ℕ → Placed → Placed
-put_surfaces r g b n p = put_surface b n (put_surface g n (put_surface r n p))
-
 -- what a model with surfaces of width n has before its coefficients
 unfoldable pub head_words : IlluminationModel → ℕ → List ℕ
 head_words m n = m.terms ∷ to_bits binary32 m.side ∷ to_bits binary32 m.residual_rms ∷ m.rejected ∷ m.kept ∷ n ∷ []
-
-unfoldable pub put_affine : IlluminationModel → Placed → Placed
-put_affine m p = put_first m.affine_b 4 (put_first m.affine_g 4 (put_first m.affine_r 4 p))
-
--- MODEL, with surfaces of width n
-unfoldable pub put_model_of : IlluminationModel → ℕ → Placed → Placed
-put_model_of m n p =
-    put_surfaces m.flare_r m.flare_g m.flare_b n (put_surfaces m.gain_r m.gain_g m.gain_b n (put_affine m (put_words (head_words m n) p)))
-
--- with those of 4 coefficients where the model has 4 terms
-abbrev pub put_model : IlluminationModel → Placed → Placed
-put_model m p = put_model_of m (terms_used m.terms) p

@@ -12,8 +12,6 @@ ghost use Rattle.stage_words.specs.Cards as card;
 ghost use Rattle.stage_words.specs.Answered as answered;
 ghost use Rattle.stage_words.specs.Scratch.{lent_of};
 
-pub mod rows;
-
 use answers::Refusal;
 use color::{Lab, Linear};
 use illum::IlluminationModel;

@@ -1,5 +1,5 @@
 -- A text, or a row, from one place on: at its front is the byte at that place, and what is left behind that gives the loop's answer. Assumes nothing.
-use Rattle.std.proofs.Common.{◌≡◌, ℕ, suc, ◌+◌, ◌*◌, ◌%◌, ◌<◌, ◌≤◌, min, Bool, true, false, cond, eqb, ltb, leb, List, [], ◌∷◌, length, get_or, take, drop, sym, refl, ap, ◌∙◌, add-zero, add-one, arith, drop_of_length-le, length-drop, length-take-le, take_all, drop-cons, ltb-false, ltb-true, le-ltb, lt-ltb, eq-eqb, ne_eqb, leb-false, leb-true}
+use Rattle.std.proofs.Common.{◌≡◌, ℕ, ◌+◌, ◌*◌, ◌%◌, ◌<◌, ◌≤◌, min, Bool, true, false, cond, ltb, leb, List, ◌∷◌, length, get_or, take, drop, sym, refl, ap, ◌∙◌, add-one, arith, drop_of_length-le, length-drop, length-take-le, take_all, drop-cons, ltb-false, ltb-true, le-ltb, lt-ltb, leb-false, leb-true}
 use lib.ListN.{get_or-eq_default}
 use Rattle.vectors.specs.Words.{digit_of, spelled, digits_from}
 use Rattle.vectors.specs.Answers.{shared_front}

@@ -1,5 +1,5 @@
 -- Rows of words, what they stand for, and how two of them are compared and counted. Definitions only.
-use Rattle.std.specs.Prelude.{ℕ, suc, ◌+◌, ◌-◌, ◌*◌, ◌/◌, ◌%◌, ◌^◌, Bool, cond, not, ◌&&◌, List, [], ◌∷◌, length, take, replicate, ◌==◌, nat_le, nat_lt, slice_index, slice_set, fold, take_while, zip}
+use Rattle.std.specs.Prelude.{ℕ, ◌+◌, ◌-◌, ◌*◌, ◌/◌, ◌%◌, ◌^◌, Bool, cond, not, ◌&&◌, List, length, take, replicate, ◌==◌, nat_le, nat_lt, slice_index, slice_set, fold, take_while, zip}
 use Rattle.loops.specs.Loops.{for_up}
 use Rattle.vectors.specs.declared.Record.{Record}
 use Rattle.vectors.specs.declared.Compared.{Compared}

@@ -1,6 +1,5 @@
 -- The lines of a list and the names of its records, as the format has them. Definitions only.
-use Rattle.std.specs.Prelude.{ℕ, ◌+◌, ◌-◌, Bool, true, false, cond, not, ◌&&◌, List, [], ◌∷◌, length, take, drop, ◌==◌, nat_lt, slice_index}
-use Rattle.loops.specs.Loops.{while_do}
+use Rattle.std.specs.Prelude.{ℕ, ◌+◌, ◌-◌, Bool, cond, List, [], ◌∷◌, length, take, drop, ◌==◌, nat_lt, slice_index}
 use Rattle.vectors.specs.Bytes.{slice, index_of}
 
 -- the byte at a place, and 0 past the end

@@ -9,15 +9,11 @@
 // One row of words holds the inputs of a record, another the answers that it wants, and a third those got.
 #![tactic(auto)]
 
-ghost use Rattle.std.specs.Prelude.{◌≡◌, ◌+◌, ◌*◌, ◌%◌, ◌^◌, ◌<◌, ◌≤◌, ◌==◌, not, min, true, length, take, take_while, from_bits, slice_index, to_bits, IfOk};
-ghost use Rattle.std.specs.Int.{w32};
-ghost use Rattle.std.proofs.Common.{to_z};
-ghost use Rattle.std.specs.Float.{nan, binary32, binary64};
+ghost use Rattle.std.specs.Prelude.{◌≡◌, ◌+◌, ◌*◌, ◌%◌, ◌<◌, ◌≤◌, ◌==◌, not, min, length, take, take_while, slice_index};
 ghost use Rattle.vectors.specs.Bytes.{slice, index_of};
 ghost use Rattle.vectors.specs.Lines.{byte_at, line_end, next_line, is_comment, name_end, name_of};
 ghost use Rattle.vectors.specs.Words as reading;
 ghost use Rattle.vectors.specs.Answers as comparing;
-ghost use Rattle.vectors.specs.Slices.{past_slice, filled, loaded, Fills, stored};
 
 mod call;
 mod rerun;
@@ -95,7 +91,7 @@ pub fn name_end(text: &[u8], at: usize) -> usize
 }
 
 // The name of the record that begins at `at`.
-fn name(text: &[u8], at: usize) -> &[u8]
+pub fn name(text: &[u8], at: usize) -> &[u8]
     ensures { result.now ≡ name_of text.now at }
 {
     if text.len() < at {

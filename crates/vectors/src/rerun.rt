@@ -42,7 +42,10 @@ fn replayed<F: Fn(&str, &mut Inputs, &mut Answers)>(
 }
 
 // Goes through all records of a list: `compared` compares the one that begins at the place that it is given.
-pub fn compare_all<F: Fn(usize) -> io::Result<Compared>>(text: &[u8], compared: F) -> io::Result<Tally>
+pub fn compare_all<F: Fn(usize) -> io::Result<Compared>>(
+    text: &[u8],
+    compared: F,
+) -> io::Result<Tally>
     requires { F.IsAlwaysCallable compared }
 {
     let mut t = Tally::new();

@@ -1,6 +1,0 @@
--- `card_vectors::replay` is safe and ends: each line leaves less of the list. Assumes nothing.
-use Rattle.vectors.proofs.Lines.{line-less}
-use Rattle.card_vectors.proofs.replay.Goals as goal
-
-pub loop-at-smaller : goal.loop-at-smaller
-loop-at-smaller g c = search (line-less)
