@@ -19,6 +19,7 @@ use stats::ChannelStats;
 // many modules and how many cells have a mark. Inside the margin, with each corrected colour
 // within half a sigma of its drawn colour, the bits read are the bits drawn; inside the margin at 9 in place of 13 so too, where
 // no refined score is a NaN. Refused: 2, 3, 4, 5, 6, 7, 8, 9, 10, 12.
+// Slices: the C interface lends them so.
 pub fn read_bits(
     layout: Layout,
     xs: &[i32],

@@ -204,6 +204,7 @@ impl Card<'_> {
 // Writes a luma score a module, three components of its corrected colour, and, with chroma on, log2(hues) scores a cell
 // and then, at cell size 1, a ring module. Reports how many modules and how many cells have a mark, each counted once. Refused: 2,
 // 3, 4, 5, 6, 7, 8, 9, 10, 12.
+// Slices: the C interface lends them so.
 pub fn score(
     layout: Layout,
     xs: &[i32],

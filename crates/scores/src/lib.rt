@@ -22,8 +22,8 @@ use stats::ChannelStats;
 
 mod samples;
 
-// Facts: that a block has at most 16 colours, and that there is room for a luma score a colour, is one comparison of two numbers; a
-// struct with the fact would be made where the comparison stands, and be no shorter.
+// Facts: that a block has at most 16 colours and ends in their list, and that there is room for a luma score a colour, is one
+// comparison of two numbers each; a struct with the fact would be made where the comparison stands, and be no shorter.
 
 // ---- luma
 
