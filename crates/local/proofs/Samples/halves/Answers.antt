@@ -9,7 +9,7 @@ use lib.Ieee.{Float, nan, binary32, of_bits, lt, add}
 use lib.ListN.{get_or, take}
 use Rattle.std.proofs.lemmas.List.{get_or-take}
 use Rattle.loops.proofs.Laws.{loops, turn_to}
-use Rattle.local.specs.Local.{y_at, mean_of, halves, halved, halve_at}
+use Rattle.local.specs.Local.{mean_of, halves, halved, halve_at}
 use Rattle.local.specs.Sums.{part, Firsts, part_at}
 use Rattle.local.specs.declared.Halves.{Halves}
 use Rattle.local.specs.declared.Window.{Window}
