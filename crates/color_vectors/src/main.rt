@@ -6,6 +6,8 @@ use std::io;
 use vectors::{Answers, Inputs};
 
 // ---- inputs and answers: the components of a colour
+//
+// Twin: each takes or puts the fields of another type, by their names.
 
 fn take_srgb8(inputs: &mut Inputs) -> Srgb8 {
     Srgb8 {

@@ -25,6 +25,7 @@ fn answer(name: &str, inputs: &mut Inputs, answers: &mut Answers) {
     }
 }
 
+// Twin: each program's `main` names its list and its functions.
 fn main(rt: HostRuntime) -> io::Result<()> {
     vectors::replay(&rt, "counts.txt", &["colour_counts"], answer)
 }

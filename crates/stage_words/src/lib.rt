@@ -22,6 +22,7 @@ use vectors::{Answers, Inputs, Value};
 // ---- inputs
 
 // Takes a colour.
+// Twin: of `take_lab`, whose fields have other names.
 #[tactic(auto, unfolding(crate::specs::Records::linear_at))]
 pub fn take_linear(inputs: &mut Inputs) -> Linear
     ensures value { result ≡ spec.linear_at inputs.old.rest.now 0 }
@@ -35,6 +36,7 @@ pub fn take_linear(inputs: &mut Inputs) -> Linear
 }
 
 // Takes a colour in Lab.
+// Twin: of `take_linear`, whose fields have other names.
 #[tactic(auto, unfolding(crate::specs::Records::lab_at))]
 pub fn take_lab(inputs: &mut Inputs) -> Lab
     ensures value { result ≡ spec.lab_at inputs.old.rest.now 0 }
@@ -239,6 +241,7 @@ pub fn put_scratch(answers: &mut Answers, scratch: &[f32], v: f32)
 
 // As much of a list's flat floats as a call for n references is lent, from which it takes its count: eight for each where these
 // are there, and else a part that is too short, its last reference not whole.
+// Slices: n is what a record asks for, and need not fit the list.
 #[tactic(auto, unfolding(crate::specs::Scratch::lent_of))]
 pub fn lent(flat: &[f32], n: usize) -> &[f32]
     ensures { result.now ≡ take (lent_of (length flat.now) n) flat.now }

@@ -49,6 +49,7 @@ fn nominal(inputs: &mut Inputs, answers: &mut Answers) {
 }
 
 // hue_log_likelihoods STATS PALETTE hues l a b |out| = no |out|', past the hues
+// Slices: the public call takes a palette and its hues so.
 fn hue_log_likelihoods(
     noise: ChannelStats,
     palette: &[f32],

@@ -91,6 +91,7 @@ impl<'a> Inputs<'a> {
 }
 
 // The answers of a record so far: a word each, and how many these are. Past `ROOM` of them there is no place.
+// Slices: a slice that is written to keeps its length, and these grow.
 #[derive(Clone, Copy, Debug)]
 pub struct Answers {
     pub words: [u64; ROOM],

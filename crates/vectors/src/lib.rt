@@ -29,6 +29,8 @@ pub use value::Value;
 pub const NOT_READ: usize = 31;
 
 // ---- lines and names
+//
+// Slices: a text and a place in it, since the format's definitions speak of places, and the report goes back to them.
 
 // The byte at a place, and 0 past the end.
 pub fn byte(text: &[u8], at: usize) -> u8
@@ -172,6 +174,7 @@ pub fn word_from(text: &[u8], at: usize) -> Word
 }
 
 // A run of words: how many there are, and where they end in the text.
+// Slices: the words themselves stand in the caller's row.
 #[derive(Clone, Copy, Debug)]
 pub struct Run {
     pub count: usize,

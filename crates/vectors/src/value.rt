@@ -129,10 +129,12 @@ impl Value for usize {
     ghost word_of = { λ v. v };
 
     fn of_word(word: u64) -> usize {
+        // By hand: From has no conversion from u64 to usize.
         word as usize
     }
 
     fn word(self) -> u64 {
+        // By hand: From has no conversion from usize to u64.
         self as u64
     }
 }
