@@ -52,6 +52,7 @@ fn answer(name: &str, inputs: &mut Inputs, answers: &mut Answers) {
     }
 }
 
+// Twin: each program's main names its own list and its own functions.
 fn main(rt: HostRuntime) -> io::Result<()> {
     vectors::replay(&rt, "demod.txt", &["score"], answer)
 }

@@ -93,6 +93,7 @@ fn answer(name: &str, inputs: &mut Inputs, answers: &mut Answers) {
     }
 }
 
+// Twin: each program's main names its own list and its own functions.
 fn main(rt: HostRuntime) -> io::Result<()> {
     let functions = ["identity", "correct", "fit", "basis", "deshade"];
     vectors::replay(&rt, "illum.txt", &functions, answer)

@@ -22,6 +22,7 @@ fn luma_mask_row(inputs: &mut Inputs) -> u64 {
     let y = inputs.take();
     let count: u64 = inputs.take();
     let mut bits = 0;
+    // By index: i is the number of a bit.
     for i in 0..64u64 {
         if i < count && symbols::luma_mask(id, u16::of_word(x.wrapping_add(i)), y) {
             bits |= 1 << i;
