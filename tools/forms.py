@@ -5,7 +5,9 @@
     tools/forms.py COMMIT       counts of a commit
     tools/forms.py --list [..]  each place too, a line each
 
-A place is found by its text alone: what a pattern finds need not be wrong, and what is kept says why beside it.
+A place is found by its text alone: what a pattern finds need not be wrong. What is kept says why in a comment line that
+begins with its point's word (WORDS): in the lines above the place, above its function, at the head of its section
+(`// ---- ..`) or at the head of its file. For each point: places found, kept with such a line, and left.
 """
 import re
 import subprocess
@@ -43,6 +45,37 @@ def bare(text):
     return "".join(out)
 
 
+WORDS = {"1": "Structs of C", "2": "Twin", "3": "By index", "4": "By hand", "5": "Slices|Facts", "6": "Slices", "7": "Switch"}
+
+
+def is_kept(point, lines, number):
+    """Whether a line that begins with the point's word stands where it speaks of line `number`, counted from 1."""
+    word = re.compile(r"^\s*// (?:" + WORDS[point] + r"): ")
+    above = number - 2
+    spoken = [lines[number - 1]] + lines[max(0, number - 2):number - 1]
+    # up to the comment of the function that the place is in
+    i = above
+    while i >= 0 and not re.match(r"\s*(pub )?(const )?(extern \"C\" )?fn |\s*(pub )?(struct|enum) |// ----", lines[i]):
+        if lines[i].strip().startswith("//"):
+            spoken.append(lines[i])
+        i -= 1
+    while i > 0 and re.match(r"\s*(//|#\[)", lines[i - 1]):
+        spoken.append(lines[i - 1])
+        i -= 1
+    # the head of the section, and of the file
+    while i >= 0 and not lines[i].startswith("// ----"):
+        i -= 1
+    j = i + 1
+    while i >= 0 and j < len(lines) and (lines[j].startswith("//") or not lines[j].strip()):
+        spoken.append(lines[j])
+        j += 1
+    j = 0
+    while j < len(lines) and lines[j].startswith("//"):
+        spoken.append(lines[j])
+        j += 1
+    return any(word.match(line) for line in spoken)
+
+
 FUNCTION = re.compile(r"(?:pub )?(?:const )?(?:extern \"C\" )?fn (\w+)")
 
 
@@ -65,10 +98,16 @@ def functions(path, text):
         yield m.group(1), text.count("\n", 0, m.start()) + 1, text[i + 1:j - 1], text[k:e], text[j:k]
 
 
+def note(found, key, path, line, what):
+    """One place: what is printed of it, and where it stands."""
+    found[key].append((f"{path}:{line}: {what}", [(path, line)]))
+
+
 def grep(found, key, path, text, pattern):
     for m in re.finditer(pattern, text, re.M):
-        line = text.count("\n", 0, m.start()) + 1
-        found[key].append(f"{path}:{line}: {text.splitlines()[line - 1].strip()}")
+        start = m.start() + len(m.group(0)) - len(m.group(0).lstrip())
+        line = text.count("\n", 0, start) + 1
+        note(found, key, path, line, text.splitlines()[line - 1].strip())
 
 
 KEYWORDS = set("if else for in while return let mut match true false as fn pub self usize u8 u16 u32 u64 i16 i32 i64 f32 f64 bool".split())
@@ -101,16 +140,16 @@ def count(commit):
         grep(found, "1 a flag or a number beside what it is about", path, code, r"^\s+(pub )?(solved|found|known|bad|number): (bool|u32),")
         for name, line, params, body, result in functions(path, code):
             if re.search(r"->\s*u32", result) and re.match(r"refused|number", name):
-                found["1 functions that answer a refusal's number"].append(f"{path}:{line}: fn {name}")
+                note(found, "1 functions that answer a refusal's number", path, line, f"fn {name}")
             s = shape(body)
             if len(s) > 24:
-                shapes[" ".join(s)].append(f"{path}:{line}: fn {name}")
+                shapes[" ".join(s)].append((path, line, f"fn {name}"))
             names = re.findall(r"(\w+)\s*:", params)
             for pair in (("palette", "hues"), ("xs", "ys"), ("cxs", "cys"), ("flat", "n"), ("noise", "palette"), ("ata", "atb"), ("side", "grid"), ("text", "at")):
                 if all(n in names for n in pair):
-                    found["5 parameters together: " + ", ".join(pair)].append(f"{path}:{line}: fn {name}")
+                    note(found, "5 parameters together: " + ", ".join(pair), path, line, f"fn {name}")
             if ("xs" in names and "ys" in names) or ("cxs" in names and "cys" in names):
-                found["6 parallel slices"].append(f"{path}:{line}: fn {name}")
+                note(found, "6 parallel slices", path, line, f"fn {name}")
         # 3: loops
         for m in re.finditer(r"\bwhile\b[^{]*\{", code):
             depth, e = 1, m.end()
@@ -121,7 +160,7 @@ def count(commit):
             tested = set(re.findall(r"\w+", code[m.start():m.end()]))
             steps = re.findall(r"^\s*(\w+) (?:\+=|-=) \w+;|^\s*(\w+) = (?:\w+ [+-] \w+);", block, re.M)
             if any((a or b) in tested for a, b in steps):
-                found["3 `while` that counts"].append(f"{path}:{code.count(chr(10), 0, m.start()) + 1}: {m.group(0)}")
+                note(found, "3 `while` that counts", path, code.count("\n", 0, m.start()) + 1, m.group(0))
         for m in re.finditer(r"\bfor (\w+) in ([^{;]*?\.\.[^{;]*?)\{", code):
             depth, e = 1, m.end()
             while depth and e < len(code):
@@ -129,7 +168,7 @@ def count(commit):
                 e += 1
             block = code[m.end():e]
             if re.search(r"\b" + m.group(1) + r"\b", block):
-                found["3 `for` over a range of indices"].append(f"{path}:{code.count(chr(10), 0, m.start()) + 1}: {m.group(0)}")
+                note(found, "3 `for` over a range of indices", path, code.count("\n", 0, m.start()) + 1, m.group(0))
         # 4: by hand what a derive or a conversion gives
         grep(found, "4 widening `as`", path, code, r"\b\w+(\.\w+)? as (usize|u64|i64|f64)\b")
         grep(found, "4 structs and enums with no Debug", path, code, r"#\[derive\((?![^)]*Debug)[^)]*\)\]")
@@ -140,18 +179,18 @@ def count(commit):
         for name, line, params, body, result in functions(path, code):
             n = len(re.findall(r"\bif (\w+) == \d+ \{\s*return", body))
             if n > 2:
-                found["7 switches by tests on a number"].append(f"{path}:{line}: fn {name} ({n})")
+                note(found, "7 switches by tests on a number", path, line, f"fn {name} ({n})")
         # 5: facts that stand in the contracts of three functions or more
         for m in re.finditer(r"requires[^{\n]*\{ (.*) \}$", text, re.M):
             for fact in re.split(r" × ", m.group(1)):
-                facts[(path.split("/")[1], fact.strip("() "))].add(text.count("\n", 0, m.start()))
+                facts[(path.split("/")[1], fact.strip("() "))].add((path, text.count("\n", 0, m.start()) + 1))
     for key, places in shapes.items():
         if len(places) > 1:
             for place in places:
-                found["2 functions of one shape"].append(place)
-    for (crate, fact), lines in sorted(facts.items()):
-        if len(lines) > 2:
-            found["5 facts in three contracts or more"].append(f"{crate}: {fact} ({len(lines)})")
+                note(found, "2 functions of one shape", *place)
+    for (crate, fact), stands in sorted(facts.items()):
+        if len(stands) > 2:
+            found["5 facts in three contracts or more"].append((f"{crate}: {fact} ({len(stands)})", sorted(stands)))
     return found
 
 
@@ -159,12 +198,16 @@ def main():
     args = sys.argv[1:]
     listing = "--list" in args
     args = [a for a in args if a != "--list"]
-    found = count(args[0] if args else None)
+    commit = args[0] if args else None
+    found = count(commit)
+    lines = {path: text.splitlines() for path, text in sources(commit)}
     for key in sorted(found):
-        print(f"{key}: {len(found[key])}")
+        kept = {place for place, stands in found[key] if all(is_kept(key[0], lines[path], line) for path, line in stands)}
+        places = [place for place, _ in found[key]]
+        print(f"{key}: {len(places)}, kept {sum(p in kept for p in places)}, left {sum(p not in kept for p in places)}")
         if listing:
-            for place in found[key]:
-                print("    " + place)
+            for place in places:
+                print("    " + ("kept " if place in kept else "     ") + place)
 
 
 main()
