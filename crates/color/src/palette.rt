@@ -170,6 +170,7 @@ pub fn palette_lab(palette: &[f32], hues: usize, index: usize) -> Lab
 }
 
 // Core: colour i of a list that has three numbers for each.
+// Twin: of `observed::lab_at`, whose three numbers are a Lab's; one function for both would need a trait of three numbers.
 #[tactic(auto, unfolding(crate::specs::Palette::linear_at))]
 pub fn linear_at(colours: &[f32], i: usize) -> Linear
     requires { 3 * i + 2 < length colours.now }

@@ -42,5 +42,5 @@ const LINEAR: [u32; 256] = [
 pub fn srgb_to_linear(v: u8) -> f32
     ensures { result ≡ spec.srgb_to_linear v }
 {
-    f32::from_bits(LINEAR[v as usize])
+    f32::from_bits(LINEAR[usize::from(v)])
 }

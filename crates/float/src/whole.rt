@@ -1,5 +1,6 @@
 // Whole parts of roots of whole numbers: a guess by floats, of which nothing is trusted, an exact test of it,
 // and the slow way behind it where the test fails.
+// Facts: a < 2 ^ 27 is the range in which each root here is right, and nothing that a value carries with it.
 ghost use Rattle.std.specs.Prelude.{◌≡◌, ◌+◌, ◌*◌, ◌^◌, ◌<◌, ◌≤◌, true};
 
 use super::rows;

@@ -5,6 +5,9 @@
 // A group is a list of sentences (specs/Groups.antt), which a call's own list is joined from by `++`; a function that
 // answers the refusal of its first sentence that holds; and a record of what holds where it is passed. The ruleset
 // `layouts` (proofs/Laws.antt) proves a call's `refused` over groups and sentences of its own, one test for each.
+//
+// Slices: coordinates come as two lists, since the C interface lends them so; a call that was not refused makes `Modules`
+// and `Cells` of them.
 #![tactic(auto)]
 
 ghost use Rattle.std.specs.Prelude.{◌≡◌, ◌*◌, ◌+◌, ◌<◌, ◌≤◌, eqb, pos, length, get_or};

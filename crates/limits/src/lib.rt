@@ -57,6 +57,7 @@ pub fn bad_cell(cx: u16, cy: u16) -> bool
 }
 
 // Core: sentence 7, of all listed cells: one has a coordinate above 1,023.
+// Slices: two lists, since the C interface lends them so.
 pub fn bad_cells(cxs: &[u16], cys: &[u16]) -> bool
     requires { length cxs.now ≡ length cys.now }
     ensures { result ≡ bad_cells cxs.now cys.now }

@@ -2,9 +2,11 @@
 // the normal equations, in f64. Every float is taken, NaN included. Each function is its definition of specs/,
 // bit for bit and in the order of the Rust's operations.
 //
-// Matrices are row by row: row r and column k of an n by n matrix stand at r * n + k. A matrix and its right-hand side are
-// parameters, and no struct: one that held the two slices would have to promise in each contract that they are still the
-// same ones. Loops go over rows and columns, which are not the places of the slice.
+// Matrices are row by row: row r and column k of an n by n matrix stand at r * n + k.
+// Slices: a matrix and its right-hand side are parameters, and no struct: one that held the two slices would have to
+// promise in each contract that they are still the same ones.
+// Facts: of that matrix, with the row or column that a step is at.
+// By index: loops go over rows and columns, which are not the places of the slice.
 #![tactic(auto)]
 
 ghost use Rattle.std.specs.Prelude.{◌≡◌, ◌*◌, ◌<◌, ◌≤◌, ltb, length};
@@ -73,6 +75,7 @@ fn pivot_row(a: &[f64], n: usize, col: usize) -> usize
 }
 
 // Exchanges rows r and q.
+// By hand: `swap_with_slice` wants the two rows apart, and they are parts of one slice, in either order.
 fn swap_rows(a: &mut [f64], n: usize, r: usize, q: usize)
     requires { (r < n) × (q < n) × (n * n ≤ length a.old) }
     ensures { a.new ≡ spec.swap_rows n r q a.old }
