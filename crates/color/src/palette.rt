@@ -143,34 +143,7 @@ pub fn level_l(palette: &[f32], level: usize) -> f32
     palette[level]
 }
 
-// Core: the point of hue h.
-#[tactic(auto, unfolding(crate::specs::Palette::hue_ab))]
-pub fn hue_ab(palette: &[f32], hues: usize, h: usize) -> Ab
-    requires { (h < hues) × (spec.palette_len hues ≤ length palette.now) }
-    ensures { result ≡ spec.hue_ab palette.now h }
-{
-    Ab {
-        a: palette[2 + 2 * h],
-        b: palette[3 + 2 * h],
-    }
-}
-
-// Core: the Lab of a colour by its place, below 2 × hues.
-#[tactic(auto, unfolding(crate::specs::Palette::palette_lab))]
-pub fn palette_lab(palette: &[f32], hues: usize, index: usize) -> Lab
-    requires { (index < 2 * hues) × (spec.palette_len hues ≤ length palette.now) }
-    ensures { result ≡ spec.palette_lab palette.now hues index }
-{
-    let at = 2 + 2 * hues + 3 * index;
-    Lab {
-        l: palette[at],
-        a: palette[at + 1],
-        b: palette[at + 2],
-    }
-}
-
 // Core: colour i of a list that has three numbers for each.
-// Twin: of `observed::lab_at`, whose three numbers are a Lab's; one function for both would need a trait of three numbers.
 #[tactic(auto, unfolding(crate::specs::Palette::linear_at))]
 pub fn linear_at(colours: &[f32], i: usize) -> Linear
     requires { 3 * i + 2 < length colours.now }
@@ -213,12 +186,4 @@ pub fn wild_in(values: &[f32], n: usize) -> bool
     ensures { result ≡ spec.wild_in values.now n }
 {
     values[..n].iter().any(|&v| wild(v))
-}
-
-// Core: sentence 8 of a palette: one of its 2 + 8 × hues numbers is wild.
-pub fn wild_palette(palette: &[f32], hues: usize) -> bool
-    requires { spec.palette_len hues ≤ length palette.now }
-    ensures { result ≡ spec.wild_palette palette.now hues }
-{
-    wild_in(palette, 2 + 8 * hues)
 }

@@ -127,6 +127,7 @@ impl Division<'_> {
 }
 
 // ---- the call
+// Slices: as the C interface lends them.
 
 // How many counts there are: one a level and hue class, and the last.
 fn classes(hues: usize) -> usize

@@ -175,6 +175,7 @@ impl<'a> Card<'a> {
 }
 
 // ---- the call
+// Slices: as the C interface lends them.
 
 impl Card<'_> {
     // Writes what an accepted call writes: the modules' colours and luma scores, and then the chroma scores. Says what the call reports.

@@ -202,6 +202,7 @@ pub fn in_margin(threshold: f32, channel: &Channel) -> bool
 }
 
 // ---- the calls
+// Slices: as the C interface lends them.
 
 // The margin check at a setting: whether every dark and light colour still scores 13, or 9, half a sigma
 // off, and, with chroma on, every colour stands near its hue's point and far from the others. Refused: 3, 5,

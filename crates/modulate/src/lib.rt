@@ -165,6 +165,7 @@ pub fn chroma_bit_llrs(ll: &[f32], cell: Cell, hues: usize, out: &mut [f32]) -> 
 }
 
 // ---- unmasking
+// Slices: as the C interface lends them.
 
 // Whether the mask turns grid module i.
 fn masked_at(mask: u8, modules: &Modules, i: usize) -> bool
@@ -313,6 +314,7 @@ pub fn ring_hue(symbol: usize, hues: usize) -> Result<usize, Refusal>
 }
 
 // ---- drawing: the whole list
+// Slices: as the C interface lends them.
 
 // What a card is drawn from: its bits, and where its modules and cells stand.
 #[derive(Clone, Copy, Debug)]

@@ -77,6 +77,7 @@ fn flatten<'a>(refs: &[Reference], flat: &'a mut [f32; 131072]) -> &'a [f32]
 }
 
 // ---- the calls
+// Slices: as the C interface lends them.
 
 // Fits the model to references for a card of this side and version, and marks those that were kept: what `fit::fit_flat` gives of
 // the same floats. Kept has a byte a reference. Scratch of 4 × references is all zero afterwards. The tails of both stay. Refused by

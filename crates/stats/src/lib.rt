@@ -13,7 +13,7 @@ ghost use Rattle.stats.specs.Calls as call;
 
 use answers::Refusal;
 use color::Lab;
-use color::palette::{Palette, beyond, level_l, wild_palette};
+use color::palette::{Palette, beyond, level_l};
 
 // What was measured of the channel: the observed L of the dark and the light level, the luma noise, the
 // chroma noise pooled over both levels and that of each level (0 where it was not measured), and the
@@ -222,6 +222,7 @@ impl<'a> Channel<'a> {
 }
 
 // ---- the sentences
+// Slices: what is looked at as the C interface lends it, of which nothing is known yet.
 
 // Core: sentence 5, of a palette: it is shorter than 2 + 8 × hues.
 #[tactic(auto, unfolding(crate::specs::Calls::short_palette))]
@@ -297,7 +298,7 @@ fn check_palette(palette: &[f32], hues: usize) -> Result<(), Refusal>
     if short_palette(palette, hues) {
         return Err(Refusal::Length);
     }
-    if wild_palette(palette, hues) {
+    if Palette::new(palette, hues).is_wild() {
         return Err(Refusal::Number);
     }
     Ok(())
@@ -345,6 +346,7 @@ fn check_likelihoods(
 }
 
 // ---- the public calls
+// Slices: as the C interface lends them.
 
 impl ChannelStats {
     // The chroma noise at lightness l, between those of the two levels by where l stands between them;
