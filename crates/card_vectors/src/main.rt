@@ -10,6 +10,7 @@ use std::{fs, io};
 use vectors::Compared;
 
 // What a card's listing and the one wanted come to; `at` is the example's place in the list.
+// Slices: `at` is a place in the list, and not in the text.
 fn beside(text: &[u8], wanted: &[u8], at: usize) -> Compared {
     let agree = text.iter().zip(wanted).take_while(|(t, w)| t == w).count();
     Compared {

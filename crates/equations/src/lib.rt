@@ -1,5 +1,6 @@
 // One pass's equations of the fit (illum.rs, `fit_once`): the gain and flare surfaces of each channel, then the affine part over
 // the de-shaded observations. The rows of live references go into one matrix of 324 doubles as they come.
+// Facts: i is a reference's place, which the loop over them bounds, and t a number of terms, at most 9: each an argument, which has no struct.
 #![tactic(auto)]
 
 ghost use Rattle.std.specs.Prelude.{◌≡◌, ◌+◌, ◌*◌, ◌<◌, ◌≤◌, length};

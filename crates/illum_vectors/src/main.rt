@@ -34,6 +34,7 @@ fn correct(inputs: &mut Inputs, answers: &mut Answers) {
 }
 
 // The call that a record's floats and count make, with room for the marks of up to 256 references.
+// Slices: what the record lends, as the call takes it.
 fn fitted(
     flat: &[f32],
     n: usize,

@@ -612,6 +612,7 @@ fn check(
 }
 
 // ---- the calls
+// Slices: as the C interface lends them.
 
 // Core: measures n references, which stand in flat where there are no more than 16,384 of them. Refused by 2, 3, 5 (the palette
 // or scratch too short), 6, 7, 8, 10 and 12.

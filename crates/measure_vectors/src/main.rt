@@ -14,6 +14,7 @@ use std::io;
 use vectors::{Answers, Inputs};
 
 // The call that a record's floats and count make.
+// Slices: what the record lends, as the call takes it.
 fn measured(
     flat: &[f32],
     n: usize,

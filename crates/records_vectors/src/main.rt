@@ -36,6 +36,7 @@ fn fit_first(
 }
 
 // `records::measure` of the first n references.
+// Slices: what the record lends, as the call takes it.
 fn measure_first(
     rs: [Reference; 64],
     n: usize,

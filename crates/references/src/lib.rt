@@ -2,6 +2,7 @@
 // sentences 6, 7 and 8 of them, and the scratch of 4 × references that is lent with them.
 // Behind a call's refusals the floats and their count are a `References`.
 // Slices: the C interface lends the floats and their count apart, and so `check_references` takes them.
+// Facts: i is a reference's place, which the caller's loop bounds; a side is one number with one limit.
 #![tactic(auto)]
 
 ghost use Rattle.std.specs.Prelude.{◌≡◌, ◌+◌, ◌*◌, ◌<◌, ◌≤◌, length};

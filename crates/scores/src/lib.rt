@@ -86,6 +86,7 @@ impl Meter<'_> {
         requires { (weighted self.now.channel.palette.hues ≡ true) × (colours.now.n ≤ length luma.old) }
         ensures { luma.new ≡ spec.write_lumas self.now.channel.noise self.now.channel.palette.numbers.now self.now.channel.palette.hues (linear_at colours.now.numbers.now) colours.now.n luma.old }
     {
+        // By index: a block is known by the place of its first colour.
         for from in (0..colours.n).step_by(16) {
             self.luma_block(colours, from, usize::min(16, colours.n - from), luma);
         }
@@ -231,6 +232,7 @@ impl ChromaCard<'_> {
     {
         let n = self.seen.cells.len();
         let mut held = 0;
+        // By index: a block is known by the place of its first colour.
         for from in (0..n).step_by(16) {
             held = self.cell_block(model, from, usize::min(16, n - from), held, chroma);
         }
@@ -258,6 +260,7 @@ impl ChromaCard<'_> {
             chroma.new ≡ spec.write_rings c.noise c.palette.numbers.now c.palette.hues (length self.now.seen.cells.cxs.now) self.now.modules.grid (linear_at self.now.colours.now) (length self.now.modules.xs.now) chroma.old }
     {
         let m = self.modules.len();
+        // By index: a block is known by the place of its first colour.
         for from in (self.modules.grid..m).step_by(16) {
             self.ring_block(from, usize::min(16, m - from), chroma);
         }

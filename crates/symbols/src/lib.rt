@@ -34,6 +34,7 @@ pub fn gray_inverse(g: usize) -> usize
 }
 
 // A hue count that sentence 3 lets pass: at least one hue, and so few that no sum of two hues wraps.
+// Slices: `count` is of hues, and no length of a buffer.
 #[derive(Clone, Copy, Debug)]
 pub struct Hues {
     pub count: usize,
@@ -95,6 +96,7 @@ impl Hues {
 }
 
 // The hue state of a chroma symbol: neighbours on the colour wheel differ in one bit of the symbol. Refused: 3.
+// Twin: of `hue_to_chroma_symbol`.
 pub fn chroma_symbol_to_hue(symbol: usize, hues: usize) -> Result<usize, Refusal>
     ensures { said result ≡ answered (hues_only hues) (gray_code.chroma_symbol_to_hue symbol hues) }
 {
@@ -169,6 +171,7 @@ pub fn chroma_rotation(cx: u16, cy: u16, hues: usize) -> Result<usize, Refusal>
 }
 
 // The hue that the cell (cx, cy) draws for `hue`, of which the remainder by `hues` counts. Refused: 3, 7.
+// Twin: of `chroma_mask_remove`.
 pub fn chroma_mask_apply(hue: usize, cx: u16, cy: u16, hues: usize) -> Result<usize, Refusal>
     ensures { said result ≡ answered (hues_and_cell hues cx cy) (masks.chroma_mask_apply hue cx cy hues) }
 {
