@@ -155,7 +155,7 @@ def count(commit):
             if re.search(r"->\s*u32", result) and re.match(r"refused|number", name):
                 note(found, "1 functions that answer a refusal's number", path, line, f"fn {name}")
             s = shape(body)
-            if len(s) > 24 and name != "main":  # a program's `main` names its list and its functions
+            if len(s) > 24:
                 shapes[" ".join(s)].append((path, line, f"fn {name}"))
             names = re.findall(r"(\w+)\s*:", params)
             for pair in (("palette", "hues"), ("xs", "ys"), ("cxs", "cys"), ("flat", "n"), ("noise", "palette"), ("ata", "atb"), ("side", "grid"), ("text", "at")):

@@ -9,7 +9,6 @@ use vectors::{Answers, Inputs};
 //
 // Twin: each takes or puts the fields of another type, by their names.
 
-// Twin: three numbers each of a struct of its own: one function for all would need a trait of three fields.
 fn take_srgb8(inputs: &mut Inputs) -> Srgb8 {
     Srgb8 {
         r: inputs.take(),
@@ -18,7 +17,6 @@ fn take_srgb8(inputs: &mut Inputs) -> Srgb8 {
     }
 }
 
-// Twin: three numbers each of a struct of its own: one function for all would need a trait of three fields.
 fn take_xyz(inputs: &mut Inputs) -> Xyz {
     Xyz {
         x: inputs.take(),

@@ -7,8 +7,6 @@
 // written 7FC00000 (f32) or 7FF8000000000000 (f64), and `word_of_f32` and `word_of_f64` write every NaN so.
 //
 // One row of words holds the inputs of a record, another the answers that it wants, and a third those got.
-// Slices: a place in the text stands for its record until the report prints the record's line; a struct of the text and a place would be
-// taken apart in each function.
 #![tactic(auto)]
 
 ghost use Rattle.std.specs.Prelude.{◌≡◌, ◌+◌, ◌*◌, ◌%◌, ◌<◌, ◌≤◌, ◌==◌, not, min, length, take, take_while, slice_index};

@@ -123,7 +123,6 @@ impl Value for u64 {
 }
 
 // A word as a count.
-// By hand: `From` has no conversion between u64 and usize.
 impl Value for usize {
     ghost value_of = { λ w. w };
 
