@@ -7,6 +7,7 @@
 // written 7FC00000 (f32) or 7FF8000000000000 (f64), and `word_of_f32` and `word_of_f64` write every NaN so.
 //
 // One row of words holds the inputs of a record, another the answers that it wants, and a third those got.
+// Slices: a text and a place in it, since the format's definitions speak of places, and the report goes back to them.
 #![tactic(auto)]
 
 ghost use Rattle.std.specs.Prelude.{◌≡◌, ◌+◌, ◌*◌, ◌%◌, ◌<◌, ◌≤◌, ◌==◌, not, min, length, take, take_while, slice_index};
@@ -30,7 +31,6 @@ pub const NOT_READ: usize = 31;
 
 // ---- lines and names
 //
-// Slices: a text and a place in it, since the format's definitions speak of places, and the report goes back to them.
 
 // The byte at a place, and 0 past the end.
 pub fn byte(text: &[u8], at: usize) -> u8
