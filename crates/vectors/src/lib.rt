@@ -30,7 +30,6 @@ pub use value::Value;
 pub const NOT_READ: usize = 31;
 
 // ---- lines and names
-//
 
 // The byte at a place, and 0 past the end.
 pub fn byte(text: &[u8], at: usize) -> u8
