@@ -1,6 +1,7 @@
 // One pass's equations of the fit (illum.rs, `fit_once`): the gain and flare surfaces of each channel, then the affine part over
 // the de-shaded observations. The rows of live references go into one matrix of 324 doubles as they come.
-// Facts: i is a reference's place, which the loop over them bounds, and t a number of terms, at most 9: each an argument, which has no struct.
+// Facts: i is a reference's place, which the loop over them bounds, and t a number of terms, at most 9: each an argument,
+// which has no struct.
 #![tactic(auto)]
 
 ghost use Rattle.std.specs.Prelude.{◌≡◌, ◌+◌, ◌*◌, ◌<◌, ◌≤◌, length};
@@ -100,6 +101,7 @@ impl Equations {
 // ---- stage 1: forward gain and flare surfaces, per channel
 
 // The basis times the nominal value, at the start of a row.
+// Twin: of `append_terms`; one body would take a place and a factor, and multiply by 1 where there is no product.
 fn scale_terms(row: &mut [f64; 18], b: [f64; 9], t: usize, nominal: f64)
     requires { t ≤ 9 }
     ensures { row.new ≡ spec.scaled b t nominal row.old }
@@ -110,6 +112,7 @@ fn scale_terms(row: &mut [f64; 18], b: [f64; 9], t: usize, nominal: f64)
 }
 
 // The basis itself after them.
+// Twin: of `scale_terms`.
 fn append_terms(row: &mut [f64; 18], b: [f64; 9], t: usize)
     requires { t ≤ 9 }
     ensures { row.new ≡ spec.appended b t row.old }
@@ -192,6 +195,7 @@ impl Plan {
 }
 
 // The model with other surfaces.
+// By hand: the borrow checker takes no `..m` of a record whose fields are arrays.
 fn with_surfaces(m: IlluminationModel, r: Surface, g: Surface, b: Surface) -> IlluminationModel
     ensures { result ≡ spec.with_surfaces m r g b }
 {
@@ -212,6 +216,7 @@ fn with_surfaces(m: IlluminationModel, r: Surface, g: Surface, b: Surface) -> Il
 }
 
 // The model with another affine part.
+// By hand: as `with_surfaces`.
 fn with_affine(m: IlluminationModel, a: Affine) -> IlluminationModel
     ensures { result ≡ spec.with_affine m a }
 {

@@ -11,6 +11,7 @@ pub fn is_live(mark: f32) -> bool
 }
 
 // Core: how many marks are those of live references.
+// Twin: of `order::count_of`, which counts in u32 what a closure lets pass, in at most 4,096 values.
 pub fn live_count(live: &[f32]) -> usize
     ensures { (result ≡ spec.live_count live.now (length live.now)) × (result ≤ length live.now) }
 {

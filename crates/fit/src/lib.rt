@@ -24,9 +24,11 @@ use references::References;
 
 // ---- the passes. Of their scratch, 4 floats a reference, the first n are the live marks, the next n the residuals, and the rest
 // is room for a median.
-// Facts: the slices' lengths stand in each clause, since a struct that held them would have to keep their ghost names in each.
+// Facts: each function is lent another choice of the three, some shared and some to write; a struct of all three could not lend the
+// marks to a `Selection` while the residuals are written.
 
 // The model with another residual.
+// By hand: the borrow checker takes no `..m` of a record whose fields are arrays.
 fn with_rms(m: IlluminationModel, rms: f32) -> IlluminationModel
     ensures { result ≡ spec.with_rms m rms }
 {
@@ -36,6 +38,7 @@ fn with_rms(m: IlluminationModel, rms: f32) -> IlluminationModel
 }
 
 // The model with other counts.
+// By hand: as `with_rms`.
 fn with_counts(m: IlluminationModel, rejected: u32, kept: u32) -> IlluminationModel
     ensures { result ≡ spec.with_counts m rejected kept }
 {
@@ -59,7 +62,7 @@ fn run_pass(
     selection: &Selection,
     residuals: &mut [f32],
 ) -> Result<Option<IlluminationModel>, Refusal>
-    requires { length residuals.old ≡ selection.now.references.n }
+    requires { (length residuals.old ≡ selection.now.references.n) × (selection.now.references.n ≤ 16384) }
     ensures passed { result ≡ spec.pass_of m selection.now.references.flat.now selection.now.marks.now selection.now.references.n }
     ensures residuals { IfOk result (λ o. IfSome o (λ model. residuals.new ≡ residuals_of model selection.now.references.flat.now selection.now.references.n)) }
 {
@@ -101,7 +104,8 @@ fn refit(
     residuals: &mut [f32],
     room: &mut [f32],
 ) -> Result<IlluminationModel, Refusal>
-    requires { (length live.old ≡ references.n) × (length residuals.old ≡ references.n) × (2 * references.n ≤ length room.old) }
+    requires lengths { (length live.old ≡ references.n) × (length residuals.old ≡ references.n) × (2 * references.n ≤ length room.old) }
+    requires few { references.n ≤ 16384 }
     ensures { ran (model_said result) live.new ≡ spec.refitted m references.entry.flat.now residuals.old live.old references.entry.n }
 {
     let first = drop_outliers(m, live, residuals, room);
@@ -127,6 +131,7 @@ fn fit_live(
 ) -> Result<IlluminationModel, Refusal>
     requires lengths { (length live.old ≡ references.n) × (length residuals.old ≡ references.n) × (2 * references.n ≤ length room.old) }
     requires side { side ≤ 1024 }
+    requires few { references.n ≤ 16384 }
     ensures { ran (model_said result) live.new ≡ spec.fitted references.entry.flat.now references.entry.n side terms }
 {
     residuals::revive(live);

@@ -35,19 +35,18 @@ impl From<Primary> for usize {
     }
 }
 
-// The floats of references and how many they are, which the floats reach for and sentence 6 lets pass.
+// The floats of references and how many they are, which the floats reach for.
 #[derive(Clone, Copy, Debug)]
 pub struct References<'a> {
     pub flat: &'a [f32],
     pub n: usize,
     ghost stand: { 8 * n ≤ length flat.now },
-    ghost few: { n ≤ 16384 },
 }
 
 impl<'a> References<'a> {
-    // Core: n references, not too many, of floats that are long enough for them.
+    // Core: n references of floats that are long enough for them.
     pub fn new(flat: &'a [f32], n: usize) -> References<'a>
-        requires { (8 * n ≤ length flat.now) × (n ≤ 16384) }
+        requires { 8 * n ≤ length flat.now }
         ensures { (result.flat.now ≡ flat.now) × (result.n ≡ n) }
     {
         References { flat, n }
@@ -84,6 +83,7 @@ impl<'a> References<'a> {
     }
 
     // Core: a channel of the observed colour of reference i.
+    // Twin: of `nominal_of`; each reads one float, three places apart, and what both would call has the same body.
     pub fn observed_of(&self, channel: Primary, i: usize) -> f32
         requires { i < self.now.n }
         ensures { result ≡ spec.observed_of self.now.flat.now (spec.place_of channel) i }
@@ -92,6 +92,7 @@ impl<'a> References<'a> {
     }
 
     // Core: a channel of the nominal colour of reference i.
+    // Twin: of `observed_of`.
     pub fn nominal_of(&self, channel: Primary, i: usize) -> f32
         requires { i < self.now.n }
         ensures { result ≡ spec.nominal_of self.now.flat.now (spec.place_of channel) i }
@@ -118,6 +119,7 @@ impl<'a> References<'a> {
     // ---- sentence 7
 
     // Reference i is misplaced.
+    // Twin: of `near`'s, whose positions stand two floats apart; one over both would take a stride and a slice for one line.
     #[tactic(auto, unfolding(crate::specs::References::misplaced_at))]
     fn misplaced(&self, side: usize, i: usize) -> bool
         requires { (side ≤ 1024) × (i < self.now.n) }
@@ -146,6 +148,7 @@ impl<'a> References<'a> {
     }
 
     // Core: sentence 8 of `fit`, one of the references has a colour that is not finite.
+    // Twin: of `wild_colours`; both share `colour_is`, and each one's closure names a definition of its own.
     pub fn bad_colours(&self) -> bool
         ensures { result ≡ spec.bad_colours self.now.flat.now self.now.n }
     {
@@ -158,6 +161,7 @@ impl<'a> References<'a> {
     }
 
     // Core: sentence 8 of other calls, one of the references has a component above 1,048,576 in magnitude, or such a colour.
+    // Twin: of `bad_colours`.
     pub fn wild_colours(&self) -> bool
         ensures { result ≡ spec.wild_colours self.now.flat.now self.now.n }
     {

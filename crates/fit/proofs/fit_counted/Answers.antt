@@ -86,6 +86,9 @@ fit_live-fitted-requires-clause-lengths c = (
 pub fit_live-fitted-requires-clause-side : goal.fit_live-fitted-requires-clause-side
 fit_live-fitted-requires-clause-side c = (accepted _ _ _ _ _ _ c.in_ok-check.ensures).side-most
 
+pub fit_live-fitted-requires-clause-few : goal.fit_live-fitted-requires-clause-few
+fit_live-fitted-requires-clause-few c = (accepted _ _ _ _ _ _ c.in_ok-check.ensures).few
+
 pub write_marks-requires : goal.write_marks-requires
 write_marks-requires c = omega (arith, (accepted _ _ _ _ _ _ c.in_ok-check.ensures).a_mark-each, c.split_at_mut-live.ensures.front_len, c.fit_live-fitted.auto.live)
 
@@ -94,8 +97,7 @@ overflow_mul-n c = omega (arith, (accepted _ _ _ _ _ _ c.in_ok-check.ensures).fe
 
 pub invariant_of-references : goal.invariant_of-references
 invariant_of-references c =
-    let few = (accepted _ _ _ _ _ _ c.in_ok-check.ensures).few in
-    record { stand = c.requires few; few = few }
+    record { stand = c.requires (accepted _ _ _ _ _ _ c.in_ok-check.ensures).few }
 
 pub clear-requires : goal.clear-requires
 clear-requires c = omega (arith, (accepted _ _ _ _ _ _ c.in_ok-check.ensures).room, c.match-fitted.auto.scratch)

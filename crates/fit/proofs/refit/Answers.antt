@@ -33,12 +33,12 @@ module _ (m first : IlluminationModel) (flat residuals live l₁ : List Float) (
     accepted k v count h ec ev = ap (λ (z : IlluminationModel). ran (modelled 0 z) l₁) (ev ∙ ap (with_counts k k.rejected) ec) ∙ at_end (Ok (Some k)) (ap Ok (sym h) ∙ e)
 
 pub returns-in_err-model : goal.returns-in_err-model
-returns-in_err-model c = turned _ _ _ _ _ _ _ c.requires.1 c.drop_outliers-first.ensures _ _ c.from_residual.ensures c.in_err-model.ensures.passed
+returns-in_err-model c = turned _ _ _ _ _ _ _ c.requires.lengths.1 c.drop_outliers-first.ensures _ _ c.from_residual.ensures c.in_err-model.ensures.passed
 
 pub returns-in_default : goal.returns-in_default
-returns-in_default c = unsolved _ _ _ _ _ _ _ c.requires.1 c.drop_outliers-first.ensures _ c.in_ok-model.ensures.passed c.in_default.is
+returns-in_default c = unsolved _ _ _ _ _ _ _ c.requires.lengths.1 c.drop_outliers-first.ensures _ c.in_ok-model.ensures.passed c.in_default.is
 
 pub returns : goal.returns
 returns c =
-    accepted _ _ _ _ _ _ _ c.requires.1 c.drop_outliers-first.ensures _ c.in_ok-model.ensures.passed _ _ _ c.in-Some.is
+    accepted _ _ _ _ _ _ _ c.requires.lengths.1 c.drop_outliers-first.ensures _ c.in_ok-model.ensures.passed _ _ _ c.in-Some.is
     c.count-kept.ensures.0 c.with_counts.ensures

@@ -19,8 +19,7 @@ check_references-requires c = (search (most), search rules)
 
 pub invariant_of-references : goal.invariant_of-references
 invariant_of-references c =
-    let few = few-placed _ _ _ c.in_ok-check_references.ensures in
-    record { stand = c.requires few; few = few }
+    record { stand = c.requires (few-placed _ _ _ c.in_ok-check_references.ensures) }
 
 pub invariant_of-wild_numbers : goal.invariant_of-wild_numbers
 invariant_of-wild_numbers c = record { long = search (palette_in) }

@@ -66,8 +66,7 @@ measurement_of-measurement-requires-clause-passed c = let r = ready _ _ _ _ _ _ 
 
 pub invariant_of-references : goal.invariant_of-references
 invariant_of-references c =
-    let few = (accepted _ _ _ _ _ _ _ _ c.in_ok-check.ensures).few in
-    record { stand = c.requires few; few = few }
+    record { stand = c.requires (accepted _ _ _ _ _ _ _ _ c.in_ok-check.ensures).few }
 
 pub invariant_of-palette : goal.invariant_of-palette
 invariant_of-palette c = record { long = (accepted _ _ _ _ _ _ _ _ c.in_ok-check.ensures).long }
