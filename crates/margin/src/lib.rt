@@ -83,6 +83,7 @@ fn levels_fit(channel: &Channel) -> bool
 }
 
 // Whether the dark colour of hue h, half a sigma up, still scores the threshold.
+// Twin: of `light_clear`; which colour, which way and which comparison differ, and nothing is left for a function of both.
 #[tactic(auto, using(crate::proofs::Literals::literals), unfolding(crate::specs::Margin::dark_clear))]
 fn dark_clear(channel: &Channel, threshold: f32, h: usize) -> bool
     requires { h < channel.now.palette.hues }
@@ -93,6 +94,7 @@ fn dark_clear(channel: &Channel, threshold: f32, h: usize) -> bool
 }
 
 // Whether that of every hue does.
+// Twin: of `lights_clear`; one line over every hue, which a function over a test would be called with in one line.
 fn darks_clear(channel: &Channel, threshold: f32) -> bool
     ensures { result ≡ spec.darks_clear threshold channel.now.noise channel.now.palette.numbers.now channel.now.palette.hues }
 {
@@ -100,6 +102,7 @@ fn darks_clear(channel: &Channel, threshold: f32) -> bool
 }
 
 // Whether the light colour of hue h, half a sigma down, still scores minus the threshold.
+// Twin: of `dark_clear`.
 #[tactic(auto, using(crate::proofs::Literals::literals), unfolding(crate::specs::Margin::light_clear))]
 fn light_clear(channel: &Channel, threshold: f32, h: usize) -> bool
     requires { h < channel.now.palette.hues }
@@ -110,6 +113,7 @@ fn light_clear(channel: &Channel, threshold: f32, h: usize) -> bool
 }
 
 // Whether that of every hue does.
+// Twin: of `darks_clear`.
 fn lights_clear(channel: &Channel, threshold: f32) -> bool
     ensures { result ≡ spec.lights_clear threshold channel.now.noise channel.now.palette.numbers.now channel.now.palette.hues }
 {
@@ -117,6 +121,7 @@ fn lights_clear(channel: &Channel, threshold: f32) -> bool
 }
 
 // Whether a and b of a colour differ from the point of hue h by at most s.
+// Twin: of `far`, which asks the other comparison of either, where this asks it of both.
 #[tactic(auto, unfolding(crate::specs::Margin::near))]
 fn near(palette: &Palette, c: Lab, s: f32, h: usize) -> bool
     requires { h < palette.now.hues }
@@ -127,6 +132,7 @@ fn near(palette: &Palette, c: Lab, s: f32, h: usize) -> bool
 }
 
 // Whether a or b differs from it by more than 4 × s.
+// Twin: of `near`.
 #[tactic(auto, using(crate::proofs::Literals::literals), unfolding(crate::specs::Margin::far))]
 fn far(palette: &Palette, c: Lab, s: f32, h: usize) -> bool
     requires { h < palette.now.hues }

@@ -62,6 +62,7 @@ struct Entry {
     hues: Hues,
     bits: usize,
     ghost counted: { bits ≡ log2 hues.count },
+    ghost most: { hues.count ≤ 16 },
     ghost few: { bits ≤ 4 },
 }
 

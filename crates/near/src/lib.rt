@@ -285,6 +285,7 @@ struct Ring {
 
 impl Ring {
     // Reference i is misplaced.
+    // Twin: of `References::misplaced`, whose positions stand eight floats apart, with their colours.
     #[tactic(auto, unfolding(crate::specs::Near::misplaced_at))]
     fn misplaced(self, xy: &[f32], i: usize) -> bool
         requires { 2 * i + 2 ≤ length xy.now }
@@ -295,6 +296,7 @@ impl Ring {
     }
 
     // One of n references is misplaced.
+    // Twin: of `References::bad_positions`, as `misplaced`.
     fn bad_positions(self, xy: &[f32], n: usize) -> bool
         requires { 2 * n ≤ length xy.now }
         ensures { result ≡ spec.bad_positions self.side xy.now n }

@@ -3,4 +3,5 @@ pub mod GrayCode
 pub mod Rotations
 pub mod Laws
 pub mod Thirds
+mod Refused
 mod Xor

@@ -27,19 +27,18 @@ pub fn gray_inverse(g: usize) -> usize
     let mut n: usize = 0;
     let mut left = g;
     while left != 0 {
-        n = n ^ left;
-        left = left / 2;
+        n ^= left;
+        left /= 2;
     }
     n
 }
 
-// A hue count that sentence 3 lets pass: at least one hue, and so few that no sum of two hues wraps.
+// A hue count: at least one hue.
 // Slices: `count` is of hues, and no length of a buffer.
 #[derive(Clone, Copy, Debug)]
 pub struct Hues {
     pub count: usize,
     ghost least: { 0 < count },
-    ghost most: { count ≤ 16 },
 }
 
 impl Hues {
@@ -57,6 +56,7 @@ impl Hues {
     }
 
     // Core: the hue state of a chroma symbol.
+    // Twin: of `symbol_of`; what differs is the code between the two remainders.
     #[tactic(auto, unfolding(crate::specs::Gray::chroma_symbol_to_hue))]
     pub fn hue_of(self, symbol: usize) -> usize
         ensures { result ≡ gray_code.chroma_symbol_to_hue symbol self.count }
@@ -65,6 +65,7 @@ impl Hues {
     }
 
     // Core: the chroma symbol of a hue state.
+    // Twin: of `hue_of`.
     #[tactic(auto, unfolding(crate::specs::Gray::hue_to_chroma_symbol))]
     pub fn symbol_of(self, hue: usize) -> usize
         ensures { result ≡ gray_code.hue_to_chroma_symbol hue self.count }
@@ -80,15 +81,17 @@ impl Hues {
         self.remainder(usize::from(cx) + usize::from(cy))
     }
 
-    // Core: `chroma_mask_apply` without its refusals.
+    // Core: `chroma_mask_apply` without its refusals, of so few hues that no sum of two wraps.
     pub fn apply(self, hue: usize, cx: u16, cy: u16) -> usize
+        requires { self.count ≤ 16 }
         ensures { result ≡ masks.chroma_mask_apply hue cx cy self.count }
     {
         self.remainder(self.remainder(hue) + self.rotation(cx, cy))
     }
 
-    // Core: `chroma_mask_remove` without its refusals.
+    // Core: `chroma_mask_remove` without its refusals, of so few hues that no sum of two wraps.
     pub fn remove(self, hue: usize, cx: u16, cy: u16) -> usize
+        requires { self.count ≤ 16 }
         ensures { result ≡ masks.chroma_mask_remove hue cx cy self.count }
     {
         self.remainder(self.remainder(hue) + self.count - self.rotation(cx, cy))
@@ -97,6 +100,7 @@ impl Hues {
 
 // The hue state of a chroma symbol: neighbours on the colour wheel differ in one bit of the symbol. Refused: 3.
 // Twin: of `hue_to_chroma_symbol`.
+#[tactic(auto, using(crate::proofs::Refused::of_hues))]
 pub fn chroma_symbol_to_hue(symbol: usize, hues: usize) -> Result<usize, Refusal>
     ensures { said result ≡ answered (hues_only hues) (gray_code.chroma_symbol_to_hue symbol hues) }
 {
@@ -109,6 +113,7 @@ pub fn chroma_symbol_to_hue(symbol: usize, hues: usize) -> Result<usize, Refusal
 
 // The chroma symbol of a hue state. Refused: 3.
 // Twin: of `chroma_symbol_to_hue`, which C calls beside it; what differs is one call of a core.
+#[tactic(auto, using(crate::proofs::Refused::of_hues))]
 pub fn hue_to_chroma_symbol(hue: usize, hues: usize) -> Result<usize, Refusal>
     ensures { said result ≡ answered (hues_only hues) (gray_code.hue_to_chroma_symbol hue hues) }
 {
@@ -162,6 +167,7 @@ pub fn check_cell(hues: usize, cx: u16, cy: u16) -> Result<(), Refusal>
 }
 
 // By how many hues the cell (cx, cy) is rotated. Refused: 3, 7.
+#[tactic(auto, using(crate::proofs::Refused::of_cell))]
 pub fn chroma_rotation(cx: u16, cy: u16, hues: usize) -> Result<usize, Refusal>
     ensures { said result ≡ answered (hues_and_cell hues cx cy) (masks.chroma_rotation cx cy hues) }
 {
@@ -172,6 +178,7 @@ pub fn chroma_rotation(cx: u16, cy: u16, hues: usize) -> Result<usize, Refusal>
 
 // The hue that the cell (cx, cy) draws for `hue`, of which the remainder by `hues` counts. Refused: 3, 7.
 // Twin: of `chroma_mask_remove`.
+#[tactic(auto, using(crate::proofs::Refused::of_cell))]
 pub fn chroma_mask_apply(hue: usize, cx: u16, cy: u16, hues: usize) -> Result<usize, Refusal>
     ensures { said result ≡ answered (hues_and_cell hues cx cy) (masks.chroma_mask_apply hue cx cy hues) }
 {
@@ -182,6 +189,7 @@ pub fn chroma_mask_apply(hue: usize, cx: u16, cy: u16, hues: usize) -> Result<us
 
 // The hue that the cell (cx, cy) drew as `hue`, of which the remainder by `hues` counts. Refused: 3, 7.
 // Twin: of `chroma_mask_apply`, which C calls beside it; what differs is one call of a core.
+#[tactic(auto, using(crate::proofs::Refused::of_cell))]
 pub fn chroma_mask_remove(hue: usize, cx: u16, cy: u16, hues: usize) -> Result<usize, Refusal>
     ensures { said result ≡ answered (hues_and_cell hues cx cy) (masks.chroma_mask_remove hue cx cy hues) }
 {

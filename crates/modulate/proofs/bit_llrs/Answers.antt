@@ -33,10 +33,10 @@ module _ (k bits : ℕ) (e : bits ≡ log2 k) where
         front_written nan bits (bit_llr_at ll cell k) out s room l b past done ∙ ap (λ (m : ℕ). replaced nan m (bit_llr_at ll cell k) out) e
 
 pub invariant_of-entry : goal.invariant_of-entry
-invariant_of-entry c = record { least = search (hues-least); most = search (hues-most) }
+invariant_of-entry c = record { least = search (hues-least) }
 
 pub invariant_of-entry-in-loop-b : goal.invariant_of-entry-in-loop-b
-invariant_of-entry-in-loop-b c = record { counted = c.log2-bits.ensures; few = search (short) }
+invariant_of-entry-in-loop-b c = record { counted = c.log2-bits.ensures; most = search (hues-most); few = search (short) }
 
 pub bit_llr-requires : goal.bit_llr-requires
 bit_llr-requires c = (search (one_of), search rules)

@@ -15,7 +15,10 @@ pub returns-in_err-check_cell : goal.returns-in_err-check_cell
 returns-in_err-check_cell c = search (turned_away, c.in_err-check_cell.ensures)
 
 pub invariant_of-known : goal.invariant_of-known
-invariant_of-known c = record { least = search (cell-hues-some, c.in_ok-check_cell.ensures); most = search (cell-hues-few, c.in_ok-check_cell.ensures) }
+invariant_of-known c = record { least = search (cell-hues-some, c.in_ok-check_cell.ensures) }
+
+pub apply-requires : goal.apply-requires
+apply-requires c = search (cell-hues-few, c.in_ok-check_cell.ensures)
 
 pub returns : goal.returns
 returns c = search (says-given, steps, c.in_ok-check_cell.ensures)
