@@ -121,6 +121,7 @@ struct Pair {
 
 impl Pair {
     // Pair k of the directory.
+    // By hand: From has no conversion from u32 to usize.
     #[tactic(auto, unfolding(crate::specs::File::offset_of, crate::specs::File::length_of))]
     fn of(file: &[u8], k: usize) -> Pair
         requires { k < 8 }

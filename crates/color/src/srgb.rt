@@ -39,7 +39,7 @@ const LINEAR: [u32; 256] = [
 ];
 
 // The linear light of an sRGB byte.
-// By hand: the proof that the table's entries are nearest, tried with `usize::from`, does not close.
+// By hand: with `usize::from` the place is another value, and the proof that looks the entry up does not close.
 pub fn srgb_to_linear(v: u8) -> f32
     ensures { result ≡ spec.srgb_to_linear v }
 {

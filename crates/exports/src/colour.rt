@@ -1,4 +1,6 @@
 // Colours, their conversions, and the palette.
+//
+// Twin: the C interface has a function for each call, and a call that hands on as many arguments has the same shape.
 ghost use Rattle.std.specs.Prelude.{◌≡◌};
 ghost use Rattle.color.specs.Color as color_spec;
 ghost use Rattle.color.specs.Palette as palette_spec;

@@ -1,4 +1,6 @@
 // Floats: magnitudes, choices, widths and roots, of every float.
+//
+// Twin: the C interface has a function for each call, and a call that hands on as many arguments has the same shape.
 ghost use Rattle.std.specs.Prelude.{◌≡◌};
 ghost use Rattle.float.specs.Root as roots;
 ghost use Rattle.float.specs.Select as choices;

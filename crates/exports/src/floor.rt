@@ -1,5 +1,6 @@
 // Linear systems and order statistics.
 //
+// Twin: the C interface has a function for each call, and a call that hands on as many arguments has the same shape.
 // Slices: the C interface lends them so, each a pointer and a length.
 ghost use Rattle.std.specs.Prelude.{◌≡◌};
 ghost use Rattle.math.specs.Gauss as gauss;

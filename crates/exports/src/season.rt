@@ -1,4 +1,6 @@
 // Totals over a season's cards.
+//
+// Twin: the C interface has a function for each call, and a call that hands on as many arguments has the same shape.
 ghost use Rattle.std.specs.Prelude.{◌≡◌, []};
 ghost use Rattle.totals.specs.Batch.{of_cards};
 ghost use Rattle.totals.specs.Calls as totals_call;

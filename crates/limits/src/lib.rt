@@ -68,6 +68,7 @@ pub fn bad_cells(cxs: &[u16], cys: &[u16]) -> bool
 // ---- the counts
 
 // Core: the base-2 logarithm of n, rounded down, and 0 for 0: how often n can be halved before it is below 2.
+// By hand: From has no conversion from u32 to usize.
 pub fn log2(n: usize) -> usize
     ensures { result ≡ log2 n }
 {

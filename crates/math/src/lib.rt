@@ -277,20 +277,13 @@ fn add_products(ata: &mut [f64], row: &[f64], terms: usize, i: usize)
 }
 
 // Equation i gains the products of row[i] with the target and with the whole row.
-fn add_line(ata: &mut [f64], atb: &mut [f64], row: &[f64], target: f64, terms: usize, i: usize)
-    requires { Equations terms ata.old atb.old × (i < terms) × (terms ≤ length row.now) }
-    ensures { system ata.new atb.new ≡ normal.add_line terms row.now target i (system ata.old atb.old) }
-{
-    atb[i] += row[i] * target;
-    add_products(ata, row, terms, i);
-}
-
 fn add_lines(ata: &mut [f64], atb: &mut [f64], row: &[f64], target: f64, terms: usize)
     requires { Equations terms ata.old atb.old × (terms ≤ length row.now) }
     ensures { system ata.new atb.new ≡ normal.add_row terms row.now target (system ata.old atb.old) }
 {
-    for i in 0..terms {
-        add_line(ata, atb, row, target, terms, i);
+    for (i, &x) in row[..terms].iter().enumerate() {
+        atb[i] += x * target;
+        add_products(ata, row, terms, i);
     }
 }
 

@@ -82,7 +82,10 @@ fn parts(v: f32) -> u64
     if field < 110 {
         return 0;
     }
-    float::round_shift((g % 0x80_0000 + 0x80_0000) as u64, (134 - field) as u64)
+    float::round_shift(
+        u64::from(g % 0x80_0000 + 0x80_0000),
+        u64::from(134 - field),
+    )
 }
 
 // ---- a card

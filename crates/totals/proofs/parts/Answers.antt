@@ -35,4 +35,4 @@ pub returns : goal.returns
 returns c =
     let at = c in
     parts_are at.args.v at.requires c.round_shift.result
-    (some at.args.v (held at.args.v at.well_formed.0.1) at.requires c.round_shift.result (fields c.args.v c.well_formed.0.1 c.requires c.if-field-lt110.false).0 c.round_shift.ensures)
+    (some at.args.v (held at.args.v at.well_formed.0.1) at.requires c.round_shift.result (fields c.args.v c.well_formed.0.1 c.requires c.if-field-lt110.false).0 (cc (c.round_shift.ensures, c.from.ensures, c.from-2.ensures)))
