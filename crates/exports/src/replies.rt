@@ -1,5 +1,6 @@
 // What calls answer, as structs that C can take: document 01's number, 0 where the call is accepted, and the values, zeros where
 // there are none.
+// Twin: a `From` for one struct differs from another's in the struct and the names of its fields.
 // Structs of C: C has no generic structs, so each kind of value has a struct of its own, with its number beside it.
 ghost use Rattle.std.specs.Prelude.{◌≡◌};
 ghost use Rattle.std.proofs.Math.Option.{get_or};

@@ -3,10 +3,11 @@
 // bit for bit and in the order of the Rust's operations.
 //
 // Matrices are row by row: row r and column k of an n by n matrix stand at r * n + k.
-// Slices: a matrix and its right-hand side are parameters, and no struct: one that held the two slices would have to
-// promise in each contract that they are still the same ones.
-// Facts: of that matrix, with the row or column that a step is at.
-// By index: loops go over rows and columns, which are not the places of the slice.
+// Slices: a matrix and its right-hand side are parameters, and no struct: a struct of them holds two `&mut` slices,
+// and a record of what a step changes would have to say of both that they are still the same ones.
+// Facts: `Equations` says that n equations are there, `Cell` that a row and a column lie in the matrix; they are the
+// facts of the two slices. `terms` with a row's length, and n with the length of x, are of one slice each: a struct of
+// one slice and a count is no plainer.
 #![tactic(auto)]
 
 ghost use Rattle.std.specs.Prelude.{◌≡◌, ◌*◌, ◌<◌, ◌≤◌, ltb, length};
@@ -41,8 +42,8 @@ fn put(a: &mut [f64], n: usize, r: usize, k: usize, v: f64)
 
 // ---- the pivot
 
-// |x| for comparisons: a zero may have either sign, which no comparison sees. (`f64::abs` tests for a zero too: a search for
-// a pivot takes a tenth longer with it.)
+// |x| for comparisons: a zero may have either sign, which no comparison sees. (`f64::abs` tests for a zero too: a
+// search for a pivot takes a tenth longer with it.)
 fn magnitude(x: f64) -> f64
     ensures { Alike result (abs x) }
 {
@@ -63,6 +64,7 @@ fn larger(a: &[f64], n: usize, col: usize, r: usize, p: usize) -> usize
 }
 
 // The row at or below `col` of the largest magnitude in column `col`.
+// By index: a column is a stride of the slice.
 fn pivot_row(a: &[f64], n: usize, col: usize) -> usize
     requires { (col < n) × (n * n ≤ length a.now) }
     ensures { (result ≡ spec.pivot_row n a.now col) × (result < n) }
@@ -76,6 +78,7 @@ fn pivot_row(a: &[f64], n: usize, col: usize) -> usize
 
 // Exchanges rows r and q.
 // By hand: `swap_with_slice` wants the two rows apart, and they are parts of one slice, in either order.
+// By index: for the same reason, an element of each at a time.
 fn swap_rows(a: &mut [f64], n: usize, r: usize, q: usize)
     requires { (r < n) × (q < n) × (n * n ≤ length a.old) }
     ensures { a.new ≡ spec.swap_rows n r q a.old }
@@ -99,6 +102,7 @@ fn bring_up(a: &mut [f64], b: &mut [f64], n: usize, col: usize, p: usize)
 // ---- elimination
 
 // Takes f times row `col` from row r, from column `col` on.
+// By index: two rows of one slice, of which one is written.
 fn subtract_row(a: &mut [f64], n: usize, col: usize, r: usize, f: f64)
     requires { Cell n a.old r col }
     ensures { a.new ≡ spec.subtract_row n col r f a.old }
@@ -121,6 +125,8 @@ fn eliminate_row(a: &mut [f64], b: &mut [f64], n: usize, col: usize, d: f64, r: 
     }
 }
 
+// Clears column `col` of each row below its own.
+// By index: a column is a stride of the slice.
 fn eliminate_below(a: &mut [f64], b: &mut [f64], n: usize, col: usize)
     requires { Equations n a.old b.old × (col < n) }
     ensures { system a.new b.new ≡ spec.eliminate_below n col (system a.old b.old) }
@@ -146,6 +152,7 @@ fn eliminate_column(a: &mut [f64], b: &mut [f64], n: usize, col: usize) -> bool
 }
 
 // Makes the system triangular, and says whether every pivot was large enough.
+// By index: a turn works on column `col` of the whole matrix.
 fn eliminate(a: &mut [f64], b: &mut [f64], n: usize) -> bool
     requires { Equations n a.old b.old }
     ensures { turn_of result (system a.new b.new) ≡ spec.eliminate n (system a.old b.old) }
@@ -161,6 +168,7 @@ fn eliminate(a: &mut [f64], b: &mut [f64], n: usize) -> bool
 // ---- back substitution
 
 // What row r leaves for its unknown: b[r] less the products of the unknowns after it.
+// By index: k is a column of the matrix and a place of x, and a zip of a part of each is no plainer.
 fn residual(a: &[f64], b: &[f64], x: &[f64], n: usize, r: usize) -> f64
     requires { Equations n a.now b.now × (n ≤ length x.now) × (r < n) }
     ensures { result ≡ spec.residual n a.now b.now x.now r }
@@ -173,6 +181,7 @@ fn residual(a: &[f64], b: &[f64], x: &[f64], n: usize, r: usize) -> f64
 }
 
 // The unknowns of a triangular system, the last one first.
+// By index: a turn reads the unknowns behind the one that it writes.
 fn back_substitute(a: &[f64], b: &[f64], x: &mut [f64], n: usize)
     requires { Equations n a.now b.now × (n ≤ length x.old) }
     ensures { x.new ≡ spec.back_substitute n a.now b.now x.old }
@@ -270,13 +279,13 @@ fn add_products(ata: &mut [f64], row: &[f64], terms: usize, i: usize)
     requires { (i < terms) × (terms * terms ≤ length ata.old) × (terms ≤ length row.now) }
     ensures { ata.new ≡ normal.add_products terms row.now i ata.old }
 {
-    for j in 0..terms {
-        let v = at(ata, terms, i, j) + row[i] * row[j];
+    for (j, &x) in row[..terms].iter().enumerate() {
+        let v = at(ata, terms, i, j) + row[i] * x;
         put(ata, terms, i, j, v);
     }
 }
 
-// Equation i gains the products of row[i] with the target and with the whole row.
+// Each equation i gains the products of row[i] with the target and with the whole row.
 fn add_lines(ata: &mut [f64], atb: &mut [f64], row: &[f64], target: f64, terms: usize)
     requires { Equations terms ata.old atb.old × (terms ≤ length row.now) }
     ensures { system ata.new atb.new ≡ normal.add_row terms row.now target (system ata.old atb.old) }
@@ -313,6 +322,7 @@ pub fn add_row(
 }
 
 // 1e-9 on the diagonal, which keeps rows that leave a term open from giving a wild solution.
+// By index: the diagonal is a stride of the slice.
 fn nudge(ata: &mut [f64], terms: usize)
     requires { terms * terms ≤ length ata.old }
     ensures { ata.new ≡ normal.nudged terms ata.old }

@@ -82,10 +82,7 @@ fn parts(v: f32) -> u64
     if field < 110 {
         return 0;
     }
-    float::round_shift(
-        u64::from(g % 0x80_0000 + 0x80_0000),
-        u64::from(134 - field),
-    )
+    float::round_shift(u64::from(g % 0x80_0000 + 0x80_0000), u64::from(134 - field))
 }
 
 // ---- a card
