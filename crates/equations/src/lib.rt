@@ -1,7 +1,7 @@
 // One pass's equations of the fit (illum.rs, `fit_once`): the gain and flare surfaces of each channel, then the affine part over
 // the de-shaded observations. The rows of live references go into one matrix of 324 doubles as they come.
-// Facts: i is a reference's place, which the loop over them bounds, and t a number of terms, at most 9: each an argument,
-// which has no struct.
+// Facts: i is a reference's place, which the loop over them bounds, and t a number of terms, at most 9: each an
+// argument, which has no struct.
 #![tactic(auto)]
 
 ghost use Rattle.std.specs.Prelude.{◌≡◌, ◌+◌, ◌*◌, ◌<◌, ◌≤◌, length};
@@ -195,24 +195,25 @@ impl Plan {
 }
 
 // The model with other surfaces.
-// By hand: the borrow checker takes no `..m` of a record whose fields are arrays.
+// By hand: the borrow checker takes no field that is an array straight into a literal, and so each has a local.
 fn with_surfaces(m: IlluminationModel, r: Surface, g: Surface, b: Surface) -> IlluminationModel
     ensures { result ≡ spec.with_surfaces m r g b }
 {
-    let mut out = m;
     let gain_r = r.gain;
     let gain_g = g.gain;
     let gain_b = b.gain;
     let flare_r = r.flare;
     let flare_g = g.flare;
     let flare_b = b.flare;
-    out.gain_r = gain_r;
-    out.gain_g = gain_g;
-    out.gain_b = gain_b;
-    out.flare_r = flare_r;
-    out.flare_g = flare_g;
-    out.flare_b = flare_b;
-    out
+    IlluminationModel {
+        gain_r,
+        gain_g,
+        gain_b,
+        flare_r,
+        flare_g,
+        flare_b,
+        ..m
+    }
 }
 
 // The model with another affine part.
@@ -220,14 +221,15 @@ fn with_surfaces(m: IlluminationModel, r: Surface, g: Surface, b: Surface) -> Il
 fn with_affine(m: IlluminationModel, a: Affine) -> IlluminationModel
     ensures { result ≡ spec.with_affine m a }
 {
-    let mut out = m;
-    let r = a.r;
-    let g = a.g;
-    let b = a.b;
-    out.affine_r = r;
-    out.affine_g = g;
-    out.affine_b = b;
-    out
+    let affine_r = a.r;
+    let affine_g = a.g;
+    let affine_b = a.b;
+    IlluminationModel {
+        affine_r,
+        affine_g,
+        affine_b,
+        ..m
+    }
 }
 
 // Reference i's three inverses, and 1; what stands past them is not read.

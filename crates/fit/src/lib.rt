@@ -28,24 +28,24 @@ use references::References;
 // marks to a `Selection` while the residuals are written.
 
 // The model with another residual.
-// By hand: the borrow checker takes no `..m` of a record whose fields are arrays.
 fn with_rms(m: IlluminationModel, rms: f32) -> IlluminationModel
     ensures { result ≡ spec.with_rms m rms }
 {
-    let mut out = m;
-    out.residual_rms = rms;
-    out
+    IlluminationModel {
+        residual_rms: rms,
+        ..m
+    }
 }
 
 // The model with other counts.
-// By hand: as `with_rms`.
 fn with_counts(m: IlluminationModel, rejected: u32, kept: u32) -> IlluminationModel
     ensures { result ≡ spec.with_counts m rejected kept }
 {
-    let mut out = m;
-    out.rejected = rejected;
-    out.kept = kept;
-    out
+    IlluminationModel {
+        rejected,
+        kept,
+        ..m
+    }
 }
 
 // Sentence 11: a number of the model or one of the residuals is not finite.
