@@ -83,7 +83,7 @@ fn levels_fit(channel: &Channel) -> bool
 }
 
 // Whether the dark colour of hue h, half a sigma up, still scores the threshold.
-// Twin: of `light_clear`; which colour, which way and which comparison differ, and nothing is left for a function of both.
+// Twin: of `light_clear`; which colour, which way and which comparison differ, and both share `luma_llr_of`.
 #[tactic(auto, using(crate::proofs::Literals::literals), unfolding(crate::specs::Margin::dark_clear))]
 fn dark_clear(channel: &Channel, threshold: f32, h: usize) -> bool
     requires { h < channel.now.palette.hues }
@@ -94,7 +94,7 @@ fn dark_clear(channel: &Channel, threshold: f32, h: usize) -> bool
 }
 
 // Whether that of every hue does.
-// Twin: of `lights_clear`; one line over every hue, which a function over a test would be called with in one line.
+// Twin: of `lights_clear`; each is one line over the hues, as a call of a function over a test would be.
 fn darks_clear(channel: &Channel, threshold: f32) -> bool
     ensures { result ≡ spec.darks_clear threshold channel.now.noise channel.now.palette.numbers.now channel.now.palette.hues }
 {

@@ -175,10 +175,8 @@ impl Search<'_> {
         requires { (m ≤ length out.old) × order.Places self.n m out.old }
         ensures { order.Passed (seen.before self.entry) self.entry.n 1 m m out.old out.new }
     {
-        let mut gap = 9841;
-        while gap > 1 {
+        for gap in [9841, 3280, 1093, 364, 121, 40, 13, 4] {
             self.pass(gap, m, out);
-            gap /= 3;
         }
         self.pass(1, m, out);
     }

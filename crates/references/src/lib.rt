@@ -119,7 +119,8 @@ impl<'a> References<'a> {
     // ---- sentence 7
 
     // Reference i is misplaced.
-    // Twin: of `near`'s, whose positions stand two floats apart; one over both would take a stride and a slice for one line.
+    // Twin: of `Ring::misplaced` of near, whose positions stand two floats apart; one over both would take a slice and
+    // a stride for one line.
     #[tactic(auto, unfolding(crate::specs::References::misplaced_at))]
     fn misplaced(&self, side: usize, i: usize) -> bool
         requires { (side ≤ 1024) × (i < self.now.n) }

@@ -1,6 +1,6 @@
 // Residuals, their root mean square, and which references are rejected.
-// Facts: a function is lent residuals and as many marks, and writes the marks, or neither: a struct of both would need a shared
-// and a written form.
+// Facts: a function is lent residuals and as many marks, and writes the marks, or neither: a struct of both would need
+// a shared and a written form.
 #![tactic(auto)]
 
 ghost use Rattle.std.specs.Prelude.{◌≡◌, ◌<◌, ◌≤◌, length};

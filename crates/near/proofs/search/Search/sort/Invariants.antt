@@ -5,6 +5,3 @@ use Rattle.near.proofs.search.Search.sort.Given as goal
 
 abbrev pub invariant-loop-gap : goal.invariant-loop-gap
 invariant-loop-gap l = Mixed l.m l.initial.out l.out
-
-abbrev pub decreases-loop-gap : goal.decreases-loop-gap
-decreases-loop-gap l = l.gap
