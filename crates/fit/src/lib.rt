@@ -25,7 +25,7 @@ use references::References;
 // ---- the passes. Of their scratch, 4 floats a reference, the first n are the live marks, the next n the residuals, and the rest
 // is room for a median.
 // Facts: each function is lent another choice of the three, some shared and some to write; a struct of all three would
-// have to promise of each, in each method, that it is still the same slice.
+// lend each more than it reads or writes.
 
 // The model with another residual.
 fn with_rms(m: IlluminationModel, rms: f32) -> IlluminationModel

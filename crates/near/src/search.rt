@@ -8,9 +8,9 @@ use crate::Query;
 // What is searched: n references, their positions and marks, as they are seen from the centre (cx, cy). Which of two
 // references comes before the other is a strict order of them. (Its methods take it by value: behind a reference the sort
 // would read its fields at every step.)
-// Facts: that a reference or a listed place is below n, or a place of the list within it, is asked of an argument, which
-// has no struct; and `out` is the caller's slice, whose rest stays: a struct of it, with the fact that it has n places,
-// would have one field.
+// Facts: that a reference or a listed place is below n, or a place of the list within it, is asked of an argument,
+// which has no struct; and `out` is the caller's slice, whose rest stays: a struct of it, with the fact that it has n
+// places, would have one field.
 #[derive(Clone, Copy, Debug)]
 pub struct Search<'a> {
     pub query: Query,
