@@ -3,15 +3,16 @@
 use mathlib.Core.Path.{◌≡◌, refl, sym, ap, ◌∙◌}
 use mathlib.Core.Logic.{◌≢◌}
 use mathlib.Core.Bool.{Bool, true, false, cond, ◌&&◌, false≢true}
-use mathlib.Core.List.{List}
-use Prim.Native.Nat.{ℕ, ◌+◌, ◌*◌, ◌≤◌, ◌<◌}
+use mathlib.Core.List.{List, ◌++◌}
+use Prim.Native.Nat.{ℕ, ◌+◌, ◌*◌, ◌-◌, ◌≤◌, ◌<◌}
 use native.Mathlib.Decide.{ℕ_discrete}
 use native.Mathlib.Omega.{arith}
-use lib.ListN.{length, get_or, set, drop, length-set}
+use lib.ListN.{length, get_or, set, take, drop, length-set, length-drop, get_or-append}
 use borrow.Author.Tests.{lt-ltb, le-ltb}
+use borrow.Rule.Slice.PartMut.{put_mid, Post-is}
 use Rattle.stats.specs.declared.ChannelStats.{ChannelStats}
 use Rattle.stats.specs.Noise.{nominal}
-use lib.Seq.{get_or-set_same, get_or-set_other, get_or-drop}
+use lib.Seq.{length-take-le, get_or-set_same, get_or-set_other, get_or-take, get_or-drop, get_or-append-add, get_or-append_right}
 use lib.Ieee.{Float, nan, le, lt, eq, of_bits}
 use Rattle.float.specs.Root.{sqrt_of}
 use Rattle.color.specs.declared.Linear.{Linear}
@@ -155,34 +156,59 @@ module _ {palette flat : List Float} {n : ℕ} where
   pub convert_done : {i : ℕ} {t s : List Float} → Converted palette flat n i t s → n ≤ i → Converted palette flat n n t s
   convert_done inv h = record { done = λ m q. note_done (inv.done m q) h; left = λ m q. record { colour = λ j g k. absurd (omega arith) } }
 
--- ---- the roots: a turn takes that of reference i and changes nothing else
+-- ---- the roots: a turn takes that of element i of the second column, which was t, and changes nothing else
 
-pub root-begin : (n : ℕ) (s : List Float) → Rooted n 0 s s
-root-begin n s = record { root = λ j h. absurd (omega arith); before = λ j h. refl; after = λ j h. refl }
+pub record Rooting (i : ℕ) (t items : List Float) : Type 0 where
+  long : length items ≡ length t
+  root : (j : ℕ) → j < i → get_or items j nan ≡ sqrt_of (get_or t j nan)
+  rest : (j : ℕ) → i ≤ j → get_or items j nan ≡ get_or t j nan
 
-pub root-turn : {n i : ℕ} {s t : List Float} (v : Float) → v ≡ sqrt_of (get_or t (2 * n + i) nan) → Rooted n i s t → i < n → length t ≡ 4 * n
-    → Rooted n (i + 1) s (set t (2 * n + i) v)
-root-turn {n} {i} {s} {t} v ev inv h l =
+pub root-begin : (t : List Float) → Rooting 0 t t
+root-begin t = record { long = refl; root = λ j h. absurd (omega arith); rest = λ j g. refl }
+
+pub root-turn : {i : ℕ} {t items : List Float} (v : Float) → v ≡ sqrt_of (get_or items i nan) → Rooting i t items → i < length items → Rooting (i + 1) t (set items i v)
+root-turn {i} {t} {items} v ev inv h =
     record {
+      long = length-set items i v ∙ inv.long;
       root = λ j k. at j (ℕ_discrete j i) k;
-      before = λ j k. other j (λ z. omega arith) ∙ inv.before j k;
-      after = λ j k. other j (λ z. omega arith) ∙ inv.after j (omega arith);
+      rest = λ j g. other j (λ z. omega arith) ∙ inv.rest j (omega arith);
     }
   where
-    other : (j : ℕ) → j ≢ 2 * n + i → get_or (set t (2 * n + i) v) j nan ≡ get_or t j nan
-    other j q = get_or-set_other t (2 * n + i) j v nan q
+    other : (j : ℕ) → j ≢ i → get_or (set items i v) j nan ≡ get_or items j nan
+    other j q = get_or-set_other items i j v nan q
 
-    at : (j : ℕ) → Dec (j ≡ i) → j < i + 1 → get_or (set t (2 * n + i) v) (2 * n + j) nan ≡ sqrt_of (get_or s (2 * n + j) nan)
-    at j (yes q) k = rw q (get_or-set_same t (2 * n + i) v nan (omega arith) ∙ ev ∙ ap sqrt_of (inv.after (2 * n + i) (omega arith)))
-    at j (no q) k = other (2 * n + j) (λ z. q (omega arith)) ∙ inv.root j (omega (arith, q))
+    at : (j : ℕ) → Dec (j ≡ i) → j < i + 1 → get_or (set items i v) j nan ≡ sqrt_of (get_or t j nan)
+    at j (yes q) k = rw q (get_or-set_same items i v nan h ∙ ev ∙ ap sqrt_of (inv.rest i (omega arith)))
+    at j (no q) k = other j q ∙ inv.root j (omega (arith, q))
 
-pub root-done : {n i : ℕ} {s t : List Float} → Rooted n i s t → i ≤ n → n ≤ i → Rooted n n s t
-root-done inv g h =
+pub root-done : {n i : ℕ} {s items : List Float} → Rooting i (take (3 * n - 2 * n) (drop (2 * n) s)) items → length items ≤ i → length s ≡ 4 * n
+    → Rooted n n s (put_mid (2 * n) (3 * n - 2 * n) s items)
+root-done {n} {i} {s} {items} inv h l =
+    rw (Post-is (2 * n) (3 * n) s (omega arith))
     record {
-      root = λ j k. inv.root j (omega arith);
-      before = inv.before;
-      after = λ j k. inv.after j (omega arith);
+      root = λ j k. within j k ∙ inv.root j (omega (arith, long)) ∙ ap sqrt_of (get_or-take (3 * n - 2 * n) (drop (2 * n) s) j nan (omega arith) ∙ get_or-drop (2 * n) s j nan);
+      before = λ j k. get_or-append (take (2 * n) s) (items ++ drop (3 * n) s) nan j (omega (arith, front)) ∙ get_or-take (2 * n) s j nan k;
+      after = λ j k. past j k;
     }
+  where
+    front : length (take (2 * n) s) ≡ 2 * n
+    front = length-take-le (2 * n) s (omega arith)
+
+    long : length items ≡ n
+    long = inv.long ∙ length-take-le (3 * n - 2 * n) (drop (2 * n) s) (omega (arith, length-drop (2 * n) s)) ∙ omega arith
+
+    within : (j : ℕ) → j < n → get_or (take (2 * n) s ++ (items ++ drop (3 * n) s)) (2 * n + j) nan ≡ get_or items j nan
+    within j k =
+        ap (λ (m : ℕ). get_or (take (2 * n) s ++ (items ++ drop (3 * n) s)) (m + j) nan) (sym front)
+        ∙ get_or-append-add (take (2 * n) s) (items ++ drop (3 * n) s) j nan
+        ∙ get_or-append items (drop (3 * n) s) nan j (omega (arith, long))
+
+    past : (j : ℕ) → 2 * n + n ≤ j → get_or (take (2 * n) s ++ (items ++ drop (3 * n) s)) j nan ≡ get_or s j nan
+    past j k =
+        get_or-append_right (take (2 * n) s) (items ++ drop (3 * n) s) j nan (omega (arith, front))
+        ∙ get_or-append_right items (drop (3 * n) s) (j - length (take (2 * n) s)) nan (omega (arith, front, long))
+        ∙ get_or-drop (3 * n) s (j - length (take (2 * n) s) - length items) nan
+        ∙ ap (λ (m : ℕ). get_or s m nan) (omega (arith, front, long))
 
 root_error : (m : IlluminationModel) (flat : List Float) (j : ℕ) → sqrt_of (square_at m flat j) ≡ error_at m flat j
 unfolding error_at ab_distance length2 square_at square_of

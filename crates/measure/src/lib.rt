@@ -248,7 +248,7 @@ fn place(n: usize, i: usize, a: f32, b: f32, c: f32, s: &mut [f32])
 }
 
 // Writes the corrected colours of all n, a component in each column, and says how many of them have a mark.
-// By index: a reference has its place in three columns.
+// By index: a turn writes to three columns of one slice, which no iterator lends at once.
 fn correct(model: IlluminationModel, references: &References, s: &mut [f32]) -> usize
     requires { Scratch references.now.n s.old }
     ensures { column.Corrected model references.now.flat.now references.now.n 0 references.now.n s.new × (result ≡ spec.held_of model references.now.flat.now references.now.n) }
@@ -295,7 +295,7 @@ fn note_at(
 }
 
 // Writes them of all n over the corrected colours.
-// By index: a reference has its place in three columns.
+// By index: a turn writes to three columns of one slice, which no iterator lends at once.
 fn convert(palette: Palette, references: &References, s: &mut [f32])
     requires { Scratch references.now.n s.old }
     ensures { column.Converted palette.entry.numbers.now references.now.flat.now references.now.n references.now.n s.old s.new }
@@ -309,13 +309,12 @@ fn convert(palette: Palette, references: &References, s: &mut [f32])
 }
 
 // Takes the roots of the squared chroma errors.
-// By index: a column is a part of the scratch.
 fn roots(n: usize, s: &mut [f32])
     requires { Scratch n s.old }
     ensures { column.Rooted n n s.old s.new }
 {
-    for i in 0..n {
-        s[2 * n + i] = float::sqrt(s[2 * n + i]);
+    for x in s[2 * n..3 * n].iter_mut() {
+        *x = float::sqrt(*x);
     }
 }
 
@@ -409,7 +408,7 @@ impl Columns<'_> {
     }
 
     // Lists the numbers of a column whose mark is from lo to hi after the first k of the room, and says how many are listed then.
-    // By index: a reference has its place in two columns.
+    // By index: the list's law is of places in the whole slice, which the pairs of two zipped columns do not have.
     fn list(&self, room: &mut [f32], at: usize, lo: f32, hi: f32, form: Form, k: usize) -> usize
         requires { (at ≤ self.now.n) × (length room.old ≡ self.now.n) × (k + length (column.picked_in self.now.n at lo hi self.now.numbers.now) ≤ self.now.n) }
         ensures { (take result room.new ≡ take k room.old ++ map (column.formed form) (column.picked_in self.now.n at lo hi self.now.numbers.now)) × (result ≡ k + length (column.picked_in self.now.n at lo hi self.now.numbers.now)) × (result ≤ self.now.n) }

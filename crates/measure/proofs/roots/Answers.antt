@@ -3,11 +3,11 @@ use Rattle.measure.proofs.Noting.{root-begin, root-turn, root-done}
 use borrow.Author.Rules.{rules}
 use Rattle.measure.proofs.roots.Goals as goal
 
-pub loop-i-init : goal.loop-i-init
-loop-i-init c = (search rules, search rules, root-begin _ _)
+pub loop-x-init : goal.loop-x-init
+loop-x-init c = search (root-begin, rules)
 
-pub loop-i-preserved : goal.loop-i-preserved
-loop-i-preserved c = (search rules, search rules, search (root-turn, rules))
+pub loop-x-preserved : goal.loop-x-preserved
+loop-x-preserved c = search (root-turn, rules)
 
 pub returns : goal.returns
 returns c = search (root-done, rules)
