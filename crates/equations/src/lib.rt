@@ -238,7 +238,7 @@ fn affine_row(m: IlluminationModel, references: &References, i: usize) -> [f64; 
     requires { i < references.now.n }
     ensures { result ≡ spec.affine_row_of m references.now.flat.now i }
 {
-    let d = illum::unshade(m, references.x(i), references.y(i), references.observed(i));
+    let d = illum::unshade(m, references.seen(i));
     let mut row = [0.0; 18];
     row[0] = d.r.value;
     row[1] = d.g.value;

@@ -18,6 +18,7 @@ use Rattle.float.specs.Select.{abs}
 use Rattle.color.specs.declared.Linear.{Linear}
 use Rattle.color.specs.Palette.{wild, wild_linear}
 use Rattle.illum.specs.declared.Span.{Span}
+use Rattle.illum.specs.declared.Unshaded.{Unshaded}
 use Rattle.illum.specs.declared.IlluminationModel.{IlluminationModel}
 use Rattle.illum.specs.Surface.{zero64, one64, two64, least_gain, terms_used, normalised, bilinear, biquadratic, basis_at, add_term, surface_at, is_held, hold_gain, deshade}
 use Rattle.illum.specs.Correct.{affine_row, unshaded, mixed, corrected}
@@ -363,3 +364,12 @@ pub in_reach : (m : IlluminationModel) (x y : Float) (c : Linear) (s : Span) (w 
     → (w ≡ is_within s x y c) × Placed x y c → not w ≡ false → wild_linear (corrected m x y c).colour ≡ false
 in_reach m x y c s w r i h =
     not-wild m x y c r.1 i.1 (sym (ap (λ (z : Span). is_within z x y c) r.0) ∙ sym i.0 ∙ true_of w h)
+
+-- a moderate colour in reach of the model is not wild
+pub in_reach_tame : (m : IlluminationModel) (x y : Float) (c : Linear) (s : Span) (w : Bool) → (s ≡ reach_of m) × Typed m → (w ≡ is_within s x y c) × Placed x y c → w ≡ true →
+    false ≡ wild_linear (corrected m x y c).colour
+in_reach_tame m x y c s w r i t = sym (in_reach m x y c s w r i (ap not t))
+
+-- a colour that is corrected in two steps is wild where the corrected one is
+pub spot_wild : (m : IlluminationModel) (x y : Float) (c : Linear) (d : Unshaded) (r : Bool) → d ≡ unshaded m x y c → r ≡ wild_linear (mixed m d).colour → r ≡ wild_linear (corrected m x y c).colour
+spot_wild m x y c d r ed e = e ∙ ap (λ (z : Unshaded). wild_linear (mixed m z).colour) ed

@@ -80,6 +80,14 @@ pub struct Marked {
     pub held_b: bool,
 }
 
+// Where a colour stands, and the colour as it was observed.
+#[derive(Clone, Copy, Debug)]
+pub struct Spot {
+    pub x: f32,
+    pub y: f32,
+    pub colour: Linear,
+}
+
 // Core: the positions from lo to hi on each axis; none where lo is above hi.
 #[derive(Clone, Copy, Debug)]
 pub struct Span {
@@ -239,28 +247,28 @@ impl<'a> Parts<'a> {
     // The three channels' inverses at a position, of surfaces of N terms, which are 4 or 9.
     #[inline(always)]
     #[tactic(auto, using(crate::proofs::Inverses::three), unfolding(crate::specs::Correct::of_parts))]
-    fn unshade_by<const N: usize>(self, x: f32, y: f32, colour: Linear) -> Unshaded
+    fn unshade_by<const N: usize>(self, s: Spot) -> Unshaded
         requires { terms_used N ≡ N }
-        ensures { result ≡ spec.unshaded_by N (spec.of_parts self.entry) x y colour }
+        ensures { result ≡ spec.unshaded_by N (spec.of_parts self.entry) s.x s.y s.colour }
     {
-        let at = basis(N, self.side, x, y);
+        let at = basis(N, self.side, s.x, s.y);
         Unshaded {
-            r: invert::<N>(self.gain_r, self.flare_r, &at, colour.r),
-            g: invert::<N>(self.gain_g, self.flare_g, &at, colour.g),
-            b: invert::<N>(self.gain_b, self.flare_b, &at, colour.b),
+            r: invert::<N>(self.gain_r, self.flare_r, &at, s.colour.r),
+            g: invert::<N>(self.gain_g, self.flare_g, &at, s.colour.g),
+            b: invert::<N>(self.gain_b, self.flare_b, &at, s.colour.b),
         }
     }
 
     // The three channels' inverses at a position.
     #[inline(always)]
     #[tactic(auto, using(crate::proofs::Inverses::by_terms), unfolding(crate::specs::Correct::of_parts, crate::specs::Surface::terms_used))]
-    fn unshade(self, x: f32, y: f32, colour: Linear) -> Unshaded
-        ensures { result ≡ spec.unshaded (spec.of_parts self.entry) x y colour }
+    fn unshade(self, s: Spot) -> Unshaded
+        ensures { result ≡ spec.unshaded (spec.of_parts self.entry) s.x s.y s.colour }
     {
         if self.terms == 4 {
-            return self.unshade_by::<4>(x, y, colour);
+            return self.unshade_by::<4>(s);
         }
-        self.unshade_by::<9>(x, y, colour)
+        self.unshade_by::<9>(s)
     }
 
     // The affine part over them, a row a channel.
@@ -330,16 +338,16 @@ impl<'a> Parts<'a> {
     }
 
     // `correct` of the model that these are parts of.
-    fn correct(self, x: f32, y: f32, colour: Linear) -> Result<Marked, Refusal>
-        ensures { said result ≡ correct_of (spec.of_parts self.entry) x y colour }
+    fn correct(self, s: Spot) -> Result<Marked, Refusal>
+        ensures { said result ≡ correct_of (spec.of_parts self.entry) s.x s.y s.colour }
     {
-        if color::palette::wild_linear(colour) {
+        if color::palette::wild_linear(s.colour) {
             return Err(Refusal::Number);
         }
         if self.bad_shape() {
             return Err(Refusal::Model);
         }
-        let d = self.unshade(x, y, colour);
+        let d = self.unshade(s);
         let out = self.mix(d);
         if leaves_open(self.residual_rms, d, out.colour) && self.not_finite() {
             return Err(Refusal::Model);
@@ -361,10 +369,10 @@ fn any_of<const L: usize, F: Fn(f64) -> bool>(numbers: &[f64; L], n: usize, test
 
 // Core: the three channels' inverses at a position, without the affine part.
 #[tactic(auto, using(crate::proofs::Lent::unshaded_alone))]
-pub fn unshade(model: IlluminationModel, x: f32, y: f32, colour: Linear) -> Unshaded
-    ensures { result ≡ spec.unshaded model x y colour }
+pub fn unshade(model: IlluminationModel, s: Spot) -> Unshaded
+    ensures { result ≡ spec.unshaded model s.x s.y s.colour }
 {
-    Parts::of(&model).unshade(x, y, colour)
+    Parts::of(&model).unshade(s)
 }
 
 // Core: the affine part over the three channels' inverses, not yet rounded. (A caller that stores the colour rounds each row itself: a
@@ -422,10 +430,10 @@ pub fn wild_mix(model: IlluminationModel, d: Unshaded) -> bool
 }
 
 // Core: an observed colour at a position, corrected, with the marks of the channels whose gain was held. Takes every float.
-pub fn corrected(model: IlluminationModel, x: f32, y: f32, colour: Linear) -> Marked
-    ensures { result ≡ spec.corrected model x y colour }
+pub fn corrected(model: IlluminationModel, s: Spot) -> Marked
+    ensures { result ≡ spec.corrected model s.x s.y s.colour }
 {
-    mix(model, unshade(model, x, y, colour))
+    mix(model, unshade(model, s))
 }
 
 // ---- reach: where no corrected colour is wild
@@ -467,16 +475,42 @@ pub fn reach(model: IlluminationModel) -> Span
     Span { lo: 1.0, hi: 0.0 }
 }
 
-// Core: whether a position is in a span, and each component of the colour from -256 to 256.
-pub fn within(s: Span, x: f32, y: f32, colour: Linear) -> bool
-    ensures { (result ≡ is_within s x y colour) × Placed x y colour }
+// Core: whether a spot's position is in a span, and each component of its colour from -256 to 256.
+pub fn within(span: Span, s: Spot) -> bool
+    ensures { (result ≡ is_within span s.x s.y s.colour) × Placed s.x s.y s.colour }
 {
-    let in_x = (s.lo <= x) & (x <= s.hi);
-    let in_y = (s.lo <= y) & (y <= s.hi);
-    let r = (-256.0 <= colour.r) & (colour.r <= 256.0);
-    let g = (-256.0 <= colour.g) & (colour.g <= 256.0);
-    let b = (-256.0 <= colour.b) & (colour.b <= 256.0);
+    let in_x = (span.lo <= s.x) & (s.x <= span.hi);
+    let in_y = (span.lo <= s.y) & (s.y <= span.hi);
+    let r = (-256.0 <= s.colour.r) & (s.colour.r <= 256.0);
+    let g = (-256.0 <= s.colour.g) & (s.colour.g <= 256.0);
+    let b = (-256.0 <= s.colour.b) & (s.colour.b <= 256.0);
     in_x & in_y & r & g & b
+}
+
+// Core: a model with the positions at which no moderate colour breaks sentence 12.
+#[derive(Clone, Copy, Debug)]
+pub struct Corrector {
+    model: IlluminationModel,
+    span: Span,
+    ghost reached: { (span ≡ reach_of model) × Typed model },
+}
+
+impl Corrector {
+    // Core: of a model.
+    pub fn new(model: IlluminationModel) -> Corrector
+        ensures { result.model ≡ model }
+    {
+        let span = reach(model);
+        Corrector { model, span }
+    }
+
+    // Core: sentence 12, of one spot: its corrected colour is wild.
+    #[tactic(auto, using(crate::proofs::Moderate::spot_wild, crate::proofs::Moderate::in_reach_tame))]
+    pub fn breaks(&self, s: Spot) -> bool
+        ensures { result ≡ wild_linear (spec.corrected self.now.model s.x s.y s.colour).colour }
+    {
+        !within(self.span, s) && wild_mix(self.model, unshade(self.model, s))
+    }
 }
 
 // ---- sentence 10
@@ -645,7 +679,7 @@ pub fn correct_lent<'a>(
         flare_g,
         flare_b,
     };
-    parts.correct(x, y, colour)
+    parts.correct(Spot { x, y, colour })
 }
 
 // An observed colour at a position, corrected by the model, with the marks of the channels whose gain was held. The position is any
@@ -654,5 +688,5 @@ pub fn correct_lent<'a>(
 pub fn correct(model: IlluminationModel, x: f32, y: f32, colour: Linear) -> Result<Marked, Refusal>
     ensures { said result ≡ correct_of model x y colour }
 {
-    Parts::of(&model).correct(x, y, colour)
+    Parts::of(&model).correct(Spot { x, y, colour })
 }

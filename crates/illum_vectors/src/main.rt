@@ -8,7 +8,7 @@
 #![tactic(auto)]
 
 use answers::Refusal;
-use illum::IlluminationModel;
+use illum::{IlluminationModel, Spot};
 use std::io;
 use vectors::{Answers, Inputs};
 
@@ -78,7 +78,8 @@ fn deshade(inputs: &mut Inputs, answers: &mut Answers) {
     let model = stage_words::take_model(inputs);
     let x = inputs.take();
     let y = inputs.take();
-    let d = illum::unshade(model, x, y, stage_words::take_linear(inputs));
+    let colour = stage_words::take_linear(inputs);
+    let d = illum::unshade(model, Spot { x, y, colour });
     answers.put_all(&[d.r.value, d.g.value, d.b.value]);
 }
 

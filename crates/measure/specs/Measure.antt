@@ -16,7 +16,6 @@ use Rattle.order.specs.Deviation.{sigma_of, cleared}
 use Rattle.illum.specs.declared.IlluminationModel.{IlluminationModel}
 use Rattle.illum.specs.Correct.{corrected, held_at}
 use Rattle.illum.specs.Refusals.{bad_model}
-use Rattle.measure.specs.declared.Seen.{Seen}
 use Rattle.measure.specs.declared.Measurement.{Measurement}
 use Rattle.stats.specs.declared.ChannelStats.{ChannelStats}
 use Rattle.stats.specs.Noise.{nominal}
@@ -24,10 +23,6 @@ use Rattle.stats.specs.Calls.{short_palette}
 use Rattle.references.specs.References.{x_at, y_at, observed_at, nominal_at, wild_colours, short_scratch, reference_placement}
 
 -- ---- one reference
-
--- where it stands, and its observed colour
-unfoldable pub seen_at : List Float → ℕ → Seen
-seen_at flat i = record { x = x_at flat i; y = y_at flat i; colour = observed_at flat i }
 
 -- its observed colour, corrected by the model
 unfoldable pub corrected_at : IlluminationModel → List Float → ℕ → Linear

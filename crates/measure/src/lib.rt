@@ -23,7 +23,7 @@ ghost use Rattle.measure.specs.Ready.{Scratch, Singles};
 use answers::Refusal;
 use color::palette::Palette;
 use color::{Lab, Linear};
-use illum::IlluminationModel;
+use illum::{Corrector, IlluminationModel};
 use references::References;
 use stats::ChannelStats;
 
@@ -37,27 +37,6 @@ pub struct Measurement {
 }
 
 // ---- one reference
-
-// Where a reference stands, and its observed colour.
-#[derive(Clone, Copy, Debug)]
-struct Seen {
-    x: f32,
-    y: f32,
-    colour: Linear,
-}
-
-// Reference i as it was observed.
-#[tactic(auto, unfolding(crate::specs::Measure::seen_at))]
-fn seen_at(references: &References, i: usize) -> Seen
-    requires { i < references.now.n }
-    ensures { result ≡ spec.seen_at references.now.flat.now i }
-{
-    Seen {
-        x: references.x(i),
-        y: references.y(i),
-        colour: references.observed(i),
-    }
-}
 
 // Whether a nominal colour says anything about chroma noise, by a chroma above 20: white and black would report a hue error that is
 // only a lightness error. No root is taken: a larger number has no smaller root, and 400.00003 is the largest whose root rounds to 20.
@@ -110,6 +89,7 @@ fn pattern(x: f32) -> u64
 }
 
 // The slot of a colour. Any will do: one that two colours share is found out anew where they take turns.
+// By hand: From has no conversion from u64 to usize.
 fn slot_of(c: Linear) -> usize
     ensures { result < 256 }
 {
@@ -256,8 +236,7 @@ fn correct(model: IlluminationModel, references: &References, s: &mut [f32]) -> 
     let n = references.n;
     let mut held = 0;
     for i in 0..n {
-        let o = seen_at(references, i);
-        let d = illum::unshade(model, o.x, o.y, o.colour);
+        let d = illum::unshade(model, references.seen(i));
         held = illum::count_held(d, held);
         let m = illum::mix(model, d);
         place(n, i, m.colour.r, m.colour.g, m.colour.b, s);
@@ -548,21 +527,16 @@ fn wild_numbers(references: &References, palette: &Palette) -> bool
 }
 
 // The corrected colour of one of the references is wild.
-// By index: the few that are out of the model's reach are corrected, and the first wild one of them ends the loop.
 fn wild_corrected(model: IlluminationModel, references: &References) -> bool
     ensures { result ≡ spec.wild_corrected model references.now.flat.now references.now.n }
 {
-    let reach = illum::reach(model);
-    for i in 0..references.n {
-        let o = seen_at(references, i);
-        if !illum::within(reach, o.x, o.y, o.colour) {
-            let d = illum::unshade(model, o.x, o.y, o.colour);
-            if illum::wild_mix(model, d) {
-                return true;
-            }
-        }
-    }
-    false
+    let corrector = Corrector::new(model);
+    (0..references.n).any(
+        |i|
+            requires { i < references.now.n }
+            ensures { result ≡ spec.wild_corrected_at corrector.model references.entry.now.flat.now i }
+        { corrector.breaks(references.seen(i)) },
+    )
 }
 
 // Sentence 12; fewer than 8 references are not corrected.

@@ -1,7 +1,7 @@
 -- The corrected colour of a spot is the spot unshaded and then mixed, so a step that puts this colour is the step of the definition. It has a mark where the spot's place says so. And what is said of
 -- spots is what is said of the modules and of the cells whose spots they are. Assumes nothing.
-use mathlib.Core.Path.{◌≡◌, refl, sym, ap, ◌∙◌}
-use mathlib.Core.Bool.{Bool, true, false, not}
+use mathlib.Core.Path.{◌≡◌, refl, ap, ◌∙◌}
+use mathlib.Core.Bool.{Bool}
 use mathlib.Core.List.{List}
 use Prim.Native.Nat.{ℕ, ◌+◌}
 use lib.IntN.{ℤ}
@@ -14,13 +14,11 @@ use Rattle.color.specs.Palette.{wild_linear}
 use Rattle.illum.specs.declared.IlluminationModel.{IlluminationModel}
 use Rattle.illum.specs.declared.Unshaded.{Unshaded}
 use Rattle.illum.specs.declared.Unrounded.{Unrounded}
-use Rattle.illum.specs.Correct.{unshaded, rows, rounded, mixed, count_held}
-use Rattle.illum.specs.declared.Span.{Span}
-use Rattle.illum.specs.Reach.{Typed, Placed, reach_of, is_within}
-use Rattle.illum.proofs.Moderate.{in_reach}
+use Rattle.illum.specs.Correct.{unshaded, rows, rounded, mixed, corrected, count_held}
+use Rattle.illum.specs.declared.Corrector.{Corrector}
 use Rattle.illum.proofs.Marks.{counts-position}
 use Rattle.illum.proofs.Rounded.{rows-mixed}
-use Rattle.observed.specs.declared.Spot.{Spot}
+use Rattle.illum.specs.declared.Spot.{Spot}
 use Rattle.observed.specs.Entries.{onwards}
 use Rattle.observed.specs.Colours.{module_spot, cell_spot, module_colour, cell_colour, corrected_spot, spot_colour, put_colour, colour_at, write_colours, held_module, held_module_count, held_cell, held_spot, held_from, wild_colour_at}
 
@@ -28,9 +26,6 @@ module _ (model : IlluminationModel) (s : Spot) (d : Unshaded) (ed : d ≡ unsha
   spot_mixed : (mixed model d).colour ≡ corrected_spot model s
   unfolding corrected_spot
   spot_mixed = rw ed
-
-  pub spot_wild : (r : Bool) → r ≡ wild_linear (mixed model d).colour → r ≡ wild_linear (corrected_spot model s)
-  spot_wild r e = rw (← spot_mixed) e
 
   module _ (spots : ℕ → Spot) (from j : ℕ) (es : s ≡ spots (from + j)) where
     pub colour_step : (v : Unrounded) (before after : List Float) → v ≡ rows model d → after ≡ put_colour before j (rounded v) → after ≡ colour_at (onwards (spot_colour model spots) from) j before
@@ -41,15 +36,9 @@ module _ (model : IlluminationModel) (s : Spot) (d : Unshaded) (ed : d ≡ unsha
     unfolding held_spot
     counted k r e = counts-position model _ _ _ d k r (held_spot model spots) (from + j) e ed (rw es)
 
-pub wild_at : (model : IlluminationModel) (spots : ℕ → Spot) (i : ℕ) (s : Spot) (r : Bool) → s ≡ spots i → r ≡ wild_linear (corrected_spot model s) → r ≡ wild_colour_at (spot_colour model spots) i
-unfolding spot_colour
-wild_at model spots i s r es e = rw (← es) e
-
--- a moderate colour in reach of the model is not wild
-pub in_reach_tame : (model : IlluminationModel) (s : Spot) (span : Span) (w : Bool) → (span ≡ reach_of model) × Typed model → (w ≡ is_within span s.x s.y s.colour) × Placed s.x s.y s.colour → w ≡ true →
-    false ≡ wild_linear (corrected_spot model s)
-unfolding corrected_spot
-in_reach_tame model s span w r i t = sym (in_reach model s.x s.y s.colour span w r i (ap not t))
+pub wild_at : (model : IlluminationModel) (spots : ℕ → Spot) (i : ℕ) (k : Corrector) (s : Spot) (r : Bool) → k.model ≡ model → s ≡ spots i → r ≡ wild_linear (corrected k.model s.x s.y s.colour).colour → r ≡ wild_colour_at (spot_colour model spots) i
+unfolding spot_colour corrected_spot
+wild_at model spots i k s r ek es e = rw (← es, ← ek) e
 
 module _ (model : IlluminationModel) (xs ys : List ℤ) (raw : List Float) where
   pub module_colours : spot_colour model (module_spot xs ys raw) ≡ module_colour model xs ys raw

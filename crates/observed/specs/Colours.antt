@@ -9,7 +9,7 @@ use Rattle.color.specs.Palette.{linear_at, wild_linear}
 use Rattle.illum.specs.declared.IlluminationModel.{IlluminationModel}
 use Rattle.illum.specs.Correct.{corrected, held_at}
 use Rattle.stats.specs.Arithmetic.{◌⊕◌, ◌⊗◌, ◌⊘◌}
-use Rattle.observed.specs.declared.Spot.{Spot}
+use Rattle.illum.specs.declared.Spot.{Spot}
 use Rattle.observed.specs.Entries.{put_three}
 
 -- ---- where a colour stands, and the colour corrected

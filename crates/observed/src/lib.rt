@@ -6,28 +6,17 @@
 ghost use Rattle.std.specs.Prelude.{◌≡◌, ℕ, ◌+◌, ◌*◌, ◌<◌, ◌≤◌, T, length};
 ghost use Rattle.std.specs.Float.{binary32};
 ghost use Rattle.std.specs.Float.Ieee.{in_float};
-ghost use Rattle.color.specs.Palette.{wild_linear};
 ghost use Rattle.illum.specs.Correct.{rounded};
-ghost use Rattle.illum.specs.Reach.{Typed, reach_of};
-ghost use Rattle.observed.specs.declared.Spot.{Spot};
+ghost use Rattle.illum.specs.declared.Spot.{Spot};
 ghost use Rattle.observed.specs.Entries as entry;
 ghost use Rattle.observed.specs.Entries.{onwards};
 ghost use Rattle.observed.specs.Colours as spec;
 
-use color::Linear;
 use color::palette::linear_at;
-use illum::{IlluminationModel, Span, Unrounded};
+use illum::{Corrector, IlluminationModel, Spot, Unrounded};
 use layout::{Cells, Modules};
 
 // ---- a colour as it was observed
-
-// Where a colour stands, and the colour as it was observed.
-#[derive(Clone, Copy, Debug)]
-pub struct Spot {
-    pub x: f32,
-    pub y: f32,
-    pub colour: Linear,
-}
 
 // Core: colours that were observed, each at its spot.
 pub trait Spots {
@@ -60,7 +49,7 @@ fn cell_centre(size: usize, cx: u16) -> f32
     requires { size ≤ 16 }
     ensures { result ≡ spec.cell_centre size cx }
 {
-    cx as f32 * size as f32 + size as f32 / 2.0
+    f32::from(cx) * size as f32 + size as f32 / 2.0
 }
 
 // A card's modules with their colours, three numbers each, as they were observed.
@@ -167,7 +156,7 @@ pub fn correct<S: Spots>(
     let mut k = held;
     for j in 0..n {
         let s = seen.spot(from + j);
-        let d = illum::unshade(model, s.x, s.y, s.colour);
+        let d = illum::unshade(model, s);
         k = illum::count_held(d, k);
         put_rows(colours, j, illum::rows(model, d));
     }
@@ -176,36 +165,14 @@ pub fn correct<S: Spots>(
 
 // ---- sentence 12
 
-// A model with the positions at which no moderate colour breaks sentence 12.
-#[derive(Clone, Copy, Debug)]
-struct Reach {
-    model: IlluminationModel,
-    span: Span,
-    ghost reached: { (span ≡ reach_of model) × Typed model },
-}
-
-impl Reach {
-    // Sentence 12, of one spot: its corrected colour is wild.
-    #[tactic(auto, using(crate::proofs::Corrected::spot_wild, crate::proofs::Corrected::in_reach_tame))]
-    fn breaks(&self, s: Spot) -> bool
-        ensures { result ≡ wild_linear (spec.corrected_spot self.now.model s) }
-    {
-        !illum::within(self.span, s.x, s.y, s.colour)
-            && illum::wild_mix(self.model, illum::unshade(self.model, s.x, s.y, s.colour))
-    }
-}
-
 // Core: sentence 12: a corrected colour is wild.
-// By index: no list holds spots, and `any` with a test that calls a bound's method has no proof here.
+// By index: no list holds spots, and of `any` over places no proof closes where the test calls a method of S.
 pub fn any_wild<S: Spots>(model: IlluminationModel, seen: &S) -> bool
     ensures { result ≡ spec.wild_colours (spec.spot_colour model (S.spots seen.now)) (S.count seen.now) }
 {
-    let reach = Reach {
-        model,
-        span: illum::reach(model),
-    };
+    let corrector = Corrector::new(model);
     for i in 0..seen.len() {
-        if reach.breaks(seen.spot(i)) {
+        if corrector.breaks(seen.spot(i)) {
             return true;
         }
     }

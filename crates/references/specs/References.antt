@@ -6,6 +6,7 @@ use Rattle.loops.specs.Loops.{any_up}
 use Rattle.sentences.specs.Sentences.{Sentence, ◌when◌}
 use Rattle.color.specs.declared.Linear.{Linear}
 use Rattle.color.specs.Palette.{wild_at}
+use Rattle.illum.specs.declared.Spot.{Spot}
 use Rattle.illum.specs.Refusals.{not_finite_at}
 use Rattle.references.specs.declared.Primary.{Primary}
 use Rattle.references.specs.declared.Primary.TheVariants.{Red, Green, Blue}
@@ -40,6 +41,10 @@ observed_at flat i = record { r = observed_of flat 0 i; g = observed_of flat 1 i
 
 abbrev pub nominal_at : List Float → ℕ → Linear
 nominal_at flat i = record { r = nominal_of flat 0 i; g = nominal_of flat 1 i; b = nominal_of flat 2 i }
+
+-- where it stands, and its observed colour
+abbrev pub seen_at : List Float → ℕ → Spot
+seen_at flat i = record { x = x_at flat i; y = y_at flat i; colour = observed_at flat i }
 
 -- ---- 7: "A reference position is not a number from -16 to side + 16"
 

@@ -13,6 +13,7 @@ ghost use Rattle.references.specs.References as spec;
 
 use answers::Refusal;
 use color::Linear;
+use illum::Spot;
 
 // A channel of a colour.
 #[derive(Clone, Copy, Debug, PartialEq, Eq)]
@@ -106,6 +107,18 @@ impl<'a> References<'a> {
         ensures { result ≡ spec.observed_at self.now.flat.now i }
     {
         self.colour(i, 2)
+    }
+
+    // Core: reference i as it was observed.
+    pub fn seen(&self, i: usize) -> Spot
+        requires { i < self.now.n }
+        ensures { result ≡ spec.seen_at self.now.flat.now i }
+    {
+        Spot {
+            x: self.x(i),
+            y: self.y(i),
+            colour: self.observed(i),
+        }
     }
 
     // Core: the nominal colour of reference i.

@@ -35,7 +35,7 @@ fn residual(m: IlluminationModel, references: &References, i: usize) -> f32
     requires { i < references.now.n }
     ensures { result ≡ spec.residual m references.now.flat.now i }
 {
-    let k = illum::corrected(m, references.x(i), references.y(i), references.observed(i));
+    let k = illum::corrected(m, references.seen(i));
     distance(k.colour, references.nominal(i))
 }
 
