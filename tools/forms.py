@@ -46,7 +46,7 @@ def bare(text):
     return "".join(out)
 
 
-WORDS = {"1": "Structs of C", "2": "Twin", "3": "By index", "4": "By hand", "5": "Slices|Facts", "6": "Slices", "7": "Switch"}
+WORDS = {"1": "Structs of C|Number", "2": "Twin", "3": "By index", "4": "By hand", "5": "Slices|Facts", "6": "Slices", "7": "Switch"}
 
 
 def is_kept(point, lines, number):

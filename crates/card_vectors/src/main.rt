@@ -16,7 +16,7 @@ fn beside(text: &[u8], wanted: &[u8], at: usize) -> Compared {
     Compared {
         number: 0,
         at,
-        function: 0,
+        function: Some(0),
         agree,
         answers: text.len(),
         due: wanted.len(),

@@ -17,15 +17,10 @@ fn colour_counts(inputs: &mut Inputs, answers: &mut Answers) {
     answers.put_list(out);
 }
 
-// Calls the function of this name.
-fn answer(name: &str, inputs: &mut Inputs, answers: &mut Answers) {
-    match name {
-        "colour_counts" => colour_counts(inputs, answers),
-        _ => {}
-    }
-}
-
 // Twin: each program's `main` names its list and its functions.
 fn main(rt: HostRuntime) -> io::Result<()> {
+    let answer = |_: &str, inputs: &mut Inputs, answers: &mut Answers| colour_counts(
+        inputs, answers,
+    );
     vectors::replay(&rt, "counts.txt", &["colour_counts"], answer)
 }

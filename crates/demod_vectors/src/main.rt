@@ -44,15 +44,8 @@ fn score(inputs: &mut Inputs, answers: &mut Answers) {
     answers.put_list(chroma);
 }
 
-// Calls the function of this name.
-fn answer(name: &str, inputs: &mut Inputs, answers: &mut Answers) {
-    match name {
-        "score" => score(inputs, answers),
-        _ => {}
-    }
-}
-
 // Twin: each program's main names its own list and its own functions.
 fn main(rt: HostRuntime) -> io::Result<()> {
+    let answer = |_: &str, inputs: &mut Inputs, answers: &mut Answers| score(inputs, answers);
     vectors::replay(&rt, "demod.txt", &["score"], answer)
 }

@@ -7,7 +7,7 @@ use std::io;
 use vectors::{Answers, Inputs, Value};
 
 // An answer as a list has it: 0 solved, FFFF no solution, else the refusal's number.
-// Structs of C: the word that the list stores is a number.
+// Number: the list stores one word for the three outcomes.
 fn number(solving: Result<bool, Refusal>) -> u32 {
     match solving {
         Ok(true) => 0,

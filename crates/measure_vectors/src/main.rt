@@ -51,15 +51,8 @@ fn measure(inputs: &mut Inputs, answers: &mut Answers) {
     stage_words::put_scratch(answers, scratch, fill);
 }
 
-// Calls the function of this name.
-fn answer(name: &str, inputs: &mut Inputs, answers: &mut Answers) {
-    match name {
-        "measure" => measure(inputs, answers),
-        _ => {}
-    }
-}
-
 // Twin: each program's main names its own list and its own functions.
 fn main(rt: HostRuntime) -> io::Result<()> {
+    let answer = |_: &str, inputs: &mut Inputs, answers: &mut Answers| measure(inputs, answers);
     vectors::replay(&rt, "measure.txt", &["measure"], answer)
 }

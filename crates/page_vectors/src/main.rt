@@ -25,15 +25,8 @@ fn page(inputs: &mut Inputs, answers: &mut Answers) {
     answers.put_list(out);
 }
 
-// Calls the function of this name.
-fn answer(name: &str, inputs: &mut Inputs, answers: &mut Answers) {
-    match name {
-        "page" => page(inputs, answers),
-        _ => {}
-    }
-}
-
 // Twin: each program's main names its own list and its own functions.
 fn main(rt: HostRuntime) -> io::Result<()> {
+    let answer = |_: &str, inputs: &mut Inputs, answers: &mut Answers| page(inputs, answers);
     vectors::replay(&rt, "page.txt", &["page"], answer)
 }

@@ -64,12 +64,15 @@ fn take_reference(inputs: &mut Inputs) -> Reference {
     }
 }
 
-// Takes references: how many floats they have, and the eight of each. All past these are zero.
+// Takes a list of references: how many floats they have, and the eight of each. All past these are zero. What is taken
+// is the whole list, also where its floats are more than 64 references have or the last reference is not whole.
 fn take_references(inputs: &mut Inputs) -> [Reference; 64] {
-    let floats: usize = inputs.take();
+    let mut listed = *inputs;
+    inputs.list::<f32>(&mut []);
+    let floats: usize = listed.take();
     let mut rs = [take_reference(&mut Inputs::new(&[])); 64];
     for r in rs.iter_mut().take(floats / 8) {
-        *r = take_reference(inputs);
+        *r = take_reference(&mut listed);
     }
     rs
 }

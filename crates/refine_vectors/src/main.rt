@@ -31,15 +31,8 @@ fn refine(inputs: &mut Inputs, answers: &mut Answers) {
     stage_words::put_scratch(answers, scratch, fill);
 }
 
-// Calls the function of this name.
-fn answer(name: &str, inputs: &mut Inputs, answers: &mut Answers) {
-    match name {
-        "refine" => refine(inputs, answers),
-        _ => {}
-    }
-}
-
 // Twin: each program's main names its own list and its own functions.
 fn main(rt: HostRuntime) -> io::Result<()> {
+    let answer = |_: &str, inputs: &mut Inputs, answers: &mut Answers| refine(inputs, answers);
     vectors::replay(&rt, "refine.txt", &["refine"], answer)
 }

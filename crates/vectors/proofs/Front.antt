@@ -1,6 +1,7 @@
 -- A text, or a row, from one place on: at its front is the byte at that place, and what is left behind that gives the loop's answer. Assumes nothing.
-use Rattle.std.proofs.Common.{◌≡◌, ℕ, ◌+◌, ◌*◌, ◌%◌, ◌<◌, ◌≤◌, min, Bool, true, false, cond, ltb, leb, List, ◌∷◌, length, get_or, take, drop, sym, refl, ap, ◌∙◌, add-one, arith, drop_of_length-le, length-drop, length-take-le, take_all, drop-cons, ltb-false, ltb-true, le-ltb, lt-ltb, leb-false, leb-true}
+use Rattle.std.proofs.Common.{◌≡◌, ℕ, Option, None, Some, ◌+◌, ◌*◌, ◌%◌, ◌<◌, ◌≤◌, min, Bool, true, false, ltb, leb, List, ◌∷◌, length, get_or, take, drop, sym, refl, ap, ◌∙◌, add-one, arith, drop_of_length-le, length-drop, length-take-le, take_all, drop-cons, ltb-false, ltb-true, leb-false, leb-true}
 use lib.ListN.{get_or-eq_default}
+use Rattle.std.specs.Option.{option_map_or}
 use Rattle.vectors.specs.Words.{digit_of, spelled, digits_from}
 use Rattle.vectors.specs.Answers.{shared_front}
 use Rattle.vectors.specs.declared.Digits.{Digits}
@@ -32,15 +33,18 @@ unfolding digits_from
 begin-digits text rest at e = record { same = ap (spelled 0 at) e; place = omega arith }
 
 module _ {rest : List ℕ} {at k v i : ℕ} {t : Digits} (inv : LeftDigits rest at k v i t) where
-  here : k < length rest → cond (ltb (digit_of (get_or rest k 0)) 16) (spelled (v % 0x1000_0000_0000_0000 * 16 + digit_of (get_or rest k 0)) (i + 1) (drop (k + 1) rest)) (record { value = v; end = i }) ≡ t
+  abbrev read : Option ℕ → Digits
+  read o = option_map_or (λ d. spelled (v % 0x1000_0000_0000_0000 * 16 + d) (i + 1) (drop (k + 1) rest)) o (record { value = v; end = i })
+
+  here : k < length rest → read (digit_of (get_or rest k 0)) ≡ t
   unfolding spelled
   here h = ap (spelled v i) (sym (front rest k h)) ∙ inv.same
 
-  pub stop-digits : {d : ℕ} → k < length rest → d ≡ digit_of (get_or rest k 0) → 16 ≤ d → record { value = v; end = i } ≡ t
-  stop-digits {d} h e l = cc (here h, le-ltb d 16 l)
+  pub stop-digits : {o : Option ℕ} → k < length rest → o ≡ digit_of (get_or rest k 0) → o ≡ None → record { value = v; end = i } ≡ t
+  stop-digits h e f = ap read (sym f ∙ e) ∙ here h
 
-  pub turn-digits : {d : ℕ} → k < length rest → d ≡ digit_of (get_or rest k 0) → d < 16 → LeftDigits rest at (k + 1) (v % 0x1000_0000_0000_0000 * 16 + d) (i + 1) t
-  turn-digits {d} h e l = record { same = cc (here h, lt-ltb d 16 l); place = omega (arith, inv.place) }
+  pub turn-digits : {o : Option ℕ} {d : ℕ} → k < length rest → o ≡ digit_of (get_or rest k 0) → o ≡ Some d → LeftDigits rest at (k + 1) (v % 0x1000_0000_0000_0000 * 16 + d) (i + 1) t
+  turn-digits h e f = record { same = ap read (sym f ∙ e) ∙ here h; place = omega (arith, inv.place) }
 
   pub done-digits : length rest ≤ k → record { value = v; end = i } ≡ t
   unfolding spelled

@@ -1,11 +1,11 @@
 -- Lines and names end where `find` finds their last byte, and nothing is found past the end of the text. Assumes nothing.
-use Rattle.std.proofs.Common.{◌≡◌, ℕ, suc, ◌+◌, ◌-◌, ◌<◌, ◌≤◌, Bool, true, false, cond, not, eqb, ltb, List, [], ◌∷◌, length, get_or, take, drop, sym, refl, ap, ◌∙◌, add-zero, add-one, arith, drop-cons, length-drop, drop_of_length-le, length-take, length-take-le, ltb-false, ltb-true, le-ltb, lt-ltb}
+use Rattle.std.proofs.Common.{◌≡◌, ℕ, suc, ◌+◌, ◌-◌, ◌<◌, ◌≤◌, Bool, true, false, cond, not, eqb, ltb, List, [], ◌∷◌, length, take, drop, sym, refl, ap, ◌∙◌, add-zero, arith, length-drop, drop_of_length-le, length-take, length-take-le, ltb-false, ltb-true, le-ltb, lt-ltb}
 use Rattle.std.proofs.lemmas.List.{drop-take}
 use Rattle.std.proofs.lemmas.List.Sums.{prefix_len-le-length}
 use Rattle.std.specs.List.{take_while, prefix_len}
 use lib.Seq.{take-nil}
 use Rattle.vectors.specs.Bytes.{slice, index_of, index_after}
-use Rattle.vectors.specs.Lines.{line_end, next_line, name_end, name_of, number_in}
+use Rattle.vectors.specs.Lines.{line_end, next_line, name_end, name_of}
 
 -- ---- what is found stands in the part that was looked at
 
@@ -123,33 +123,3 @@ no_name_there text at h = sym (no_name text at (omega arith))
 pub name_part : (text : List ℕ) (at e : ℕ) → e ≡ name_end text at → take (e - at) (drop at text) ≡ name_of text at
 unfolding name_of
 name_part text at e h = ap (λ (n : ℕ). take (n - at) (drop at text)) h
-
--- ---- the function that a record names
-
--- with k functions passed, the number sought is that of one from there on
-pub record LeftFunctions {A : Type 0} (is_it : A → Bool) (functions : List A) (k t : ℕ) : Type 0 where
-  pub same : number_in is_it k (drop k functions) ≡ t
-
-module _ {A : Type 0} {is_it : A → Bool} {functions : List A} where
-  pub begin-functions : LeftFunctions is_it functions 0 (number_in is_it 0 functions)
-  begin-functions = record { same = refl }
-
-  module _ {k t : ℕ} (inv : LeftFunctions is_it functions k t) where
-    module _ (d : A) (b : Bool) (e : b ≡ is_it (get_or functions k d)) (h : k < length functions) where
-      here : cond b k (number_in is_it (k + 1) (drop (k + 1) functions)) ≡ t
-      unfolding number_in
-      here =
-          let front : drop k functions ≡ get_or functions k d ∷ drop (k + 1) functions = rw (add-one, drop-cons functions k d h) in
-          ap (λ (c : Bool). cond c k (number_in is_it (k + 1) (drop (k + 1) functions))) e
-          ∙ ap (number_in is_it k) (sym front)
-          ∙ inv.same
-
-      pub found_function : b ≡ true → k ≡ t
-      found_function r = ap (λ (c : Bool). cond c k (number_in is_it (k + 1) (drop (k + 1) functions))) (sym r) ∙ here
-
-      pub pass_function : b ≡ false → LeftFunctions is_it functions (k + 1) t
-      pass_function r = record { same = ap (λ (c : Bool). cond c k (number_in is_it (k + 1) (drop (k + 1) functions))) (sym r) ∙ here }
-
-    pub no_function : length functions ≤ k → 31 ≡ t
-    unfolding number_in
-    no_function h = ap (number_in is_it k) (sym (drop_of_length-le functions h)) ∙ inv.same

@@ -1,9 +1,8 @@
 -- A run of words: those that are left from a place of the text and of the row on give the whole run. Assumes nothing.
-use Rattle.std.proofs.Common.{◌≡◌, ℕ, ◌+◌, ◌<◌, ◌≤◌, List, length, set, sym, refl, ap, ◌∙◌, arith, length-set}
+use Rattle.std.proofs.Common.{◌≡◌, ℕ, Option, None, Some, ◌+◌, ◌<◌, ◌≤◌, List, length, set, sym, refl, ap, ◌∙◌, arith, length-set}
 use Rattle.loops.specs.Loops.{Turn, for_try}
 use Rattle.loops.proofs.Laws.{LeftTry, begin_try, turn_try, out_try, done_try}
-use Rattle.vectors.specs.declared.Word.{Word}
-use Rattle.vectors.specs.declared.Word.TheVariants.{Value, Nothing}
+use Rattle.vectors.specs.declared.Digits.{Digits}
 use Rattle.vectors.specs.Words.{Words, words_of, word_from, took, take_word, ended, words_from}
 
 abbrev run : List ℕ → ℕ → List ℕ → Turn Words Words
@@ -19,16 +18,16 @@ pub begin_words : {text : List ℕ} {at : ℕ} {row : List ℕ} → LeftWords te
 begin_words = record { left = begin_try; long = refl; within = omega arith }
 
 module _ {text : List ℕ} {at : ℕ} {row₀ : List ℕ} {k i : ℕ} {row : List ℕ} (inv : LeftWords text at row₀ k i row) where
-  pub stop_words : {w : Word} → w ≡ word_from text i → w ≡ Nothing → k < length row₀ → words_of k i row ≡ words_from text at row₀
+  pub stop_words : {w : Option Digits} → w ≡ word_from text i → w ≡ None → k < length row₀ → words_of k i row ≡ words_from text at row₀
   unfolding words_from ended take_word took
   stop_words e f h = ap ended (out_try inv.left h (ap (took k (words_of k i row)) (sym f ∙ e)))
 
-  pub turn_words : {w : Word} {v e : ℕ} → w ≡ word_from text i → w ≡ Value v e → k < length row₀ → LeftWords text at row₀ (k + 1) e (set row k v)
+  pub turn_words : {w : Option Digits} {d : Digits} → w ≡ word_from text i → w ≡ Some d → k < length row₀ → LeftWords text at row₀ (k + 1) d.end (set row k d.value)
   unfolding take_word took
-  turn_words {w} {v} e f h =
+  turn_words {w} {d} e f h =
       record {
         left = turn_try inv.left h (ap (took k (words_of k i row)) (sym f ∙ e));
-        long = length-set row k v ∙ inv.long;
+        long = length-set row k d.value ∙ inv.long;
         within = omega arith;
       }
 

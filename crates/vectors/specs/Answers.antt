@@ -1,5 +1,6 @@
 -- Rows of words, what they stand for, and how two of them are compared and counted. Definitions only.
-use Rattle.std.specs.Prelude.{ℕ, ◌+◌, ◌-◌, ◌*◌, ◌/◌, ◌%◌, ◌^◌, Bool, cond, not, ◌&&◌, List, length, take, replicate, ◌==◌, nat_le, nat_lt, slice_index, slice_set, fold, take_while, zip}
+use Rattle.std.specs.Prelude.{ℕ, Option, None, Some, unwrap_or, ◌+◌, ◌-◌, ◌*◌, ◌/◌, ◌%◌, ◌^◌, Bool, cond, ◌&&◌, List, length, take, replicate, ◌==◌, nat_le, nat_lt, slice_index, slice_set, fold, take_while, zip}
+use Rattle.std.specs.Option.{is_some, option_and_then}
 use Rattle.loops.specs.Loops.{for_up}
 use Rattle.vectors.specs.declared.Record.{Record}
 use Rattle.vectors.specs.declared.Compared.{Compared}
@@ -27,15 +28,15 @@ shared_front got wanted = length (take_while (λ p. p.0 == p.1) (zip got wanted)
 
 -- ---- comparing
 
--- the function's number, and 31 for a line that is not whole or a number that there is not
-unfoldable pub known_of : ℕ → Bool → ℕ
-known_of f whole = cond (whole && nat_lt f 31) f 31
+-- the function's number, if the line is whole and the number is below 31
+unfoldable pub known_of : Option ℕ → Bool → Option ℕ
+known_of function whole = option_and_then (λ f. cond (whole && nat_lt f 31) (Some f) None) function
 
 unfoldable pub agree_of : Record → List ℕ → List ℕ → ℕ → ℕ
 agree_of r wanted got n = shared_front (take n got) (take r.answers wanted)
 
 -- the first n words of `got` beside the answers of a record whose line begins at `at`
-unfoldable pub compared_of : ℕ → ℕ → Record → List ℕ → List ℕ → ℕ → Compared
+unfoldable pub compared_of : Option ℕ → ℕ → Record → List ℕ → List ℕ → ℕ → Compared
 compared_of f at r wanted got n =
     record {
       number = 0;
@@ -50,12 +51,16 @@ compared_of f at r wanted got n =
 
 -- read, and every answer is the one wanted
 unfoldable pub same_of : Compared → Bool
-same_of c = not (c.function == 31) && (c.agree == c.answers && c.agree == c.due)
+same_of c = is_some c.function && (c.agree == c.answers && c.agree == c.due)
+
+-- where the counts of a tally have the record: at its function's number, and at 31 where it is not read
+abbrev pub place_of : Compared → ℕ
+place_of c = unwrap_or c.function 31
 
 -- ---- counting
 
 unfoldable pub no_record : Compared
-no_record = record { number = 0; at = 0; function = 0; agree = 0; answers = 0; due = 0; got = 0; wanted = 0 }
+no_record = record { number = 0; at = 0; function = None; agree = 0; answers = 0; due = 0; got = 0; wanted = 0 }
 
 unfoldable pub nothing_met : Tally
 nothing_met = record { records = 0; compared = replicate 32 0; differ = replicate 32 0; kept = 0; first = replicate 8 no_record }
@@ -75,7 +80,7 @@ numbered_of c n =
 
 -- one more record, counted for its function
 unfoldable pub agreed_of : Tally → Compared → Tally
-agreed_of t c = record { records = one_larger t.records; compared = one_more_at t.compared c.function; differ = t.differ; kept = t.kept; first = t.first }
+agreed_of t c = record { records = one_larger t.records; compared = one_more_at t.compared (place_of c); differ = t.differ; kept = t.kept; first = t.first }
 
 -- one more of those that differ: counted for its function, and kept while there are fewer than eight
 unfoldable pub differing_of : Tally → Compared → Tally
@@ -83,7 +88,7 @@ differing_of t c =
     record {
       records = t.records;
       compared = t.compared;
-      differ = one_more_at t.differ c.function;
+      differ = one_more_at t.differ (place_of c);
       kept = cond (nat_le 8 t.kept) t.kept (t.kept + 1);
       first = cond (nat_le 8 t.kept) t.first (slice_set t.first t.kept (numbered_of c t.records));
     }

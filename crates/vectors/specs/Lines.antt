@@ -1,5 +1,5 @@
 -- The lines of a list and the names of its records, as the format has them. Definitions only.
-use Rattle.std.specs.Prelude.{ℕ, ◌+◌, ◌-◌, Bool, cond, List, [], ◌∷◌, length, take, drop, ◌==◌, nat_lt, slice_index}
+use Rattle.std.specs.Prelude.{ℕ, ◌+◌, ◌-◌, Bool, cond, List, length, take, drop, ◌==◌, nat_lt, slice_index}
 use Rattle.vectors.specs.Bytes.{slice, index_of}
 
 -- the byte at a place, and 0 past the end
@@ -25,8 +25,3 @@ name_end text at = at + index_of 32 (slice at (line_end text at) text)
 -- the name of the record that begins at `at`
 unfoldable pub name_of : List ℕ → ℕ → List ℕ
 name_of text at = take (name_end text at - at) (drop at text)
-
--- the number of the first function of a list that is the one sought, where the list begins with number k; 31 where none is
-unfoldable pub number_in : {A : Type 0} → (A → Bool) → ℕ → List A → ℕ
-number_in is_it k [] = 31
-number_in is_it k (f ∷ fs) = cond (is_it f) k (number_in is_it (k + 1) fs)

@@ -1,34 +1,33 @@
 -- The words of a record: hexadecimal digits after a space. Definitions only.
-use Rattle.std.specs.Prelude.{ℕ, ◌+◌, ◌-◌, ◌*◌, ◌%◌, Bool, false, cond, ◌&&◌, List, [], ◌∷◌, length, drop, ◌==◌, nat_le, nat_lt, slice_set}
+use Rattle.std.specs.Prelude.{ℕ, ◌+◌, ◌-◌, ◌*◌, ◌%◌, Bool, false, cond, ◌&&◌, Option, None, Some, List, [], ◌∷◌, length, drop, ◌==◌, nat_le, nat_lt, slice_set}
+use Rattle.std.specs.Option.{option_map_or}
 use Rattle.loops.specs.Loops.{Turn, go, out, for_try}
 use Rattle.vectors.specs.Lines.{byte_at, name_end}
 use Rattle.vectors.specs.declared.Digits.{Digits}
-use Rattle.vectors.specs.declared.Word.{Word}
-use Rattle.vectors.specs.declared.Word.TheVariants.{Value, Nothing}
 use Rattle.vectors.specs.declared.Record.{Record}
 
--- the value of `0` to `9` and `A` to `F`, and 16 for any other byte
-unfoldable pub digit_of : ℕ → ℕ
-digit_of b = cond (nat_lt b 48) 16 (cond (nat_le b 57) (b - 48) (cond (nat_lt b 65) 16 (cond (nat_le b 70) (b - 65 + 10) 16)))
+-- the value of `0` to `9` and `A` to `F`
+unfoldable pub digit_of : ℕ → Option ℕ
+digit_of b = cond (nat_le 48 b && nat_le b 57) (Some (b - 48)) (cond (nat_le 65 b && nat_le b 70) (Some (b - 65 + 10)) None)
 
 -- the digits in front of a text that begins at place i, after digits that spell v: the number that all of them spell, of which the last
 -- sixteen count, and the place where they end
 unfoldable pub spelled : ℕ → ℕ → List ℕ → Digits
 unfolding digit_of
 spelled v i [] = record { value = v; end = i }
-spelled v i (b ∷ bs) = cond (nat_lt (digit_of b) 16) (spelled (v % 0x1000_0000_0000_0000 * 16 + digit_of b) (i + 1) bs) (record { value = v; end = i })
+spelled v i (b ∷ bs) = option_map_or (λ d. spelled (v % 0x1000_0000_0000_0000 * 16 + d) (i + 1) bs) (digit_of b) (record { value = v; end = i })
 
 -- the digits from `at` on
 unfoldable pub digits_from : List ℕ → ℕ → Digits
 digits_from text at = spelled 0 at (drop at text)
 
 -- the word that digits from place `from` on make, if they are 1 to 16
-unfoldable pub word_of : ℕ → Digits → Word
-word_of from d = cond (nat_lt from d.end && nat_le d.end (from + 16)) (Value d.value d.end) Nothing
+unfoldable pub word_of : ℕ → Digits → Option Digits
+word_of from d = cond (nat_lt from d.end && nat_le d.end (from + 16)) (Some d) None
 
--- a space and a word, or anything else
-unfoldable pub word_from : List ℕ → ℕ → Word
-word_from text at = cond (byte_at text at == 32) (word_of (at + 1) (digits_from text (at + 1))) Nothing
+-- a space and a word
+unfoldable pub word_from : List ℕ → ℕ → Option Digits
+word_from text at = cond (byte_at text at == 32) (word_of (at + 1) (digits_from text (at + 1))) None
 
 -- a run of words: how many, where they end in the text, and the row that they were put into
 pub record Words : Type 0 where
@@ -40,9 +39,9 @@ abbrev pub words_of : ℕ → ℕ → List ℕ → Words
 words_of n e row = record { count = n; end = e; row = row }
 
 -- word k of a run, if there is one
-unfoldable pub took : ℕ → Words → Word → Turn Words Words
-took k s (Value v e) = go (words_of (k + 1) e (slice_set s.row k v))
-took k s Nothing = out s
+unfoldable pub took : ℕ → Words → Option Digits → Turn Words Words
+took k s (Some w) = go (words_of (k + 1) w.end (slice_set s.row k w.value))
+took k s None = out s
 
 unfoldable pub ended : Turn Words Words → Words
 ended (go s) = s

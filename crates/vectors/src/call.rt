@@ -74,8 +74,8 @@ impl<'a> Inputs<'a> {
         self.rest = past(self.rest, out.len());
     }
 
-    // Takes the next list, a length and then its elements: as many as `room` has place for, which stand at its start. An
-    // element whose word is not there is 0.
+    // Takes the next list, a length and then its elements: as many as `room` has place for, which stand at its start.
+    // An element whose word is not there is 0.
     pub fn list<'b, T: Value>(&mut self, room: &'b mut [T]) -> &'b mut [T]
         ensures len { length result.now ≡ min (slice_index self.old.rest.now 0) (length room.old) }
         ensures values { (k : ℕ) (d : T) → k < length result.now → slice_index_or result.now k d ≡ T.value_of (slice_index (drop 1 self.old.rest.now) k) }
@@ -91,7 +91,7 @@ impl<'a> Inputs<'a> {
 }
 
 // The answers of a record so far: a word each, and how many these are. Past `ROOM` of them there is no place.
-// Slices: a slice that is written to keeps its length, and these grow.
+// Slices: a record takes no heap, and the contracts are over a row of words of fixed room, whose front these fill.
 #[derive(Clone, Copy, Debug)]
 pub struct Answers {
     pub words: [u64; ROOM],
@@ -135,7 +135,13 @@ impl Answers {
     }
 
     // Compares the answers with those that a record wants, whose line begins at `at`.
-    pub fn compare(&self, function: usize, at: usize, read: Record, wanted: &[u64]) -> Compared
+    pub fn compare(
+        &self,
+        function: Option<usize>,
+        at: usize,
+        read: Record,
+        wanted: &[u64],
+    ) -> Compared
         ensures { result ≡ compared_of function at read wanted.now self.now.words self.now.count }
     {
         super::compare(function, at, read, wanted, &self.words, self.count)

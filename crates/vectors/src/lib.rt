@@ -4,13 +4,13 @@
 // A list is lines of ASCII. A line that begins with `#` is a comment. Every other line is a record,
 // `NAME WORD .. = WORD ..`: the function, what goes in, and what must come out. A word is 1 to 16 upper-case
 // hexadecimal digits: a float is its bit pattern, a slice its length and then its elements. A NaN answer is
-// written 7FC00000 (f32) or 7FF8000000000000 (f64), and `word_of_f32` and `word_of_f64` write every NaN so.
+// written 7FC00000 (f32) or 7FF8000000000000 (f64), and `Value::word` writes every NaN so.
 //
 // One row of words holds the inputs of a record, another the answers that it wants, and a third those got.
 // Slices: a text and a place in it, since the format's definitions speak of places, and the report goes back to them.
 #![tactic(auto)]
 
-ghost use Rattle.std.specs.Prelude.{◌≡◌, ◌+◌, ◌*◌, ◌%◌, ◌<◌, ◌≤◌, ◌==◌, not, min, length, take, take_while, slice_index};
+ghost use Rattle.std.specs.Prelude.{◌≡◌, ◌+◌, ◌*◌, ◌%◌, ◌<◌, ◌≤◌, ◌==◌, not, min, length, take, take_while, slice_index, unwrap_or};
 ghost use Rattle.vectors.specs.Bytes.{slice, index_of};
 ghost use Rattle.vectors.specs.Lines.{byte_at, line_end, next_line, is_comment, name_end, name_of};
 ghost use Rattle.vectors.specs.Words as reading;
@@ -26,7 +26,9 @@ use std::io;
 use std::io::Write;
 pub use value::Value;
 
-// The function number of a record that is not read: a name that the program does not know, or a broken line.
+// The place in a tally of the records that are not read: those with a name that the program does not know, or a broken
+// line.
+// Number: a tally counts by function in an array, which has this place more than there are functions.
 pub const NOT_READ: usize = 31;
 
 // ---- lines and names
@@ -104,23 +106,17 @@ pub fn name(text: &[u8], at: usize) -> &[u8]
 
 // ---- words
 
-// The value of an upper-case hexadecimal digit, and 16 for any other byte.
-pub fn digit(b: u8) -> u64
-    ensures { result ≡ reading.digit_of b }
+// The value of an upper-case hexadecimal digit.
+#[tactic(auto, unfolding(crate::specs::Words::digit_of))]
+pub fn digit(b: u8) -> Option<u64>
+    ensures value { result ≡ reading.digit_of b }
+    ensures small { unwrap_or result 0 < 16 }
 {
-    if b < b'0' {
-        return 16;
+    match b {
+        b'0'..=b'9' => Some(u64::from(b - b'0')),
+        b'A'..=b'F' => Some(u64::from(b - b'A') + 10),
+        _ => None,
     }
-    if b <= b'9' {
-        return (b - b'0') as u64;
-    }
-    if b < b'A' {
-        return 16;
-    }
-    if b <= b'F' {
-        return (b - b'A') as u64 + 10;
-    }
-    16
 }
 
 // The digits that stand at a place: the number that they spell, of which the last sixteen count, and where they end.
@@ -137,39 +133,31 @@ pub fn digits_from(text: &[u8], at: usize) -> Digits
     let mut value = 0u64;
     let mut end = at;
     for &b in call::past(text, at) {
-        let d = digit(b);
-        if 16 <= d {
+        let Some(d) = digit(b) else {
             return Digits { value, end };
-        }
+        };
         value = value % 0x1000_0000_0000_0000 * 16 + d;
         end += 1;
     }
     Digits { value, end }
 }
 
-// What stands at a place between words: a space and a word, with the place past it, or anything else.
-#[derive(Clone, Copy, Debug)]
-pub enum Word {
-    Value(u64, usize),
-    Nothing,
-}
-
-// A space and then 1 to 16 digits.
-pub fn word_from(text: &[u8], at: usize) -> Word
+// The word that stands at a place: a space and then 1 to 16 digits.
+pub fn word_from(text: &[u8], at: usize) -> Option<Digits>
     ensures { result ≡ reading.word_from text.now at }
 {
     if byte(text, at) != b' ' {
-        return Word::Nothing;
+        return None;
     }
     let from = at + 1;
     let d = digits_from(text, from);
     if d.end <= from {
-        return Word::Nothing;
+        return None;
     }
     if from + 16 < d.end {
-        return Word::Nothing;
+        return None;
     }
-    Word::Value(d.value, d.end)
+    Some(d)
 }
 
 // A run of words: how many there are, and where they end in the text.
@@ -186,15 +174,11 @@ pub fn words_from(text: &[u8], at: usize, row: &mut [u64]) -> Run
 {
     let mut i = at;
     for (k, word) in row.iter_mut().enumerate() {
-        match word_from(text, i) {
-            Word::Value(v, end) => {
-                *word = v;
-                i = end;
-            }
-            Word::Nothing => {
-                return Run { count: k, end: i };
-            }
-        }
+        let Some(next) = word_from(text, i) else {
+            return Run { count: k, end: i };
+        };
+        *word = next.value;
+        i = next.end;
     }
     Run {
         count: row.len(),
@@ -203,6 +187,7 @@ pub fn words_from(text: &[u8], at: usize, row: &mut [u64]) -> Run
 }
 
 // A record that was read: how many inputs and how many answers it has, and whether its line kept to the format.
+// Number: a line that breaks off has counts too, those of the words that were read, so `whole` stands beside them.
 #[derive(Clone, Copy, Debug)]
 pub struct Record {
     pub inputs: usize,
@@ -268,14 +253,14 @@ pub fn agreeing(got: &[u64], wanted: &[u64]) -> usize
     got.iter().zip(wanted).take_while(|(g, w)| g == w).count()
 }
 
-// What comparing one record gave: the record's number in the list, from 1, where its line begins, its function, how
-// many answers agree from the first on, how many there were and how many are due, and the first that is got and
-// wanted after those that agree.
+// What comparing one record gave: the record's number in the list, from 1, where its line begins, its function if it is
+// read, how many answers agree from the first on, how many there were and how many are due, and the first that is got
+// and wanted after those that agree.
 #[derive(Clone, Copy, Debug)]
 pub struct Compared {
     pub number: u64,
     pub at: usize,
-    pub function: usize,
+    pub function: Option<usize>,
     pub agree: usize,
     pub answers: usize,
     pub due: usize,
@@ -283,16 +268,12 @@ pub struct Compared {
     pub wanted: u64,
 }
 
-// The function's number, and NOT_READ for a line that is not whole or a number that there is not.
+// The function's number, if the line is whole and a tally has a place for that number.
 #[tactic(auto, unfolding(crate::specs::Answers::known_of))]
-fn known(function: usize, whole: bool) -> usize
+fn known(function: Option<usize>, whole: bool) -> Option<usize>
     ensures { result ≡ comparing.known_of function whole }
 {
-    if whole && function < NOT_READ {
-        function
-    } else {
-        NOT_READ
-    }
+    function.filter(|f| whole && *f < NOT_READ)
 }
 
 // The smaller of two counts.
@@ -314,7 +295,7 @@ fn agreeing_in(got: &[u64], n: usize, wanted: &[u64], m: usize) -> usize
 // Compares the first n words of got with the answers of a record, whose line begins at `at`.
 #[tactic(auto, unfolding(crate::specs::Answers::compared_of, crate::specs::Answers::agree_of))]
 fn compare(
-    function: usize,
+    function: Option<usize>,
     at: usize,
     read: Record,
     wanted: &[u64],
@@ -342,7 +323,14 @@ impl Compared {
     fn is_same(self) -> bool
         ensures { result ≡ comparing.same_of self }
     {
-        self.function != NOT_READ && self.agree == self.answers && self.agree == self.due
+        self.function.is_some() && self.agree == self.answers && self.agree == self.due
+    }
+
+    // The place of its counts in a tally: its function's, and the last for a record that is not read.
+    fn place(self) -> usize
+        ensures { result ≡ comparing.place_of self }
+    {
+        self.function.unwrap_or(NOT_READ)
     }
 }
 
@@ -378,7 +366,7 @@ impl Tally {
         let none = Compared {
             number: 0,
             at: 0,
-            function: 0,
+            function: None,
             agree: 0,
             answers: 0,
             due: 0,
@@ -394,12 +382,13 @@ impl Tally {
         }
     }
 
-    // One more record that differs: counted for its function, and kept with its number while there are fewer than eight.
+    // One more record that differs: counted for its function, and kept with its number while there are fewer than
+    // eight.
     #[tactic(auto, unfolding(crate::specs::Answers::differing_of, crate::specs::Answers::numbered_of))]
     fn add_differing(&mut self, c: Compared)
         ensures { self.new ≡ comparing.differing_of self.old c }
     {
-        add_one(&mut self.differ, c.function);
+        add_one(&mut self.differ, c.place());
         if self.kept < 8 {
             self.first[self.kept] = Compared {
                 number: self.records,
@@ -415,7 +404,7 @@ impl Tally {
         ensures { self.new ≡ comparing.counted_of self.old c }
     {
         self.records = self.records.wrapping_add(1);
-        add_one(&mut self.compared, c.function);
+        add_one(&mut self.compared, c.place());
         if !c.is_same() {
             self.add_differing(c);
         }
@@ -427,6 +416,7 @@ pub fn glyph(word: u64) -> u8
     ensures { result ≡ comparing.glyph_of (word % 16) }
 {
     let d = word % 16;
+    // By hand: From has no conversion from u64 to u8.
     if d < 10 {
         return d as u8 + b'0';
     }
@@ -475,7 +465,7 @@ fn print_difference(rt: &impl Print, text: &[u8], c: Compared) -> io::Result<()>
     let number = c.number;
     print!(rt; "record {number} ")?;
     print(rt, name(text, c.at))?;
-    if c.function == NOT_READ {
+    if c.function.is_none() {
         return println!(rt; " is not read");
     }
     let agree = c.agree;

@@ -1,24 +1,19 @@
 // A run over a list: every record's function is called on its inputs, what it answers is compared with the answers that
 // the record has, and the report says what differs.
 ghost use Rattle.std.specs.Prelude.{◌≡◌, nat_eq};
-ghost use Rattle.vectors.specs.Lines.{number_in};
+ghost use Rattle.std.specs.List.{position};
 ghost use Rattle.std.specs.Cmp.Lexicographic.{pointwise};
 
 use super::call::{Answers, Inputs, ROOM};
-use super::{Compared, NOT_READ, Tally};
+use super::{Compared, Tally};
 use std::rt::Files;
 use std::{fs, io};
 
-// The number of the first function that has this name. Any other name gives NOT_READ.
-fn number_of(name: &[u8], functions: &[&str]) -> usize
-    ensures { result ≡ number_in (λ f. pointwise nat_eq f.now name.now) 0 functions.now }
+// The number of the first function that has this name.
+fn number_of(name: &[u8], functions: &[&str]) -> Option<usize>
+    ensures { result ≡ position (λ f. pointwise nat_eq f.now name.now) functions.now }
 {
-    for (k, f) in functions.iter().enumerate() {
-        if f.as_bytes() == name {
-            return k;
-        }
-    }
-    NOT_READ
+    functions.iter().position(|f| f.as_bytes() == name)
 }
 
 // Reads the record that begins at `at`, and compares its answers with what the function that it names answers.
@@ -35,7 +30,7 @@ fn replayed<F: Fn(&str, &mut Inputs, &mut Answers)>(
     let mut answers = Answers::new();
     let function = number_of(super::name(text, at), functions);
     let read = super::read_record(text, at, &mut row, &mut wanted);
-    if let Some(name) = functions.get(function) {
+    if let Some(name) = function.and_then(|k| functions.get(k)) {
         answer(name, &mut Inputs::new(&row), &mut answers);
     }
     answers.compare(function, at, read, &wanted)
@@ -50,6 +45,7 @@ pub fn compare_all<F: Fn(usize) -> io::Result<Compared>>(
 {
     let mut t = Tally::new();
     let mut at = 0usize;
+    // By index: `compared` and the report are given the place of a line.
     while at < text.len() {
         if !super::is_comment(text, at) {
             t.add(compared(at)?);
@@ -74,8 +70,9 @@ pub fn report(rt: &impl Print, text: &[u8], functions: &[&str], t: Tally) -> io:
     super::print_total(rt, t)
 }
 
-// Replays the list that a file holds. A record's function is one of `functions`, by its name, and `answer` calls the function
-// that it is given the name of: it takes the inputs and puts the answers. What differs is printed, and the totals.
+// Replays the list that a file holds. A record's function is one of `functions`, by its name, and `answer` calls the
+// function that it is given the name of: it takes the inputs and puts the answers. What differs is printed, and the
+// totals.
 pub fn replay<R: Files + Alloc + Print, F: Fn(&str, &mut Inputs, &mut Answers)>(
     rt: &R,
     path: &str,

@@ -99,15 +99,8 @@ fn whole(inputs: &mut Inputs, answers: &mut Answers) {
     put_card(answers, &card, mask, inputs.take());
 }
 
-// Calls the function of this name.
-fn answer(name: &str, inputs: &mut Inputs, answers: &mut Answers) {
-    match name {
-        "whole" => whole(inputs, answers),
-        _ => {}
-    }
-}
-
 // Twin: each program's main names its own list and its own functions.
 fn main(rt: HostRuntime) -> io::Result<()> {
+    let answer = |_: &str, inputs: &mut Inputs, answers: &mut Answers| whole(inputs, answers);
     vectors::replay(&rt, "whole.txt", &["whole"], answer)
 }

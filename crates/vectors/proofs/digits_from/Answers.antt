@@ -6,8 +6,8 @@ use Rattle.vectors.proofs.digits_from.Goals as goal
 pub loop-b-init : goal.loop-b-init
 loop-b-init c = search (begin-digits, rules)
 
-pub returns-then-d-ge16 : goal.returns-then-d-ge16
-returns-then-d-ge16 c = search (stop-digits, rules)
+pub returns-in_default : goal.returns-in_default
+returns-in_default c = search (stop-digits, rules)
 
 pub loop-b-preserved : goal.loop-b-preserved
 loop-b-preserved c = search (turn-digits, rules)

@@ -8,8 +8,8 @@ use Rattle.vectors.proofs.words_from.Goals as goal
 pub loop-k-init : goal.loop-k-init
 loop-k-init c = search (begin_words, rules)
 
-pub returns-in-Nothing : goal.returns-in-Nothing
-returns-in-Nothing c = ap (words_of c.loop-k.k c.loop-k.i) (set-get_or c.loop-k.row c.loop-k.k 0) ∙ search (stop_words, rules)
+pub returns-in_default : goal.returns-in_default
+returns-in_default c = ap (words_of c.loop-k.k c.loop-k.i) (set-get_or c.loop-k.row c.loop-k.k 0) ∙ search (stop_words, rules)
 
 pub loop-k-preserved : goal.loop-k-preserved
 loop-k-preserved c = search (turn_words, rules)
