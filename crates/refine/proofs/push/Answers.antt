@@ -19,11 +19,11 @@ stood : (dx dy ys : List Float) (n r c : ℕ) (y t : Float) → t ≡ whole 3 �
 unfolding pushed
 stood dx dy ys n r c y t e h = rw (e, column_of r c h, row_of r c h)
 
-pub int_to_float-dx : goal.int_to_float-dx
-int_to_float-dx c = small _ (omega arith)
+pub int_to_float-w : goal.int_to_float-w
+int_to_float-w c = small _ (omega arith)
 
-pub int_to_float-dy : goal.int_to_float-dy
-int_to_float-dy c = small _ (omega arith)
+pub int_to_float-w-2 : goal.int_to_float-w-2
+int_to_float-w-2 c = small _ (omega arith)
 
 pub returns : goal.returns
-returns c = stood _ _ _ _ _ _ _ _ n3 (search rules)
+returns c = (stood _ _ _ _ _ _ _ _ n3 (search rules), search rules)
