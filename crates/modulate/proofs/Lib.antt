@@ -9,4 +9,3 @@ pub mod Accepted
 pub mod Lengths
 pub mod Worked
 mod Ready
-mod Front

@@ -10,7 +10,7 @@ use lib.Ieee.{Float, nan}
 use Rattle.std.proofs.Common.{below_more}
 use Rattle.std.proofs.lemmas.List.{get_or-take}
 use Rattle.stats.specs.declared.ChannelStats.{ChannelStats}
-use Rattle.stats.proofs.Front.{front_replaced}
+use Rattle.lists.proofs.Front.{front_replaced}
 use Rattle.lists.specs.Lists.{replaced}
 use Rattle.refine.specs.declared.Levels.{Levels}
 use Rattle.refine.specs.Refine.{refine_at, refine_all}

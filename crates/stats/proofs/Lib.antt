@@ -1,7 +1,6 @@
--- For callers: `Passed`, what an accepted call knows; `Front`, a slice whose first entries are written; `Given`, that `palette_sigmas` writes what `nearest_by` asks for; `Range`, a good record and its `luma_llr` within ±20; `Reliable`,
+-- For callers: `Passed`, what an accepted call knows; `Given`, that `palette_sigmas` writes what `nearest_by` asks for; `Range`, a good record and its `luma_llr` within ±20; `Reliable`,
 -- `reliability` from 0 to 1; `Plus`, numbers not below zero; `Tests`, tests whose parts must all hold; `Worked`, document 01's examples. `Literals` are the constants.
 pub mod Passed
-pub mod Front
 pub mod Given
 pub mod Range
 pub mod Reliable

@@ -12,7 +12,7 @@ use Rattle.limits.proofs.Laws.{hues_in}
 use Rattle.modulate.specs.declared.Cell.{Cell}
 use Rattle.lists.specs.Lists.{replaced}
 use Rattle.modulate.specs.Score.{bit_llr, bit_llr_at, chroma_bit_llrs}
-use Rattle.modulate.proofs.Front.{front-below, front_written}
+use Rattle.lists.proofs.Front.{front-below, front_written}
 use Rattle.modulate.proofs.Ready.{hues-least, hues-most}
 use Rattle.modulate.proofs.bit_llrs.Goals as goal
 

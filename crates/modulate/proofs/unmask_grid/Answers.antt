@@ -11,7 +11,7 @@ use lib.Seq.{get_or-set_same, get_or-set_other, set-get_or}
 use lib.Ieee.{Float, nan, neg}
 use Rattle.std.proofs.Common.{below_more}
 use Rattle.modulate.specs.Score.{masked_at, unmask_at}
-use Rattle.modulate.proofs.Front.{front-below, front_written}
+use Rattle.lists.proofs.Front.{front-below, front_written}
 use Rattle.modulate.proofs.unmask_grid.Goals as goal
 use Rattle.modulate.proofs.unmask_grid.Goals.{then-masked_at, else-masked_at}
 

@@ -10,7 +10,7 @@ use Rattle.color.specs.Color.{linear_to_lab}
 use Rattle.color.specs.Palette.{linear_at}
 use Rattle.stats.specs.declared.ChannelStats.{ChannelStats}
 use Rattle.stats.specs.Noise.{luma_llr}
-use Rattle.stats.proofs.Front.{front_replaced}
+use Rattle.lists.proofs.Front.{front_replaced}
 use Rattle.scores.specs.Score.{plain_luma, plain_lumas}
 use Rattle.scores.proofs.plain_lumas.Goals as goal
 

@@ -1,7 +1,7 @@
 -- `stage_words::take_surface` meets its contract: the words in front, and +0 behind. Assumes nothing.
 use Rattle.std.proofs.Common.{◌≡◌, ℕ, ◌+◌, length, ◌∙◌, ap, arith, get_or, length-take-le}
 use lib.Ieee.{nan, binary64, of_bits}
-use Rattle.stats.proofs.Front.{front_replaced}
+use Rattle.lists.proofs.Front.{front_replaced}
 use Rattle.stage_words.specs.Records.{double_at, coefficient_at, surface_at}
 use Rattle.stage_words.proofs.take_surface.Goals as goal
 

@@ -9,7 +9,7 @@ use lib.Ieee.{Float}
 use borrow.Author.Rules.{rules}
 use Rattle.std.proofs.lemmas.List.{length-replicate, get_or-replicate}
 use Rattle.stats.specs.declared.ChannelStats.{ChannelStats}
-use Rattle.stats.proofs.Front.{front_replaced}
+use Rattle.lists.proofs.Front.{front_replaced}
 use Rattle.counts.specs.Counts.{classes, cleared, count_all, counted, Sums}
 use Rattle.counts.proofs.Sums.{none_yet}
 use Rattle.counts.proofs.Divided.{divided}

@@ -12,7 +12,7 @@ use Rattle.loops.proofs.Laws.{begin, loops}
 use Rattle.modulate.specs.declared.Cell.{Cell}
 use Rattle.modulate.specs.declared.Best.{Best}
 use Rattle.modulate.specs.Score.{bit_of_hue, bettered, better_at, best_of, bit_llr}
-use Rattle.modulate.proofs.Front.{front-below}
+use Rattle.lists.proofs.Front.{front-below}
 use Rattle.modulate.proofs.Entry.bit_llr.Goals as goal
 
 module _ (ll : List Float) (cell : Cell) (k b : ℕ) where

@@ -13,7 +13,7 @@ use Rattle.limits.proofs.Laws.{symbol_bits_few}
 use Rattle.layout.specs.declared.Layout.{Layout}
 use Rattle.lists.specs.Lists.{replaced}
 use Rattle.modulate.specs.Draw.{entries_of, hue_at, hue_at_of, short_bits, short_hues, drawn_hues}
-use Rattle.modulate.proofs.Front.{front-below, front_written}
+use Rattle.lists.proofs.Front.{front-below, front_written}
 use Rattle.modulate.proofs.Lengths.{bits_long, hues-long}
 use Rattle.modulate.proofs.Ready.{hues-least, hues-most}
 use Rattle.modulate.proofs.Source.draw_hues.Goals as goal

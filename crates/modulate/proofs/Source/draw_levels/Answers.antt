@@ -2,7 +2,7 @@
 use borrow.Author.Rules.{rules}
 use Rattle.layout.proofs.Laws.{position_at}
 use Rattle.modulate.specs.Draw.{level_at_of}
-use Rattle.modulate.proofs.Front.{front-below, front_written}
+use Rattle.lists.proofs.Front.{front-below, front_written}
 use Rattle.modulate.proofs.Source.draw_levels.Goals as goal
 
 pub level_at-requires : goal.level_at-requires

@@ -9,7 +9,7 @@ use lib.Ieee.{Float, nan}
 use Rattle.color.specs.declared.Lab.{Lab}
 use Rattle.stats.specs.declared.ChannelStats.{ChannelStats}
 use Rattle.stats.specs.Noise.{denominator, hue_log_likelihood, put_likelihood, put_likelihoods, hue_log_likelihoods}
-use Rattle.stats.proofs.Front.{front_replaced}
+use Rattle.lists.proofs.Front.{front_replaced}
 use Rattle.stats.proofs.Channel.hue_log_likelihoods_of.Goals as goal
 
 all_written : (n : ChannelStats) (sample : Lab) (palette : List Float) (hues h : ℕ) (out s : List Float) (d : Float) →

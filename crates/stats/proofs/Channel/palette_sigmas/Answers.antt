@@ -9,7 +9,7 @@ use lib.Ieee.{Float, nan}
 use Rattle.color.specs.Palette.{palette_lab}
 use Rattle.stats.specs.declared.ChannelStats.{ChannelStats}
 use Rattle.stats.specs.Noise.{sigma_ab_at, put_sigma, palette_sigmas}
-use Rattle.stats.proofs.Front.{front_replaced}
+use Rattle.lists.proofs.Front.{front_replaced}
 use Rattle.stats.proofs.Channel.palette_sigmas.Goals as goal
 
 all_written : (n : ChannelStats) (palette : List Float) (hues i : ℕ) (sigmas s : List Float) →

@@ -28,9 +28,12 @@ module _ {A : Type 0} (d : A) (n : ℕ) (f : ℕ → A → A) (l s : List A) (h 
       let there : n + (j - length s) ≡ j = omega arith in
       get_or-append_right s (drop n l) j d past ∙ get_or-drop n l (j - length s) d ∙ ap (λ (k : ℕ). get_or l k d) there
 
+  -- each of the first n entries is written
+  pub front_replaced : ((j : ℕ) → j < n → get_or s j d ≡ f j (get_or l j d)) → s ++ drop n l ≡ replaced d n f l
+  front_replaced done =
+      is_replaced d n f l (s ++ drop n l) h whole
+      (λ j q. get_or-append s (drop n l) d j (let r = long in omega arith) ∙ done j q) behind
+
   -- the loop came to their end, and wrote each of them
   pub front_written : (i : ℕ) → length (take n l) ≤ i → ((j : ℕ) → j < i → get_or s j d ≡ f j (get_or (take n l) j d)) → s ++ drop n l ≡ replaced d n f l
-  front_written i past done =
-      let r = long in
-      is_replaced d n f l (s ++ drop n l) h whole
-      (λ j q. get_or-append s (drop n l) d j (omega arith) ∙ done j (omega (arith, length-take-le n l h)) ∙ ap (f j) (get_or-take n l j d q)) behind
+  front_written i past done = front_replaced (λ j q. done j (omega (arith, length-take-le n l h)) ∙ ap (f j) (get_or-take n l j d q))
