@@ -7,7 +7,7 @@ use borrow.Author.Rules.{rules}
 use lib.Ieee.{Float}
 use Rattle.local.specs.declared.Window.{Window}
 use Rattle.refine.specs.Window.{row3, beyond, row_at}
-use Rattle.refine.proofs.Rows.{told, no_row, row-begin, row-turn, row_done}
+use Rattle.refine.proofs.Rows.{no_row, row-turn, row_done}
 use Rattle.refine.proofs.Spot.row_samples.Goals as goal
 
 none : (side : ℕ) (grid : List Float) (home r v : ℕ) (w : Window) (b : Bool) → v ≡ row3 side home (7 * r) → b ≡ beyond side v → b ≡ true → w ≡ row_at side grid home r w
@@ -15,9 +15,6 @@ none side grid home r v w b ev e t = no_row side grid home r w (sym (ap (beyond 
 
 pub returns-then-beyond : goal.returns-then-beyond
 returns-then-beyond c = (search (none), search rules)
-
-pub loop-c-init : goal.loop-c-init
-loop-c-init c = (search rules, search (told), search rules, search rules, search (row-begin))
 
 pub loop-c-preserved : goal.loop-c-preserved
 loop-c-preserved c = (search rules, search rules, search rules, search rules, search (row-turn, rules))
