@@ -6,9 +6,9 @@
     tools/forms.py --list [..]  each place too, a line each
 
 A place is found by its text alone: what a pattern finds need not be wrong. What is kept says why in a comment line that
-begins with its point's word (WORDS): in the lines above the place, above its function, at the head of its section
-(`// ---- ..`), above its `impl` or at the head of its file; a fact's line stands once in its crate. For each point: places found,
-kept with such a line, and left.
+begins with its point's word (WORDS): in the lines above the place or above its function, and of points 1, 2, 5 and 6 also at the
+head of its section (`// ---- ..`), above its `impl` or at the head of its file; a fact's line stands once in its crate. For each
+point: places found, kept with such a line, and left.
 """
 import re
 import subprocess
@@ -63,6 +63,8 @@ def is_kept(point, lines, number):
     while i > 0 and re.match(r"\s*(//|#\[)", lines[i - 1]):
         spoken.append(lines[i - 1])
         i -= 1
+    if point in "34":
+        return any(word.match(line) for line in spoken)
     # above the `impl` that it is in, at the head of the section, and of the file
     j = i
     while j >= 0 and lines[j] != "}" and not lines[j].startswith("impl"):
@@ -180,7 +182,7 @@ def count(commit):
                 depth += {"{": 1, "}": -1}.get(code[e], 0)
                 e += 1
             block = code[m.end():e]
-            if re.search(r"\b" + m.group(1) + r"\b", block):
+            if ".iter" not in m.group(2) and re.search(r"\b" + m.group(1) + r"\b", block):
                 note(found, "3 `for` over a range of indices", path, code.count("\n", 0, m.start()) + 1, m.group(0))
         # 4: by hand what a derive or a conversion gives
         grep(found, "4 widening `as`", path, code, r"\b\w+(\.\w+)? as (usize|u64|i64|f64)\b")
