@@ -18,7 +18,7 @@ ghost use Rattle.demod.specs.Call.{request, sentences_of, final, done, scored_of
 use answers::Refusal;
 use color::palette::wild_in;
 use illum::IlluminationModel;
-use layout::{Cells, Layout, Modules};
+use layout::{Cells, Layout};
 use observed::{SeenCells, SeenModules};
 use scores::{ChromaCard, Meter};
 use stats::{Channel, ChannelStats};
@@ -62,7 +62,7 @@ impl SeenCard<'_> {
     #[tactic(auto, unfolding(crate::specs::Call::bad_corrected))]
     fn bad_corrected(&self, model: IlluminationModel, hues: usize) -> bool
         ensures { let m = self.now.modules in let s = self.now.cells in
-            result ≡ call.bad_corrected hues (spot_colour model (module_spot m.modules.xs.now m.modules.ys.now m.raw.now)) (length m.modules.xs.now) (spot_colour model (cell_spot s.size s.cells.cxs.now s.cells.cys.now s.raw.now)) (length s.cells.cxs.now) }
+            result ≡ call.bad_corrected hues (spot_colour model (module_spot m.xs.now m.ys.now m.raw.now)) (length m.xs.now) (spot_colour model (cell_spot s.size s.cells.cxs.now s.cells.cys.now s.raw.now)) (length s.cells.cxs.now) }
     {
         observed::any_wild(model, &self.modules)
             || limits::chroma_on(hues) && observed::any_wild(model, &self.cells)
@@ -122,14 +122,16 @@ impl<'a> Card<'a> {
     }
 
     // Its modules and cells with their colours, where 2 to 7 are passed.
+    #[tactic(auto, using(observed::proofs::Places::sampled))]
     fn seen(&self) -> SeenCard<'a>
         requires { let c = self.now in Seen c.layout c.xs.now c.ys.now c.raw.now c.cxs.now c.cys.now c.craw.now }
-        ensures modules { let m = result.modules in (m.modules.side ≡ self.now.layout.side) × (m.modules.grid ≡ self.now.layout.grid) × (m.modules.xs.now ≡ self.now.xs.now) × (m.modules.ys.now ≡ self.now.ys.now) × (m.raw.now ≡ self.now.raw.now) }
+        ensures modules { let m = result.modules in (m.xs.now ≡ self.now.xs.now) × (m.ys.now ≡ self.now.ys.now) × (m.raw.now ≡ self.now.raw.now) }
         ensures cells { let s = result.cells in (s.size ≡ self.now.layout.size) × (s.cells.cxs.now ≡ self.now.cxs.now) × (s.cells.cys.now ≡ self.now.cys.now) × (s.raw.now ≡ self.now.craw.now) }
     {
         SeenCard {
             modules: SeenModules {
-                modules: Modules::new(self.layout.side, self.layout.grid, self.xs, self.ys),
+                xs: self.xs,
+                ys: self.ys,
                 raw: self.raw,
             },
             cells: SeenCells {
@@ -189,7 +191,9 @@ impl Card<'_> {
         let card = ChromaCard {
             meter,
             seen: seen.cells,
-            modules: seen.modules.modules,
+            side: self.layout.side,
+            grid: self.layout.grid,
+            modules: self.xs.len(),
             colours,
         };
         let held_cells = card.write(self.model, chroma);

@@ -11,10 +11,11 @@ ghost use Rattle.illum.specs.declared.Spot.{Spot};
 ghost use Rattle.observed.specs.Entries as entry;
 ghost use Rattle.observed.specs.Entries.{onwards};
 ghost use Rattle.observed.specs.Colours as spec;
+ghost use Rattle.observed.specs.Ready.{Sampled};
 
 use color::palette::linear_at;
 use illum::{Corrector, IlluminationModel, Spot, Unrounded};
-use layout::{Cells, Modules};
+use layout::Cells;
 
 // ---- a colour as it was observed
 
@@ -52,29 +53,31 @@ fn cell_centre(size: usize, cx: u16) -> f32
     f32::from(cx) * size as f32 + size as f32 / 2.0
 }
 
-// A card's modules with their colours, three numbers each, as they were observed.
+// A card's modules with their colours, three numbers each, as they were observed. Positions are two lists, since the C interface
+// lends them so.
 #[derive(Clone, Copy, Debug)]
 pub struct SeenModules<'a> {
-    pub modules: Modules<'a>,
+    pub xs: &'a [i32],
+    pub ys: &'a [i32],
     pub raw: &'a [f32],
-    ghost three: { 3 * length modules.xs.now ≤ length raw.now },
+    ghost sampled: { Sampled xs.now ys.now raw.now },
 }
 
 // A module's colour stands at its centre.
 impl Spots for SeenModules<'_> {
-    ghost count = { λ m. length m.modules.xs.now };
+    ghost count = { λ m. length m.xs.now };
 
-    ghost spots = { λ m. spec.module_spot m.modules.xs.now m.modules.ys.now m.raw.now };
+    ghost spots = { λ m. spec.module_spot m.xs.now m.ys.now m.raw.now };
 
     fn len(&self) -> usize {
-        self.modules.len()
+        self.xs.len()
     }
 
     #[tactic(auto, using(crate::proofs::Places::exact_x, crate::proofs::Places::exact_y), unfolding(crate::specs::Colours::module_spot))]
     fn spot(&self, i: usize) -> Spot {
         Spot {
-            x: centre(self.modules.xs[i]),
-            y: centre(self.modules.ys[i]),
+            x: centre(self.xs[i]),
+            y: centre(self.ys[i]),
             colour: linear_at(self.raw, i),
         }
     }
@@ -87,7 +90,6 @@ pub struct SeenCells<'a> {
     pub cells: Cells<'a>,
     pub raw: &'a [f32],
     ghost size_most: { size ≤ 16 },
-    ghost most: { length cells.cxs.now ≤ 1048576 },
     ghost three: { 3 * length cells.cxs.now ≤ length raw.now },
 }
 
@@ -150,7 +152,7 @@ pub fn correct<S: Spots>(
     held: usize,
     colours: &mut [f32],
 ) -> usize
-    requires { (held ≤ from) × (from + n ≤ S.count seen.now) × (from + n ≤ 1048576) × (3 * n ≤ length colours.old) }
+    requires { (held ≤ from) × (from + n ≤ S.count seen.now) × (from + n ≤ 0xffff_ffff_ffff_ffff) × (3 * n ≤ length colours.old) }
     ensures { (colours.new ≡ spec.write_colours (onwards (spec.spot_colour model (S.spots seen.now)) from) n colours.old) × (result ≡ spec.held_from model (S.spots seen.now) from n held) × (result ≤ from + n) }
 {
     let mut k = held;

@@ -2,7 +2,8 @@
 // each ring module that carries chroma. `demod` is the public call.
 #![tactic(auto)]
 
-ghost use Rattle.std.specs.Prelude.{◌≡◌, true, ◌+◌, ◌-◌, ◌*◌, ◌<◌, ◌≤◌, length};
+ghost use Rattle.std.specs.Prelude.{◌≡◌, true, false, ◌+◌, ◌-◌, ◌*◌, ◌<◌, ◌≤◌, length};
+ghost use Rattle.limits.specs.Limits.{bad_hues};
 ghost use Rattle.limits.specs.Chroma.{weighted, symbol_bits, chroma_length, ring_modules};
 ghost use Rattle.color.specs.Color.{linear_to_lab};
 ghost use Rattle.color.specs.Palette.{linear_at};
@@ -13,7 +14,6 @@ ghost use Rattle.scores.specs.Ready.{layout_of};
 
 use color::{Lab, Linear, Xyz, linear_to_xyz, xyz_to_lab};
 use illum::IlluminationModel;
-use layout::Modules;
 use modulate::Cell;
 use observed::{SeenCells, SeenModules};
 pub use samples::Meter;
@@ -113,12 +113,12 @@ impl Meter<'_> {
         luma: &mut [f32],
         colours: &mut [f32],
     ) -> usize
-        requires { (length seen.now.modules.xs.now ≤ length luma.old) × (3 * length seen.now.modules.xs.now ≤ length colours.old) }
-        ensures { let m = seen.now.modules in
-            (sheet luma.new colours.new ≡ spec.write_modules self.now.channel.noise self.now.channel.palette.numbers.now self.now.channel.palette.hues (colour.module_colour model m.xs.now m.ys.now seen.now.raw.now) (length m.xs.now) (sheet luma.old colours.old))
+        requires { (length seen.now.xs.now ≤ length luma.old) × (3 * length seen.now.xs.now ≤ length colours.old) }
+        ensures { let m = seen.now in
+            (sheet luma.new colours.new ≡ spec.write_modules self.now.channel.noise self.now.channel.palette.numbers.now self.now.channel.palette.hues (colour.module_colour model m.xs.now m.ys.now m.raw.now) (length m.xs.now) (sheet luma.old colours.old))
             × (result ≡ colour.held_module_count model m.xs.now m.ys.now (length m.xs.now)) }
     {
-        let n = seen.modules.len();
+        let n = seen.xs.len();
         let held = observed::correct(model, seen, 0, n, 0, colours);
         let all = Colours {
             numbers: colours,
@@ -153,7 +153,7 @@ impl Meter<'_> {
     // Writes the scores of entry e of the chroma list, of a sample and its weight.
     #[tactic(auto, using(crate::proofs::Chroma::few, crate::proofs::Chroma::short, crate::proofs::Chroma::room, crate::proofs::Chroma::bits_room, crate::proofs::Chroma::entry_in))]
     fn write_entry(&self, cell: Cell, lab: Lab, weight: f32, e: usize, chroma: &mut [f32])
-        requires { e * symbol_bits self.now.channel.palette.hues + symbol_bits self.now.channel.palette.hues ≤ length chroma.old }
+        requires { (bad_hues self.now.channel.palette.hues ≡ false) × (e * symbol_bits self.now.channel.palette.hues + symbol_bits self.now.channel.palette.hues ≤ length chroma.old) }
         ensures { chroma.new ≡ spec.write_sample self.now.channel.noise self.now.channel.palette.numbers.now self.now.channel.palette.hues cell lab weight e chroma.old }
     {
         let hues = self.channel.palette.hues;
@@ -166,14 +166,20 @@ impl Meter<'_> {
     }
 }
 
-// A card whose chroma is scored: its cells as they were observed, and its modules with their corrected colours.
+// A card whose chroma is scored: its side, its cells as they were observed, and the corrected colours of its modules, the first
+// `grid` of which are grid modules. Its hue count passes sentence 3, and it has no more cells and modules than sentence 6 lets pass.
 #[derive(Clone, Copy, Debug)]
 pub struct ChromaCard<'a> {
     pub meter: Meter<'a>,
     pub seen: SeenCells<'a>,
-    pub modules: Modules<'a>,
+    pub side: usize,
+    pub grid: usize,
+    pub modules: usize,
     pub colours: &'a [f32],
-    ghost three: { 3 * length modules.xs.now ≤ length colours.now },
+    ghost hues_good: { bad_hues meter.channel.palette.hues ≡ false },
+    ghost few_cells: { length seen.cells.cxs.now ≤ 1048576 },
+    ghost counted: { (grid ≤ modules) × (modules ≤ 1048576) },
+    ghost three: { 3 * modules ≤ length colours.now },
 }
 
 impl ChromaCard<'_> {
@@ -241,27 +247,27 @@ impl ChromaCard<'_> {
 
     // The chroma scores of a block of ring modules.
     fn ring_block(&self, from: usize, n: usize, chroma: &mut [f32])
-        requires { (n ≤ 16) × (self.now.modules.grid ≤ from) × (from + n ≤ length self.now.modules.xs.now) × ((length self.now.seen.cells.cxs.now + (from + n - self.now.modules.grid)) * symbol_bits self.now.meter.channel.palette.hues ≤ length chroma.old) }
+        requires { (n ≤ 16) × (self.now.grid ≤ from) × (from + n ≤ self.now.modules) × ((length self.now.seen.cells.cxs.now + (from + n - self.now.grid)) * symbol_bits self.now.meter.channel.palette.hues ≤ length chroma.old) }
         ensures { let c = self.now.meter.channel in
-            chroma.new ≡ spec.ring_block c.noise c.palette.numbers.now c.palette.hues (length self.now.seen.cells.cxs.now) self.now.modules.grid (linear_at self.now.colours.now) from n chroma.old }
+            chroma.new ≡ spec.ring_block c.noise c.palette.numbers.now c.palette.hues (length self.now.seen.cells.cxs.now) self.now.grid (linear_at self.now.colours.now) from n chroma.old }
     {
-        let first = self.seen.cells.len() + (from - self.modules.grid);
+        let first = self.seen.cells.len() + (from - self.grid);
         let colours = Colours {
             numbers: self.colours,
-            n: self.modules.len(),
+            n: self.modules,
         };
         self.put_entries(&Samples::of(&self.meter, &colours, from, n), first, chroma);
     }
 
     // The chroma scores of the ring modules, those that are listed after the grid modules.
     fn write_rings(&self, chroma: &mut [f32])
-        requires { (length self.now.seen.cells.cxs.now + (length self.now.modules.xs.now - self.now.modules.grid)) * symbol_bits self.now.meter.channel.palette.hues ≤ length chroma.old }
+        requires { (length self.now.seen.cells.cxs.now + (self.now.modules - self.now.grid)) * symbol_bits self.now.meter.channel.palette.hues ≤ length chroma.old }
         ensures { let c = self.now.meter.channel in
-            chroma.new ≡ spec.write_rings c.noise c.palette.numbers.now c.palette.hues (length self.now.seen.cells.cxs.now) self.now.modules.grid (linear_at self.now.colours.now) (length self.now.modules.xs.now) chroma.old }
+            chroma.new ≡ spec.write_rings c.noise c.palette.numbers.now c.palette.hues (length self.now.seen.cells.cxs.now) self.now.grid (linear_at self.now.colours.now) self.now.modules chroma.old }
     {
-        let m = self.modules.len();
+        let m = self.modules;
         // By index: a block is known by the place of its first colour.
-        for from in (self.modules.grid..m).step_by(16) {
+        for from in (self.grid..m).step_by(16) {
             self.ring_block(from, usize::min(16, m - from), chroma);
         }
     }
@@ -269,9 +275,9 @@ impl ChromaCard<'_> {
     // The chroma scores of ring modules, which carry chroma only at cell size 1.
     #[tactic(auto, using(crate::proofs::Parts::rings, crate::proofs::Parts::no_rings))]
     fn ring_chroma(&self, chroma: &mut [f32])
-        requires { chroma_length self.now.meter.channel.palette.hues (length self.now.seen.cells.cxs.now) (ring_modules (length self.now.modules.xs.now) self.now.modules.grid) self.now.seen.size ≤ length chroma.old }
+        requires { chroma_length self.now.meter.channel.palette.hues (length self.now.seen.cells.cxs.now) (ring_modules self.now.modules self.now.grid) self.now.seen.size ≤ length chroma.old }
         ensures { let c = self.now.meter.channel in
-            chroma.new ≡ spec.ring_chroma (layout_of self.now.modules.side c.palette.hues self.now.seen.size self.now.modules.grid) c.noise c.palette.numbers.now (length self.now.seen.cells.cxs.now) (linear_at self.now.colours.now) (length self.now.modules.xs.now) chroma.old }
+            chroma.new ≡ spec.ring_chroma (layout_of self.now.side c.palette.hues self.now.seen.size self.now.grid) c.noise c.palette.numbers.now (length self.now.seen.cells.cxs.now) (linear_at self.now.colours.now) self.now.modules chroma.old }
     {
         if self.seen.size == 1 {
             self.write_rings(chroma);
@@ -282,9 +288,9 @@ impl ChromaCard<'_> {
     // Says how many cells have a mark: none with chroma off, where they are not corrected. Ring modules were counted with the modules.
     #[tactic(auto, using(crate::proofs::Parts::chroma_scored, crate::proofs::Parts::cells_marked, crate::proofs::Parts::chroma_off, crate::proofs::Parts::none_marked))]
     pub fn write(&self, model: IlluminationModel, chroma: &mut [f32]) -> usize
-        requires { chroma_length self.now.meter.channel.palette.hues (length self.now.seen.cells.cxs.now) (ring_modules (length self.now.modules.xs.now) self.now.modules.grid) self.now.seen.size ≤ length chroma.old }
-        ensures { let c = self.now.meter.channel in let s = self.now.seen in let l = layout_of self.now.modules.side c.palette.hues s.size self.now.modules.grid in
-            (chroma.new ≡ spec.chroma_written l c.noise c.palette.numbers.now (linear_at self.now.colours.now) (length self.now.modules.xs.now) s.cells.cxs.now s.cells.cys.now (colour.cell_colour model s.size s.cells.cxs.now s.cells.cys.now s.raw.now) chroma.old)
+        requires { chroma_length self.now.meter.channel.palette.hues (length self.now.seen.cells.cxs.now) (ring_modules self.now.modules self.now.grid) self.now.seen.size ≤ length chroma.old }
+        ensures { let c = self.now.meter.channel in let s = self.now.seen in let l = layout_of self.now.side c.palette.hues s.size self.now.grid in
+            (chroma.new ≡ spec.chroma_written l c.noise c.palette.numbers.now (linear_at self.now.colours.now) self.now.modules s.cells.cxs.now s.cells.cys.now (colour.cell_colour model s.size s.cells.cxs.now s.cells.cys.now s.raw.now) chroma.old)
             × (result ≡ spec.chroma_held l model s.cells.cxs.now s.cells.cys.now) }
     {
         if limits::chroma_on(self.meter.channel.palette.hues) {

@@ -35,7 +35,6 @@ impl Colours<'_> {
 pub struct Meter<'a> {
     pub channel: Channel<'a>,
     pub sigmas: [f32; 32],
-    ghost hues_good: { bad_hues channel.palette.hues ≡ false },
     ghost sigmas_are: { Sigmas channel.noise channel.palette.numbers.now channel.palette.hues sigmas },
 }
 

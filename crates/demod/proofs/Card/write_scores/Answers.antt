@@ -51,6 +51,6 @@ returns c =
     let t = c.new-meter.ensures in
     let p = c.seen-seen.ensures.modules in
     let k = c.seen-seen.ensures.cells in
-    let m = rw (t, n.0, n.1, n.2, p.2, p.3, p.4) at c.write_modules-held_modules.ensures in
-    let e = rw (t, n.0, n.1, n.2, p.0, p.1, p.2, k.0, k.1, k.2, k.3) at c.write-held_cells.ensures in
+    let m = rw (t, n.0, n.1, n.2, p.0, p.1, p.2) at c.write_modules-held_modules.ensures in
+    let e = rw (t, n.0, n.1, n.2, k.0, k.1, k.2, k.3) at c.write-held_cells.ensures in
     wrote _ _ _ _ _ _ _ _ _ _ _ _ _ c.requires _ _ _ m.0 _ _ m.1 e.1 e.0

@@ -28,7 +28,7 @@ unfolding put_entry
 wrote n palette hues cxs cys labs weights first k j chroma after cell s h l e w es = rw (← front_read k labs j h (lab nan nan nan) l, ← es, ← e) w
 
 pub write_entry-requires : goal.write_entry-requires
-write_entry-requires c = room_for _ _ _ c.args.samples.now.n _ _ (front_in _ c.args.samples.now.labs _ (search rules) (search rules)) (search rules) c.requires.1
+write_entry-requires c = (search rules, room_for _ _ _ c.args.samples.now.n _ _ (front_in _ c.args.samples.now.labs _ (search rules) (search rules)) (search rules) c.requires.1)
 
 pub loop-j-init : goal.loop-j-init
 loop-j-init c = search (loops, rules)

@@ -10,5 +10,5 @@ abbrev pub invariant-loop-from : goal.invariant-loop-from
 invariant-loop-from l =
     let c = l.self.meter.channel in
     let k = length l.self.seen.cells.cxs.now in
-    (l.self.modules.grid ≤ l.from) × Left (write_ring c.noise c.palette.numbers.now c.palette.hues k l.self.modules.grid (linear_at l.self.colours.now)) (length l.self.modules.xs.now) l.from l.chroma
-    (write_rings c.noise c.palette.numbers.now c.palette.hues k l.self.modules.grid (linear_at l.self.colours.now) (length l.self.modules.xs.now) l.initial.chroma)
+    (l.self.grid ≤ l.from) × Left (write_ring c.noise c.palette.numbers.now c.palette.hues k l.self.grid (linear_at l.self.colours.now)) l.self.modules l.from l.chroma
+    (write_rings c.noise c.palette.numbers.now c.palette.hues k l.self.grid (linear_at l.self.colours.now) l.self.modules l.initial.chroma)

@@ -3,4 +3,4 @@ use Rattle.scores.proofs.Chroma.{sigmas_written}
 use Rattle.scores.proofs.samples.Meter.new.Goals as goal
 
 pub invariant_of-result : goal.invariant_of-result
-invariant_of-result c = record { hues_good = c.requires; sigmas_are = sigmas_written _ _ _ _ _ c.palette_sigmas.ensures c.requires }
+invariant_of-result c = record { sigmas_are = sigmas_written _ _ _ _ _ c.palette_sigmas.ensures c.requires }

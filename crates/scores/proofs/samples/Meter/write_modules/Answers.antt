@@ -6,8 +6,7 @@ use Rattle.scores.proofs.samples.Meter.write_modules.Goals as goal
 
 pub returns : goal.returns
 returns c =
-    let n = c.len-n.ensures in
     let seen = c.correct-held.ensures in (
-      in_two _ _ _ _ _ _ _ (search rules) (search rules) _ _ (modules_written _ _ _ _ _ _ _ (rw n at seen.0)) (rw n at c.write_lumas.ensures),
-      modules_counted _ _ _ _ _ _ (rw n at seen.1),
+      in_two _ _ _ _ _ _ _ (search rules) (search rules) _ _ (modules_written _ _ _ _ _ _ _ seen.0) c.write_lumas.ensures,
+      modules_counted _ _ _ _ _ _ seen.1,
     )
