@@ -53,8 +53,8 @@ fn cell_centre(size: usize, cx: u16) -> f32
     f32::from(cx) * size as f32 + size as f32 / 2.0
 }
 
-// A card's modules with their colours, three numbers each, as they were observed. Positions are two lists, since the C interface
-// lends them so.
+// A card's modules with their colours, three numbers each, as they were observed. Positions are two lists, since the C
+// interface lends them so.
 #[derive(Clone, Copy, Debug)]
 pub struct SeenModules<'a> {
     pub xs: &'a [i32],

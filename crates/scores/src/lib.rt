@@ -166,8 +166,9 @@ impl Meter<'_> {
     }
 }
 
-// A card whose chroma is scored: its side, its cells as they were observed, and the corrected colours of its modules, the first
-// `grid` of which are grid modules. Its hue count passes sentence 3, and it has no more cells and modules than sentence 6 lets pass.
+// A card whose chroma is scored: its side, its cells as they were observed, and the corrected colours of its modules,
+// the first `grid` of which are grid modules. Its hue count passes sentence 3, and it has at most 1,048,576 cells and
+// modules.
 #[derive(Clone, Copy, Debug)]
 pub struct ChromaCard<'a> {
     pub meter: Meter<'a>,
