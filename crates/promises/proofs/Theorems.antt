@@ -19,4 +19,5 @@ pub ruleset theorems = (refused_by_length, worked, none-erased-inside, none-eras
 
 -- the parts of one promise
 pub ruleset any_order = (median-any-order, deviation-any-order)
+
 pub ruleset roots = (nearest.sqrt_is, nearest.cbrt_is, nearest.sqrt-only, nearest.cbrt-only)
