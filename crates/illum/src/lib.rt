@@ -489,27 +489,27 @@ pub fn within(span: Span, s: Spot) -> bool
 
 // Core: a model with the positions at which no moderate colour breaks sentence 12.
 #[derive(Clone, Copy, Debug)]
-pub struct Corrector {
-    model: IlluminationModel,
+pub struct Corrector<'a> {
+    model: &'a IlluminationModel,
     span: Span,
-    ghost reached: { (span ≡ reach_of model) × Typed model },
+    ghost reached: { (span ≡ reach_of model.now) × Typed model.now },
 }
 
-impl Corrector {
+impl<'a> Corrector<'a> {
     // Core: of a model.
-    pub fn new(model: IlluminationModel) -> Corrector
-        ensures { result.model ≡ model }
+    pub fn new(model: &'a IlluminationModel) -> Corrector<'a>
+        ensures { result.model.now ≡ model.now }
     {
-        let span = reach(model);
+        let span = reach(*model);
         Corrector { model, span }
     }
 
     // Core: sentence 12, of one spot: its corrected colour is wild.
     #[tactic(auto, using(crate::proofs::Moderate::spot_wild, crate::proofs::Moderate::in_reach_tame))]
     pub fn breaks(&self, s: Spot) -> bool
-        ensures { result ≡ wild_linear (spec.corrected self.now.model s.x s.y s.colour).colour }
+        ensures { result ≡ wild_linear (spec.corrected self.now.model.now s.x s.y s.colour).colour }
     {
-        !within(self.span, s) && wild_mix(self.model, unshade(self.model, s))
+        !within(self.span, s) && wild_mix(*self.model, unshade(*self.model, s))
     }
 }
 

@@ -530,11 +530,11 @@ fn wild_numbers(references: &References, palette: &Palette) -> bool
 fn wild_corrected(model: IlluminationModel, references: &References) -> bool
     ensures { result ≡ spec.wild_corrected model references.now.flat.now references.now.n }
 {
-    let corrector = Corrector::new(model);
+    let corrector = Corrector::new(&model);
     (0..references.n).any(
         |i|
             requires { i < references.now.n }
-            ensures { result ≡ spec.wild_corrected_at corrector.model references.entry.now.flat.now i }
+            ensures { result ≡ spec.wild_corrected_at corrector.entry.model.now references.entry.now.flat.now i }
         { corrector.breaks(references.seen(i)) },
     )
 }

@@ -36,7 +36,7 @@ module _ (model : IlluminationModel) (s : Spot) (d : Unshaded) (ed : d ≡ unsha
     unfolding held_spot
     counted k r e = counts-position model _ _ _ d k r (held_spot model spots) (from + j) e ed (rw es)
 
-pub wild_at : (model : IlluminationModel) (spots : ℕ → Spot) (i : ℕ) (k : Corrector) (s : Spot) (r : Bool) → k.model ≡ model → s ≡ spots i → r ≡ wild_linear (corrected k.model s.x s.y s.colour).colour → r ≡ wild_colour_at (spot_colour model spots) i
+pub wild_at : (model : IlluminationModel) (spots : ℕ → Spot) (i : ℕ) (k : Corrector) (s : Spot) (r : Bool) → k.model.now ≡ model → s ≡ spots i → r ≡ wild_linear (corrected k.model.now s.x s.y s.colour).colour → r ≡ wild_colour_at (spot_colour model spots) i
 unfolding spot_colour corrected_spot
 wild_at model spots i k s r ek es e = rw (← es, ← ek) e
 

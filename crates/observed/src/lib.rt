@@ -172,7 +172,7 @@ pub fn correct<S: Spots>(
 pub fn any_wild<S: Spots>(model: IlluminationModel, seen: &S) -> bool
     ensures { result ≡ spec.wild_colours (spec.spot_colour model (S.spots seen.now)) (S.count seen.now) }
 {
-    let corrector = Corrector::new(model);
+    let corrector = Corrector::new(&model);
     for i in 0..seen.len() {
         if corrector.breaks(seen.spot(i)) {
             return true;

@@ -8,4 +8,4 @@ use Rattle.measure.proofs.fn.wild_corrected.any.Goals as goal
 
 pub returns : goal.returns
 unfolding corrected_at wild_corrected_at
-returns c = c.breaks.ensures ∙ ap (λ (s : Spot). wild_linear (corrected c.captures.corrector.model s.x s.y s.colour).colour) c.seen.ensures
+returns c = c.breaks.ensures ∙ ap (λ (s : Spot). wild_linear (corrected c.captures.corrector.model.now s.x s.y s.colour).colour) c.seen.ensures
