@@ -1,6 +1,6 @@
 -- One pass's equations: the Rust's `fit_once`, channel by channel and row by row, in its order of operations. Definitions only.
 -- The Rust collects the rows and hands them to `least_squares`; here each live reference's row is added to the normal equations as it comes.
-use Rattle.std.specs.Prelude.{◌≡◌, cond, List, [], ◌∷◌, ℕ, ◌+◌, ◌*◌, ◌<◌, ltb, leb, get_or, set, replicate, Float, Option, None, Some}
+use Rattle.std.specs.Prelude.{cond, List, [], ◌∷◌, ℕ, ◌+◌, ◌*◌, ltb, leb, get_or, set, replicate, Float, Option, None, Some}
 use Rattle.std.specs.Option.{option_map}
 use Rattle.std.specs.Float.{nan, binary64}
 use Rattle.std.specs.Float.Ieee.{mul}
@@ -52,12 +52,6 @@ live_row w live row target i s = cond (is_live live i) (add_row w (row i) (targe
 
 abbrev pub live_rows : ℕ → List Float → (ℕ → List Float) → (ℕ → Float) → ℕ → System → System
 live_rows w live row target n s = for_up 0 n (live_row w live row target) s
-
--- t has the rows and targets that two closures give, added to s, whatever functions of a reference these are
-abbrev pub AddsRows : (ℕ → List Float → Type 0) → (ℕ → Float → Type 0) → ℕ → List Float → ℕ → System → System → Type 0
-AddsRows Rows Targets w live n s t =
-    (row : ℕ → List Float) (target : ℕ → Float) → ((i : ℕ) (r : List Float) → i < n → Rows i r → r ≡ row i) → ((i : ℕ) (v : Float) → i < n → Targets i v → v ≡ target i)
-    → t ≡ live_rows w live row target n s
 
 -- observed ≈ gain * nominal + flare at reference i
 unfoldable pub surface_row : Plan → List Float → ℕ → ℕ → List Float

@@ -4,9 +4,9 @@
 // argument, which has no struct.
 #![tactic(auto)]
 
-ghost use Rattle.std.specs.Prelude.{◌≡◌, ◌+◌, ◌*◌, ◌<◌, ◌≤◌, length};
+ghost use Rattle.std.specs.Prelude.{◌≡◌, List, Float, ℕ, ◌+◌, ◌*◌, ◌<◌, ◌≤◌, length};
 ghost use Rattle.math.specs.Gauss.{system};
-ghost use Rattle.references.specs.References.{place_of};
+ghost use Rattle.references.specs.References.{observed_of, nominal_of, place_of};
 ghost use Rattle.equations.specs.Once as spec;
 ghost use Rattle.equations.specs.Live.{live_count};
 
@@ -46,6 +46,26 @@ pub struct Selection<'a> {
     ghost marked: { length marks.now ≡ references.n },
 }
 
+// What each live reference adds to the equations: a row of unknowns' factors, and its target. A row is written into the
+// caller's array, since one that is answered is copied on its way.
+trait Rows {
+    ghost count: { Self → ℕ };
+
+    ghost rows: { Self → ℕ → List Float };
+
+    ghost targets: { Self → ℕ → Float };
+
+    // Writes the row of reference i.
+    fn write(&self, i: usize, out: &mut [f64; 18])
+        requires { i < count self.now }
+        ensures { out.new ≡ rows self.now i };
+
+    // The target of reference i.
+    fn target(&self, i: usize) -> f64
+        requires { i < count self.now }
+        ensures { result ≡ targets self.now i };
+}
+
 // Normal equations of up to 18 unknowns.
 #[derive(Debug, Drop)]
 struct Equations {
@@ -65,21 +85,16 @@ impl Equations {
     }
 
     // Adds the row and the target of each live reference, of w unknowns.
-    fn add_rows<F: Fn(usize) -> [f64; 18], G: Fn(usize) -> f64>(
-        &mut self,
-        selection: &Selection,
-        w: usize,
-        row: F,
-        target: G,
-    )
+    fn add_rows<R: Rows>(&mut self, marks: &[f32], w: usize, from: &R)
         requires unknowns { w ≤ 18 }
-        requires row { (i : _) → i < selection.now.references.n → F.pre row i }
-        requires target { (i : _) → i < selection.now.references.n → G.pre target i }
-        ensures { spec.AddsRows (F.post row) (G.post target) w selection.now.marks.now selection.now.references.n (system self.old.ata self.old.atb) (system self.new.ata self.new.atb) }
+        requires each { R.count from.now ≡ length marks.now }
+        ensures { system self.new.ata self.new.atb ≡ spec.live_rows w marks.now (R.rows from.now) (R.targets from.now) (length marks.now) (system self.old.ata self.old.atb) }
     {
-        for (i, &mark) in selection.marks.iter().enumerate() {
+        let mut row = [0.0; 18];
+        for (i, &mark) in marks.iter().enumerate() {
             if live::is_live(mark) {
-                math::add_row_core(&mut self.ata, &mut self.atb, &row(i), target(i), w);
+                from.write(i, &mut row);
+                math::add_row_core(&mut self.ata, &mut self.atb, &row, from.target(i), w);
             }
         }
     }
@@ -102,9 +117,9 @@ impl Equations {
 
 // The basis times the nominal value, at the start of a row.
 // Twin: of `append_terms`; one body would take a place and a factor, and multiply by 1 where there is no product.
-fn scale_terms(row: &mut [f64; 18], b: [f64; 9], t: usize, nominal: f64)
+fn scale_terms(row: &mut [f64; 18], b: &[f64; 9], t: usize, nominal: f64)
     requires { t ≤ 9 }
-    ensures { row.new ≡ spec.scaled b t nominal row.old }
+    ensures { row.new ≡ spec.scaled b.now t nominal row.old }
 {
     for (k, &term) in b[..t].iter().enumerate() {
         row[k] = term * nominal;
@@ -113,9 +128,9 @@ fn scale_terms(row: &mut [f64; 18], b: [f64; 9], t: usize, nominal: f64)
 
 // The basis itself after them.
 // Twin: of `scale_terms`.
-fn append_terms(row: &mut [f64; 18], b: [f64; 9], t: usize)
+fn append_terms(row: &mut [f64; 18], b: &[f64; 9], t: usize)
     requires { t ≤ 9 }
-    ensures { row.new ≡ spec.appended b t row.old }
+    ensures { row.new ≡ spec.appended b.now t row.old }
 {
     for (k, &term) in b[..t].iter().enumerate() {
         row[t + k] = term;
@@ -153,29 +168,17 @@ impl Plan {
         if self.flare { 2 * t } else { t }
     }
 
-    // A design row: gain's terms and, where flare is fitted, flare's.
+    // Writes a design row: gain's terms and, where flare is fitted, flare's.
     #[tactic(auto, unfolding(crate::specs::Once::design_of), using(crate::proofs::Widths::terms_most, crate::proofs::Widths::zero))]
-    fn design(self, b: [f64; 9], nominal: f64) -> [f64; 18]
-        ensures { result ≡ spec.design_of self b nominal }
+    fn design(self, b: &[f64; 9], nominal: f64, row: &mut [f64; 18])
+        ensures { row.new ≡ spec.design_of self b.now nominal }
     {
         let t = illum::terms_used(self.terms);
-        let mut row = [0.0; 18];
-        scale_terms(&mut row, b, t, nominal);
+        *row = [0.0; 18];
+        scale_terms(row, b, t, nominal);
         if self.flare {
-            append_terms(&mut row, b, t);
-            return row;
+            append_terms(row, b, t);
         }
-        row
-    }
-
-    // That of reference i, for a channel.
-    #[tactic(auto, unfolding(crate::specs::Once::surface_row))]
-    fn row(self, references: &References, channel: Primary, i: usize) -> [f64; 18]
-        requires { i < references.now.n }
-        ensures { result ≡ spec.surface_row self references.now.flat.now (place_of channel) i }
-    {
-        let b = illum::basis(self.terms, self.side, references.x(i), references.y(i));
-        self.design(b, float::widen(references.nominal_of(channel, i)))
     }
 
     // The surfaces of a solution.
@@ -232,19 +235,67 @@ fn with_affine(m: IlluminationModel, a: Affine) -> IlluminationModel
     }
 }
 
-// Reference i's three inverses, and 1; what stands past them is not read.
-#[tactic(auto, unfolding(crate::specs::Once::affine_row_of), using(crate::proofs::Widths::zero, crate::proofs::Widths::one))]
-fn affine_row(m: IlluminationModel, references: &References, i: usize) -> [f64; 18]
-    requires { i < references.now.n }
-    ensures { result ≡ spec.affine_row_of m references.now.flat.now i }
-{
-    let d = illum::unshade(m, references.seen(i));
-    let mut row = [0.0; 18];
-    row[0] = d.r.value;
-    row[1] = d.g.value;
-    row[2] = d.b.value;
-    row[3] = 1.0;
-    row
+// The rows of a channel's surfaces.
+#[derive(Clone, Copy, Debug)]
+struct SurfaceRows<'a> {
+    plan: Plan,
+    references: References<'a>,
+    channel: Primary,
+}
+
+impl Rows for SurfaceRows<'_> {
+    ghost count = { λ r. r.references.n };
+
+    ghost rows = { λ r. spec.surface_row r.plan r.references.flat.now (place_of r.channel) };
+
+    ghost targets = { λ r. observed_of r.references.flat.now (place_of r.channel) };
+
+    #[tactic(auto, unfolding(crate::specs::Once::surface_row))]
+    fn write(&self, i: usize, out: &mut [f64; 18]) {
+        let references = &self.references;
+        let b = illum::basis(
+            self.plan.terms,
+            self.plan.side,
+            references.x(i),
+            references.y(i),
+        );
+        let nominal = references.nominal_of(self.channel, i);
+        self.plan.design(&b, float::widen(nominal), out);
+    }
+
+    fn target(&self, i: usize) -> f64 {
+        float::widen(self.references.observed_of(self.channel, i))
+    }
+}
+
+// The rows of a channel's affine part: a reference's three inverses, and 1; what stands past them is not read.
+#[derive(Clone, Copy, Debug)]
+struct AffineRows<'a> {
+    model: &'a IlluminationModel,
+    references: References<'a>,
+    channel: Primary,
+}
+
+impl Rows for AffineRows<'_> {
+    ghost count = { λ r. r.references.n };
+
+    ghost rows = { λ r. spec.affine_row_of r.model.now r.references.flat.now };
+
+    ghost targets = { λ r. nominal_of r.references.flat.now (place_of r.channel) };
+
+    #[tactic(auto, unfolding(crate::specs::Once::affine_row_of), using(crate::proofs::Widths::zero, crate::proofs::Widths::one))]
+    fn write(&self, i: usize, out: &mut [f64; 18]) {
+        let d = illum::unshade(*self.model, self.references.seen(i));
+        *out = [0.0; 18];
+        out[0] = d.r.value;
+        out[1] = d.g.value;
+        out[2] = d.b.value;
+        out[3] = 1.0;
+    }
+
+    fn target(&self, i: usize) -> f64 {
+        float::widen(self.references.nominal_of(self.channel, i))
+    }
 }
 
 impl<'a> Selection<'a> {
@@ -271,17 +322,13 @@ impl<'a> Selection<'a> {
         if count < w {
             return unit_surface();
         }
-        let references = &self.references;
+        let rows = SurfaceRows {
+            plan: p,
+            references: self.references,
+            channel,
+        };
         let mut equations = Equations::none();
-        equations.add_rows(
-            self,
-            w,
-            |i|
-                requires { i < references.now.n }
-                ensures { result ≡ spec.surface_row p references.entry.now.flat.now (place_of channel) i }
-            { p.row(references, channel, i) },
-            |i| float::widen(references.observed_of(channel, i)),
-        );
+        equations.add_rows(self.marks, w, &rows);
         match equations.solve(w) {
             Some(x) => p.solved(x),
             None => unit_surface(),
@@ -310,17 +357,13 @@ impl<'a> Selection<'a> {
     fn row(&self, m: IlluminationModel, channel: Primary) -> Option<[f64; 4]>
         ensures { result ≡ spec.fit_row m self.now.references.flat.now self.now.marks.now (place_of channel) self.now.references.n }
     {
-        let references = &self.references;
+        let rows = AffineRows {
+            model: &m,
+            references: self.references,
+            channel,
+        };
         let mut equations = Equations::none();
-        equations.add_rows(
-            self,
-            4,
-            |i|
-                requires { i < references.now.n }
-                ensures { result ≡ spec.affine_row_of m references.entry.now.flat.now i }
-            { affine_row(m, references, i) },
-            |i| float::widen(references.nominal_of(channel, i)),
-        );
+        equations.add_rows(self.marks, 4, &rows);
         let x = equations.solve(4)?;
         Some([x[0], x[1], x[2], x[3]])
     }

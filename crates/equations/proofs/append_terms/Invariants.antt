@@ -4,4 +4,4 @@ use Rattle.equations.specs.Once.{append_at, appended}
 use Rattle.equations.proofs.append_terms.Given as goal
 
 abbrev pub invariant-loop-k : goal.invariant-loop-k
-invariant-loop-k l = Left (append_at l.fn.b l.t) l.t l.k l.row (appended l.fn.b l.t l.initial.row)
+invariant-loop-k l = Left (append_at l.b l.t) l.t l.k l.row (appended l.b l.t l.initial.row)

@@ -4,4 +4,4 @@ use Rattle.equations.specs.Once.{scale_at, scaled}
 use Rattle.equations.proofs.scale_terms.Given as goal
 
 abbrev pub invariant-loop-k : goal.invariant-loop-k
-invariant-loop-k l = Left (scale_at l.fn.b l.nominal) l.t l.k l.row (scaled l.fn.b l.t l.nominal l.initial.row)
+invariant-loop-k l = Left (scale_at l.b l.nominal) l.t l.k l.row (scaled l.b l.t l.nominal l.initial.row)

@@ -2,15 +2,15 @@
 use mathlib.Core.Path.{◌≡◌, ap, ◌∙◌}
 use mathlib.Core.Bool.{Bool, true, false}
 use mathlib.Core.List.{List}
-use Prim.Native.Nat.{ℕ, ◌<◌}
-use native.Mathlib.Omega.{arith}
+use Prim.Native.Nat.{ℕ}
 use lib.Ieee.{Float}
-use Rattle.loops.proofs.Laws.{turn_to, done}
+use Rattle.loops.proofs.Laws.{loops, turn_to}
 use Rattle.math.specs.Gauss.{System, system}
 use Rattle.math.specs.Normal.{add_row}
 use Rattle.equations.specs.declared.Equations.{Equations}
 use Rattle.equations.specs.Live.{is_live}
 use Rattle.equations.specs.Once.{live_row}
+use borrow.Author.Rules.{rules}
 use Rattle.equations.proofs.Equations.add_rows.Goals as goal
 use Rattle.equations.proofs.Equations.add_rows.Goals.{then-is_live, else-is_live}
 
@@ -24,10 +24,8 @@ module _ (w : ℕ) (live : List Float) (row : ℕ → List Float) (target : ℕ 
   passed t = cc
 
 pub loop-i-preserved : goal.loop-i-preserved
-loop-i-preserved g c = λ row target hr ht.
-    let inv = c.loop-i.invariant row target hr ht in
-    let l : c.loop-i.i < c.args.selection.now.references.n = omega (arith, c.loop-i-test.true, c.args.selection.now.marked) in
-    turn_to inv l (elim c.if-is_live.branch [ then-is_live w ↦ ap (λ (e : Equations). system e.ata e.atb) w.self-is ∙ added _ _ row target _ _ _ c.is_live.ensures _ _ _ w.if-is_live.true (hr _ _ l w.row.ensures) (ht _ _ l w.target.ensures) w.add_row_core.ensures | else-is_live w ↦ ap (λ (e : Equations). system e.ata e.atb) w.self-is ∙ passed _ _ row target _ _ _ c.is_live.ensures w.if-is_live.false ])
+loop-i-preserved g c =
+    turn_to c.loop-i.invariant c.loop-i-test.true (elim c.if-is_live.branch [ then-is_live w ↦ ap (λ (e : Equations). system e.ata e.atb) w.self-is ∙ added _ _ _ _ _ _ _ c.is_live.ensures _ _ _ w.if-is_live.true w.write.ensures w.target.ensures w.add_row_core.ensures | else-is_live w ↦ ap (λ (e : Equations). system e.ata e.atb) w.self-is ∙ passed _ _ _ _ _ _ _ c.is_live.ensures w.if-is_live.false ])
 
 pub returns : goal.returns
-returns g c = λ row target hr ht. done (c.loop-i.invariant row target hr ht) (omega (arith, c.loop-i-test.false, c.args.selection.now.marked))
+returns g c = search (loops, rules)

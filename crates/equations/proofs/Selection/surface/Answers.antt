@@ -1,6 +1,7 @@
 -- `Selection::surface` meets its contract: fewer live references than unknowns, a solution, or none. Assumes nothing.
 use mathlib.Core.Path.{◌≡◌, sym, ap, ◌∙◌}
 use mathlib.Core.List.{List}
+use lib.ListN.{length}
 use Prim.Native.Nat.{ℕ, ◌<◌, ◌≤◌}
 use borrow.Author.Tests.{lt-ltb, le-ltb}
 use lib.Ieee.{Float}
@@ -18,7 +19,7 @@ module _ (p : Plan) (flat live : List Float) (c n count w : ℕ) (ew : w ≡ wid
   unfolding surface_of
   few s h e = cc (lt-ltb count w h)
 
-  module _ (a a' : System) (o : Option (List Float)) (h : w ≤ count) (ea : a ≡ no_equations) (e : a' ≡ live_rows w live (surface_row p flat c) (observed_of flat c) n a) (f : o ≡ solution w a') where
+  module _ (a a' : System) (o : Option (List Float)) (h : w ≤ count) (en : length live ≡ n) (ea : a ≡ no_equations) (e : a' ≡ live_rows w live (surface_row p flat c) (observed_of flat c) (length live) a) (f : o ≡ solution w a') where
     past : surface_of p flat live c n count ≡ or_unit p o
     unfolding surface_of
     past = cc (le-ltb count w h)
@@ -28,12 +29,8 @@ returns-then-count-w c = search (few, rules)
 
 pub returns-in-Some : goal.returns-in-Some
 returns-in-Some c =
-    let flat = c.args.self.now.references.flat.now in
-    let e = c.add_rows.ensures (surface_row c.args.p flat (place_of c.args.channel)) (observed_of flat (place_of c.args.channel)) (λ i r l h. search rules) (λ i v l h. search rules) in
-    c.solved.ensures ∙ ap (or_unit c.args.p) (sym c.in-Some.is) ∙ sym (past c.args.p flat c.args.self.now.marks.now (place_of c.args.channel) _ _ _ c.width-w.ensures.0 _ _ _ (search rules) c.none-equations.ensures e c.solve.ensures)
+    c.solved.ensures ∙ ap (or_unit c.args.p) (sym c.in-Some.is) ∙ sym (past c.args.p c.args.self.now.references.flat.now c.args.self.now.marks.now (place_of c.args.channel) _ _ _ c.width-w.ensures.0 _ _ _ (search rules) c.args.self.now.marked c.none-equations.ensures c.add_rows.ensures c.solve.ensures)
 
 pub returns-in-None : goal.returns-in-None
 returns-in-None c =
-    let flat = c.args.self.now.references.flat.now in
-    let e = c.add_rows.ensures (surface_row c.args.p flat (place_of c.args.channel)) (observed_of flat (place_of c.args.channel)) (λ i r l h. search rules) (λ i v l h. search rules) in
-    c.unit_surface-in-None.ensures ∙ ap (or_unit c.args.p) (sym c.in-None.is) ∙ sym (past c.args.p flat c.args.self.now.marks.now (place_of c.args.channel) _ _ _ c.width-w.ensures.0 _ _ _ (search rules) c.none-equations.ensures e c.solve.ensures)
+    c.unit_surface-in-None.ensures ∙ ap (or_unit c.args.p) (sym c.in-None.is) ∙ sym (past c.args.p c.args.self.now.references.flat.now c.args.self.now.marks.now (place_of c.args.channel) _ _ _ c.width-w.ensures.0 _ _ _ (search rules) c.args.self.now.marked c.none-equations.ensures c.add_rows.ensures c.solve.ensures)
