@@ -140,14 +140,53 @@ module _ (k cx cy : ℕ) (e : 0 ≡ refusal (hues_and_cell k cx cy)) where
 -- ---- a list
 
 module _ {A : Type 0} (ss : List Sentence) (before after : List A) where
-  pub list-refused : (r : Refusal) (l : List A) → number_of r ≡ refusal ss → l ≡ before → ended (Err r) l ≡ written_or ss before after
-  list-refused r l e h =
+  pub list-kept : (r : Refusal) (l : List A) → number_of r ≡ refusal ss → l ≡ before → ended (Err r) l ≡ written_or ss before after
+  list-kept r l e h =
       ap (λ (k : List A). record { number = number_of r; list = k }) h ∙
       refuses (λ m. record { number = m; list = before }) (record { number = 0; list = after }) (number_of r) (refusal ss) (numbered r) e
 
   pub list_on : (x : Result ⊤ Refusal) (r : Refusal) (l : List A) → IsErr x × IsErrAnd x (λ y. y ≡ r) → number_of r ≡ refusal ss → l ≡ before →
       ended x l ≡ written_or ss before after
-  list_on x r l p e h = rw (passed_on x r p) (list-refused r l e h)
+  list_on x r l p e h = rw (passed_on x r p) (list-kept r l e h)
 
   pub list_written : (l : List A) → 0 ≡ refusal ss → l ≡ after → ended (Ok tt) l ≡ written_or ss before after
   list_written l e h = ap (λ (k : List A). record { number = 0; list = k }) h ∙ accepts (λ m. record { number = m; list = before }) (record { number = 0; list = after }) 0 (refusal ss) refl e
+
+-- ---- for callers: what an answer says of the sentences and of the list
+
+-- by the number n
+module _ {A : Type 0} (before after : List A) where
+  abbrev pub outcome_by : ℕ → Ended A
+  outcome_by n = decided n (λ m. record { number = m; list = before }) (record { number = 0; list = after })
+
+  same_number : (n : ℕ) → (outcome_by n).number ≡ n
+  unfolding decided
+  same_number zero = refl
+  same_number (suc n) = refl
+
+  at_nought : (n : ℕ) → n ≡ 0 → (outcome_by n).list ≡ after
+  unfolding decided
+  at_nought zero e = refl
+  at_nought (suc n) e = absurd (omega arith)
+
+  at_more : (n : ℕ) → (n ≡ 0 → ⊥) → (outcome_by n).list ≡ before
+  unfolding decided
+  at_more zero e = absurd (e refl)
+  at_more (suc n) e = refl
+
+module _ {A : Type 0} (ss : List Sentence) (before after : List A) where
+  -- the number that is given is that of the first sentence that holds
+  pub list-number : (written_or ss before after).number ≡ refusal ss
+  list-number = same_number before after (refusal ss)
+
+  -- done: no sentence holds, and the list is written
+  pub list_done : (written_or ss before after).number ≡ 0 → (0 ≡ refusal ss) × ((written_or ss before after).list ≡ after)
+  list_done h =
+      let e = sym list-number ∙ h in
+      (sym e, at_nought before after (refusal ss) e)
+
+  -- refused by n: the list is as it was
+  pub list-refused : (n : ℕ) → (n ≡ 0 → ⊥) → (written_or ss before after).number ≡ n → (n ≡ refusal ss) × ((written_or ss before after).list ≡ before)
+  list-refused n z h =
+      let e = sym h ∙ list-number in
+      (e, at_more before after (refusal ss) (λ w. z (e ∙ w)))

@@ -120,8 +120,9 @@ fn refit(
     Ok(with_counts(model, model.rejected, kept))
 }
 
-// The fit of references that the sentences 2 to 8 let pass. Refused by 11. The live marks are left as they are at the end.
-fn fit_live(
+// Core: the fit of references that the sentences 2 to 8 let pass. Refused by 11. The live marks are left as they are at the
+// end.
+pub fn fit_live(
     references: References,
     side: usize,
     terms: usize,

@@ -9,8 +9,7 @@ use borrow.Author.Tests.{ltb-false}
 use lib.Dec.{ltb}
 use lib.ListN.{length, get_or}
 use lib.Ieee.{Float, nan}
-use Rattle.sentences.specs.Sentences.{Sentence, refusal, decided, at, sound, fresh}
-use Rattle.sentences.proofs.Laws.{accepts}
+use Rattle.sentences.specs.Sentences.{refusal, decided, at, sound, fresh}
 use Rattle.symbols.specs.Gray.{chroma_symbol_to_hue}
 use Rattle.symbols.specs.Mask.{chroma_mask_apply}
 use Rattle.modulate.specs.Draw.{grid_level, ring_level, cell_hue, ring_hue, level_at, hue_at, entries_of}
@@ -18,10 +17,8 @@ use Rattle.modulate.specs.Score.{unmasked, unmask_sentences, unmask_luma_of}
 use Rattle.reading.specs.Read.{reads, read_score_at, read_list, read_sentences, read_list_of}
 use Rattle.modulate.proofs.Symbols.{bit_lt}
 use Rattle.lists.proofs.Laws.{Reached, reached}
-use Rattle.answers.specs.Answers.{Ended, written_or}
-use Rattle.answers.proofs.Answers.{given_is, none_of}
+use Rattle.answers.proofs.Answers.{given_is, list_done, none_of}
 use Rattle.modulate.proofs.Accepted.{IsDrawn, drawn-done}
-use Rattle.modulate.proofs.Written.{list-number}
 use Rattle.limits.specs.Chroma.{chroma_on}
 use Rattle.margin.specs.Margin.{in_margin}
 use Rattle.margin.specs.declared.Threshold.{Threshold}
@@ -39,19 +36,12 @@ use Rattle.guarantee.specs.Card.{Setting, Card, modules, to_draw, drawn_card, to
 use Rattle.guarantee.specs.Guarantee.{Singles, InMargin, Readable, InMarginAt}
 use Rattle.guarantee.proofs.Sample.{Fits}
 
--- ---- a call that writes one list, and whose number is 0, wrote it
-
-list-zero : {A : Type 0} (ss : List Sentence) (before after : List A) → (written_or ss before after).number ≡ 0 → (0 ≡ refusal ss) × ((written_or ss before after).list ≡ after)
-list-zero ss before after z =
-    let e : 0 ≡ refusal ss = sym z ∙ list-number before after ss in
-    (e, ap (λ (x : Ended _). x.list) (sym (accepts (λ n. record { number = n; list = before }) (record { number = 0; list = after }) 0 (refusal ss) refl e)))
-
 -- ---- a call that reads a list
 
 module _ (scores : List Float) (bits : List ℕ) (done : (read_list_of scores bits).number ≡ 0) where
   was_done : (0 ≡ refusal (read_sentences scores bits)) × ((read_list_of scores bits).list ≡ read_list scores bits)
   unfolding read_list_of
-  was_done = list-zero (read_sentences scores bits) bits (read_list scores bits) done
+  was_done = list_done (read_sentences scores bits) bits (read_list scores bits) done
 
   read-room : length scores ≤ length bits
   unfolding read_sentences at sound fresh
@@ -121,7 +111,7 @@ module _ (s : Setting) (c : Card) (R : Readable s c) where
   pub unmasked_is : (unmasked_card s c).list ≡ unmasked s.mask s.xs s.ys s.layout.grid (refined_card s c).luma
   unfolding unmask_luma_of
   unmasked_is =
-      (list-zero (unmask_sentences (refined_card s c).luma s.layout.side s.xs s.ys s.layout.grid) (refined_card s c).luma
+      (list_done (unmask_sentences (refined_card s c).luma s.layout.side s.xs s.ys s.layout.grid) (refined_card s c).luma
       (unmasked s.mask s.xs s.ys s.layout.grid (refined_card s c).luma) R.accepted.unmasking).1
 
 -- ---- the setting's numbers

@@ -7,17 +7,18 @@ use Prim.Native.Nat.{ℕ, zero, suc}
 use lib.IntN.{ℤ}
 use lib.Ieee.{Float, neg}
 use Rattle.sentences.specs.Sentences.{refusal, decided}
+use Rattle.answers.proofs.Answers.{list-number}
 use Rattle.reading.specs.Read.{reads}
 use Rattle.reading.specs.Erasure.{turned}
 use Rattle.reading.proofs.Erasure.{erasures}
 use Rattle.modulate.specs.Score.{masked_at, unmask_at, unmasked, unmask_sentences, unmask_luma_of}
 use Rattle.modulate.specs.Laws.{UnmaskingTwice, UnmaskedReads}
-use Rattle.modulate.proofs.Written.{list-number, unmask-luma-twice}
+use Rattle.modulate.proofs.Written.{unmask-luma-twice}
 
 module _ (luma : List Float) (side : ℕ) (xs ys : List ℤ) (g mask : ℕ) where
   number : (unmask_luma_of luma side xs ys g mask).number ≡ refusal (unmask_sentences luma side xs ys g)
   unfolding unmask_luma_of
-  number = list-number luma (unmasked mask xs ys g luma) (unmask_sentences luma side xs ys g)
+  number = list-number (unmask_sentences luma side xs ys g) luma (unmasked mask xs ys g luma)
 
   kept : (n : ℕ) → refusal (unmask_sentences luma side xs ys g) ≡ suc n → (unmask_luma_of luma side xs ys g mask).list ≡ luma
   unfolding unmask_luma_of decided

@@ -2,14 +2,15 @@
 use mathlib.Core.Path.{◌≡◌, refl, sym, ap, ◌∙◌}
 use mathlib.Core.Bool.{Bool, true, false, cond}
 use mathlib.Core.List.{List}
-use Prim.Native.Nat.{ℕ, zero, suc, ◌≤◌}
+use Prim.Native.Nat.{ℕ, ◌≤◌}
 use native.Mathlib.Nat.{le_trans}
 use lib.IntN.{ℤ}
 use lib.ListN.{length}
 use lib.Ieee.{Float, nan, inf, fin, neg}
-use Rattle.sentences.specs.Sentences.{Sentence, refusal, decided}
+use Rattle.sentences.specs.Sentences.{refusal}
 use Rattle.sentences.proofs.Laws.{accepts}
-use Rattle.answers.specs.Answers.{Ended, written_or}
+use Rattle.answers.specs.Answers.{Ended}
+use Rattle.answers.proofs.Answers.{list-number}
 use Rattle.lists.proofs.Laws.{reached, twice}
 use Rattle.modulate.specs.Score.{masked_at, unmask_at, unmasked, unmask_sentences, unmask_luma_of}
 use Rattle.modulate.proofs.Accepted.{unmask-grid, unmask-scores}
@@ -30,24 +31,6 @@ pub unmask-twice : (id : ℕ) (xs ys : List ℤ) (g : ℕ) (luma : List Float) �
 unfolding unmask_at
 unmask-twice id xs ys g luma h = twice nan (unmask_at id xs ys) g luma h (λ i v. turn_twice (masked_at id xs ys i) v)
 
--- ---- the number of a call that writes one list is that of the first sentence that holds
-
-module _ {A : Type 0} (before after : List A) where
-  kept : ℕ → Ended A
-  kept n = record { number = n; list = before }
-
-  wrote : Ended A
-  wrote = record { number = 0; list = after }
-
-  by_number : (n : ℕ) → (decided n kept wrote).number ≡ n
-  unfolding decided kept wrote
-  by_number zero = refl
-  by_number (suc n) = refl
-
-  pub list-number : (ss : List Sentence) → (written_or ss before after).number ≡ refusal ss
-  unfolding kept wrote
-  list-number ss = by_number (refusal ss)
-
 -- ---- the call: where it is accepted, a second one by the same mask restores the scores, since its sentences look at their number alone
 
 module _ (luma : List Float) (side : ℕ) (xs ys : List ℤ) (g mask : ℕ) where
@@ -62,7 +45,7 @@ module _ (luma : List Float) (side : ℕ) (xs ys : List ℤ) (g mask : ℕ) wher
 module _ (luma : List Float) (side : ℕ) (xs ys : List ℤ) (g mask : ℕ) (z : (unmask_luma_of luma side xs ys g mask).number ≡ 0) where
   none : refusal (unmask_sentences luma side xs ys g) ≡ 0
   unfolding unmask_luma_of
-  none = sym (list-number luma (unmasked mask xs ys g luma) (unmask_sentences luma side xs ys g)) ∙ z
+  none = sym (list-number (unmask_sentences luma side xs ys g) luma (unmasked mask xs ys g luma)) ∙ z
 
   all : g ≤ length luma
   all = le_trans (unmask-grid luma side xs ys g (sym none)) (unmask-scores luma side xs ys g (sym none))

@@ -115,8 +115,8 @@ impl Spots for SeenCells<'_> {
 
 // ---- the corrected colours
 
-// Writes three numbers at the places of entry i.
-fn put_three(l: &mut [f32], i: usize, x: f32, y: f32, z: f32)
+// Core: writes three numbers at the places of entry i.
+pub fn put_three(l: &mut [f32], i: usize, x: f32, y: f32, z: f32)
     requires { 3 * i + 2 < length l.old }
     ensures { l.new ≡ entry.put_three l.old i x y z }
 {

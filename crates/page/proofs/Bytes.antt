@@ -1,6 +1,6 @@
 -- What an accepted call leaves, byte by byte: the front of the slice is the text, whose bytes are known line by line, and the square of a position is that of the last module listed there, since
 -- different positions have different squares. Assumes nothing.
-use mathlib.Core.Path.{◌≡◌, refl, sym, ap, ◌∙◌}
+use mathlib.Core.Path.{◌≡◌, refl, ap, ◌∙◌}
 use mathlib.Core.Bool.{Bool, true, false}
 use mathlib.Core.List.{List}
 use mathlib.Core.Option.{Option, none, some}
@@ -11,8 +11,7 @@ use lib.Dec.{ltb}
 use lib.IntN.{pos}
 use lib.ListN.{length, get_or}
 use lib.Ieee.{Float, nan}
-use Rattle.sentences.specs.Sentences.{refusal, decided}
-use Rattle.answers.specs.Answers.{Ended}
+use Rattle.answers.proofs.Answers.{list_done, list-refused}
 use Rattle.places.specs.Places.{index_of, square_of}
 use Rattle.places.specs.Last.{stands_at, last_at}
 use Rattle.places.proofs.Last.{is_last, is_none}
@@ -123,30 +122,15 @@ module _ (q : Request) (a : Accepted q) (left : (page_of q).list ≡ laid_out_by
 
 -- ---- every call
 
--- by the number that the sentences give
-module _ {A : Type 0} (before after : List A) where
-  left_at : ℕ → Ended A
-  left_at k = decided k (λ n. record { number = n; list = before }) (record { number = 0; list = after })
-
-  done-at : (k : ℕ) → (left_at k).number ≡ 0 → (0 ≡ k) × ((left_at k).list ≡ after)
-  unfolding left_at decided
-  done-at zero e = (refl, refl)
-  done-at (suc k) e = absurd (omega arith)
-
-  refused-at : (k n : ℕ) → (n ≡ 0 → ⊥) → (left_at k).number ≡ n → (left_at k).list ≡ before
-  unfolding left_at decided
-  refused-at zero n z e = absurd (z (sym e))
-  refused-at (suc k) n z e = refl
-
 done_is : (q : Request) → (page_of q).number ≡ 0 → Page q
-unfolding page_of left_at
+unfolding page_of
 done_is q h =
-    let d = done-at q.page (laid_out_bytes q) (refusal (sentences_of q)) h in
+    let d = list_done (sentences_of q) q.page (laid_out_bytes q) h in
     page_is q (accepted q 0 d.0 refl) d.1
 
 refused_is : (q : Request) (n : ℕ) → (n ≡ 0 → ⊥) → (page_of q).number ≡ n → (page_of q).list ≡ q.page
-unfolding page_of left_at
-refused_is q n z h = refused-at q.page (laid_out_bytes q) (refusal (sentences_of q)) n z h
+unfolding page_of
+refused_is q n z h = (list-refused (sentences_of q) q.page (laid_out_bytes q) n z h).1
 
 pub pages : Pages
 pages = record { done = done_is; refused = refused_is }
