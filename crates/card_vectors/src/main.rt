@@ -4,9 +4,9 @@
 // A line of the list is the name of a card file, a space, and the name of the file that holds its listing.
 #![tactic(auto)]
 
+use std::io;
 use std::io::ErrorKind;
 use std::rt::Files;
-use std::{fs, io};
 use vectors::Compared;
 
 // What a card's listing and the one wanted come to; `at` is the example's place in the list.
@@ -32,26 +32,29 @@ fn compared(card: &[u8], wanted: &[u8], at: usize) -> Compared {
     beside(&room[..n], wanted, at)
 }
 
-// The bytes of a file, or an error where its name is no text.
-fn file<R: Files + Alloc>(rt: &R, name: &[u8]) -> io::Result<Vec<u8, R::A>> {
+// The bytes of a file, up to a limit, or an error where its name is no text.
+fn file<R: Files + Alloc>(rt: &R, name: &[u8], limit: u64) -> io::Result<Vec<u8, R::A>> {
     match str::from_utf8(name) {
-        Ok(path) => fs::read(rt, path),
+        Ok(path) => vectors::load(rt, path, limit),
         Err(_) => Err(io::Error::from(ErrorKind::InvalidInput)),
     }
 }
 
-// Replays the example on the line that begins at `at`.
+// Replays the example on the line that begins at `at`. A line with one name wants a listing of nothing.
 fn replayed<R: Files + Alloc>(rt: &R, list: &[u8], at: usize) -> io::Result<Compared> {
     let name = vectors::name(list, at);
     let from = vectors::name_end(list, at).wrapping_add(1);
-    let listing = list.get(from..vectors::line_end(list, at)).unwrap_or(&[]);
-    let card = file(rt, name)?;
-    let wanted = file(rt, listing)?;
+    let card = file(rt, name, 16385)?;
+    let wanted = match list.get(from..vectors::line_end(list, at)) {
+        // By hand: From has no conversion from usize to u64.
+        Some(name) => file(rt, name, listing::LISTING_ROOM as u64)?,
+        None => Vec::new(rt.alloc()),
+    };
     Ok(compared(&card, &wanted, at))
 }
 
 fn main(rt: HostRuntime) -> io::Result<()> {
-    let list = fs::read(&rt, "examples.txt")?;
-    let t = vectors::compare_all(&list, |at| replayed(&rt, &list, at))?;
+    let list = vectors::load(&rt, "examples.txt", 4096)?;
+    let t = vectors::compare_all(&list, |at, _| replayed(&rt, &list, at))?;
     vectors::report(&rt, &list, &["read_card"], t)
 }

@@ -118,5 +118,5 @@ fn main(rt: HostRuntime) -> io::Result<()> {
         "clamped",
         "in_gamut",
     ];
-    vectors::replay(&rt, "color.txt", &functions, answer)
+    vectors::replay::<16, 16, _, _>(&rt, "color.txt", 262144, &functions, answer)
 }

@@ -6,6 +6,11 @@ use stage_words::{Card, CardRoom};
 use std::io;
 use vectors::{Answers, Inputs};
 
+// The first 64 of a list, which is all that a call is lent of it.
+fn lent<T>(list: &[T]) -> &[T] {
+    list.get(..64).unwrap_or(list)
+}
+
 // score side hues size |xs| |ys| grid |raw| |cxs| |cys| |cell_raw| |palette| MODEL STATS luma colours chroma fill
 //     = no modules cells |luma|' |colours|' |chroma|'
 fn score(inputs: &mut Inputs, answers: &mut Answers) {
@@ -33,7 +38,19 @@ fn score(inputs: &mut Inputs, answers: &mut Answers) {
     let colours = vectors::spread(&mut colours, lens[1], fill);
     let chroma = vectors::spread(&mut chroma, lens[2], fill);
     let scored = demod::score(
-        layout, xs, ys, raw, cxs, cys, cell_raw, palette, model, noise, luma, colours, chroma,
+        layout,
+        lent(xs),
+        lent(ys),
+        lent(raw),
+        lent(cxs),
+        lent(cys),
+        lent(cell_raw),
+        palette,
+        model,
+        noise,
+        luma,
+        colours,
+        chroma,
     );
     stage_words::put_result(answers, scored, |answers, report| {
         answers.put(report.held_modules);
@@ -47,5 +64,5 @@ fn score(inputs: &mut Inputs, answers: &mut Answers) {
 // Twin: each program's main names its own list and its own functions.
 fn main(rt: HostRuntime) -> io::Result<()> {
     let answer = |_: &str, inputs: &mut Inputs, answers: &mut Answers| score(inputs, answers);
-    vectors::replay(&rt, "demod.txt", &["score"], answer)
+    vectors::replay::<512, 256, _, _>(&rt, "demod.txt", 262144, &["score"], answer)
 }

@@ -24,5 +24,5 @@ fn main(rt: HostRuntime) -> io::Result<()> {
     let functions = [
         "sqrt", "cbrt", "narrow", "widen", "abs", "abs_f64", "max", "min", "clamp",
     ];
-    vectors::replay(&rt, "float.txt", &functions, answer)
+    vectors::replay::<16, 16, _, _>(&rt, "float.txt", 262144, &functions, answer)
 }

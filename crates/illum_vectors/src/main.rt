@@ -98,5 +98,5 @@ fn answer(name: &str, inputs: &mut Inputs, answers: &mut Answers) {
 // Twin: each program's main names its own list and its own functions.
 fn main(rt: HostRuntime) -> io::Result<()> {
     let functions = ["identity", "correct", "fit", "basis", "deshade"];
-    vectors::replay(&rt, "illum.txt", &functions, answer)
+    vectors::replay::<2048, 256, _, _>(&rt, "illum.txt", 262144, &functions, answer)
 }

@@ -54,7 +54,7 @@ fn put_matrix(answers: &mut Answers, matrix: &[f64; 324], m: usize) {
 fn add_row(inputs: &mut Inputs, answers: &mut Answers) {
     let (mut matrix, mut side, mut values) = ([0.0; 324], [0.0; 24], [0.0; 24]);
     let terms = inputs.take();
-    let m = inputs.list(&mut matrix).len();
+    let m = inputs.load(&mut matrix);
     let side = inputs.list(&mut side);
     let values = inputs.list(&mut values);
     let outcome = math::add_row(&mut matrix, side, values, inputs.take(), terms);
@@ -67,7 +67,7 @@ fn add_row(inputs: &mut Inputs, answers: &mut Answers) {
 fn finish(inputs: &mut Inputs, answers: &mut Answers) {
     let (mut matrix, mut side, mut x) = ([0.0; 324], [0.0; 24], [0.0; 24]);
     let terms = inputs.take();
-    let m = inputs.list(&mut matrix).len();
+    let m = inputs.load(&mut matrix);
     let side = inputs.list(&mut side);
     let x = inputs.list(&mut x);
     answers.put(number(math::finish(&mut matrix, side, x, terms)));
@@ -116,5 +116,5 @@ fn main(rt: HostRuntime) -> io::Result<()> {
         "median",
         "mad_sigma",
     ];
-    vectors::replay(&rt, "math.txt", &functions, answer)
+    vectors::replay::<1024, 1024, _, _>(&rt, "math.txt", 262144, &functions, answer)
 }

@@ -54,5 +54,5 @@ fn measure(inputs: &mut Inputs, answers: &mut Answers) {
 // Twin: each program's main names its own list and its own functions.
 fn main(rt: HostRuntime) -> io::Result<()> {
     let answer = |_: &str, inputs: &mut Inputs, answers: &mut Answers| measure(inputs, answers);
-    vectors::replay(&rt, "measure.txt", &["measure"], answer)
+    vectors::replay::<512, 64, _, _>(&rt, "measure.txt", 262144, &["measure"], answer)
 }

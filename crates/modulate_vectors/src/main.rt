@@ -159,5 +159,5 @@ fn main(rt: HostRuntime) -> io::Result<()> {
         "read_list",
         "draw",
     ];
-    vectors::replay(&rt, "modulate.txt", &functions, answer)
+    vectors::replay::<256, 256, _, _>(&rt, "modulate.txt", 262144, &functions, answer)
 }

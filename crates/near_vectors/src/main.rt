@@ -53,5 +53,5 @@ fn answer(name: &str, inputs: &mut Inputs, answers: &mut Answers) {
 
 fn main(rt: HostRuntime) -> io::Result<()> {
     let functions = ["kept", "nearest", "within", "cut_off"];
-    vectors::replay(&rt, "near.txt", &functions, answer)
+    vectors::replay::<512, 128, _, _>(&rt, "near.txt", 262144, &functions, answer)
 }

@@ -28,5 +28,5 @@ fn page(inputs: &mut Inputs, answers: &mut Answers) {
 // Twin: each program's main names its own list and its own functions.
 fn main(rt: HostRuntime) -> io::Result<()> {
     let answer = |_: &str, inputs: &mut Inputs, answers: &mut Answers| page(inputs, answers);
-    vectors::replay(&rt, "page.txt", &["page"], answer)
+    vectors::replay::<256, 2560, _, _>(&rt, "page.txt", 262144, &["page"], answer)
 }

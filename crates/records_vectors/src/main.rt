@@ -64,14 +64,15 @@ fn take_reference(inputs: &mut Inputs) -> Reference {
     }
 }
 
-// Takes a list of references: how many floats they have, and the eight of each. All past these are zero. What is taken
-// is the whole list, also where its floats are more than 64 references have or the last reference is not whole.
+// Takes a list of references: how many floats they have, and the eight of each. All 64 have words, those past the list's
+// end the words behind it, and zeros past the record. What is taken is the whole list, also where its floats are more than
+// 64 references have or the last reference is not whole.
 fn take_references(inputs: &mut Inputs) -> [Reference; 64] {
     let mut listed = *inputs;
     inputs.list::<f32>(&mut []);
-    let floats: usize = listed.take();
+    let _floats: usize = listed.take();
     let mut rs = [take_reference(&mut Inputs::new(&[])); 64];
-    for r in rs.iter_mut().take(floats / 8) {
+    for r in rs.iter_mut() {
         *r = take_reference(&mut listed);
     }
     rs
@@ -132,5 +133,5 @@ fn answer(name: &str, inputs: &mut Inputs, answers: &mut Answers) {
 }
 
 fn main(rt: HostRuntime) -> io::Result<()> {
-    vectors::replay(&rt, "records.txt", &["fit", "measure"], answer)
+    vectors::replay::<1024, 128, _, _>(&rt, "records.txt", 262144, &["fit", "measure"], answer)
 }

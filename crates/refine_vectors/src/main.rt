@@ -34,5 +34,5 @@ fn refine(inputs: &mut Inputs, answers: &mut Answers) {
 // Twin: each program's main names its own list and its own functions.
 fn main(rt: HostRuntime) -> io::Result<()> {
     let answer = |_: &str, inputs: &mut Inputs, answers: &mut Answers| refine(inputs, answers);
-    vectors::replay(&rt, "refine.txt", &["refine"], answer)
+    vectors::replay::<1024, 256, _, _>(&rt, "refine.txt", 131072, &["refine"], answer)
 }

@@ -131,5 +131,5 @@ fn main(rt: HostRuntime) -> io::Result<()> {
         "margin",
         "margin_at",
     ];
-    vectors::replay(&rt, "stats.txt", &functions, answer)
+    vectors::replay::<256, 64, _, _>(&rt, "stats.txt", 163840, &functions, answer)
 }

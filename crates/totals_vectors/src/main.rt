@@ -52,9 +52,10 @@ fn answer(name: &str, inputs: &mut Inputs, answers: &mut Answers) {
 }
 
 fn main(rt: HostRuntime) -> io::Result<()> {
-    vectors::replay(
+    vectors::replay::<80, 8, _, _>(
         &rt,
         "totals.txt",
+        163840,
         &["add_card", "add_totals", "mean"],
         answer,
     )

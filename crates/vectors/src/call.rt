@@ -26,17 +26,27 @@ fn load<T: Value>(row: &[u64], out: &mut [T])
     }
 }
 
+// Puts v into the first n places of a room, or into all where it has fewer, and says how many these are. What stands behind
+// them stays.
+pub fn fill<T: Copy>(room: &mut [T], n: usize, v: T) -> usize
+    ensures count { result ≡ min n (length room.old) }
+    ensures values { (k : ℕ) (d : T) → k < result → slice_index_or room.new k d ≡ v }
+    ensures behind { drop result room.new ≡ drop result room.old }
+{
+    let count = super::smaller(n, room.len());
+    for k in 0..count {
+        room[k] = v;
+    }
+    count
+}
+
 // The first n places of a room, or all where it has fewer, each with v in it: memory that is lent to a call.
 pub fn spread<T: Copy>(room: &mut [T], n: usize, v: T) -> &mut [T]
     ensures len { length result.now ≡ min n (length room.old) }
     ensures values { (k : ℕ) (d : T) → k < length result.now → slice_index_or result.now k d ≡ v }
 {
-    let count = super::smaller(n, room.len());
-    let lent = &mut room[..count];
-    for x in lent.iter_mut() {
-        *x = v;
-    }
-    lent
+    let count = fill(room, n, v);
+    &mut room[..count]
 }
 
 // The inputs of a record that are not taken yet.
@@ -74,19 +84,29 @@ impl<'a> Inputs<'a> {
         self.rest = past(self.rest, out.len());
     }
 
-    // Takes the next list, a length and then its elements: as many as `room` has place for, which stand at its start.
-    // An element whose word is not there is 0.
+    // Takes the next list, a length and then its elements: as many as `room` has place for are put at its start. Says how
+    // many these are. An element whose word is not there is 0, and what stands behind them stays.
+    pub fn load<T: Value>(&mut self, room: &mut [T]) -> usize
+        ensures count { result ≡ min (slice_index self.old.rest.now 0) (length room.old) }
+        ensures values { (k : ℕ) (d : T) → k < result → slice_index_or room.new k d ≡ T.value_of (slice_index (drop 1 self.old.rest.now) k) }
+        ensures behind { drop result room.new ≡ drop result room.old }
+        ensures rest { self.new.rest.now ≡ past_list self.old.rest.now }
+    {
+        let count = self.take();
+        let n = super::smaller(count, room.len());
+        load(self.rest, &mut room[..n]);
+        self.rest = past(self.rest, count);
+        n
+    }
+
+    // Takes the next list in the same way, and lends the part of `room` that it stands in.
     pub fn list<'b, T: Value>(&mut self, room: &'b mut [T]) -> &'b mut [T]
         ensures len { length result.now ≡ min (slice_index self.old.rest.now 0) (length room.old) }
         ensures values { (k : ℕ) (d : T) → k < length result.now → slice_index_or result.now k d ≡ T.value_of (slice_index (drop 1 self.old.rest.now) k) }
         ensures rest { self.new.rest.now ≡ past_list self.old.rest.now }
     {
-        let count = self.take();
-        let n = super::smaller(count, room.len());
-        let front = &mut room[..n];
-        load(self.rest, front);
-        self.rest = past(self.rest, count);
-        front
+        let n = self.load(room);
+        &mut room[..n]
     }
 }
 

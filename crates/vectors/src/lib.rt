@@ -20,8 +20,8 @@ mod call;
 mod rerun;
 mod value;
 
-pub use call::{Answers, Inputs, ROOM, spread};
-pub use rerun::{compare_all, replay, report};
+pub use call::{Answers, Inputs, ROOM, fill, spread};
+pub use rerun::{compare_all, load, replay, report};
 use std::io;
 use std::io::Write;
 pub use value::Value;

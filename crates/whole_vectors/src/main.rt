@@ -102,5 +102,5 @@ fn whole(inputs: &mut Inputs, answers: &mut Answers) {
 // Twin: each program's main names its own list and its own functions.
 fn main(rt: HostRuntime) -> io::Result<()> {
     let answer = |_: &str, inputs: &mut Inputs, answers: &mut Answers| whole(inputs, answers);
-    vectors::replay(&rt, "whole.txt", &["whole"], answer)
+    vectors::replay::<4096, 4096, _, _>(&rt, "whole.txt", 262144, &["whole"], answer)
 }

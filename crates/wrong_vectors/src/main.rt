@@ -51,5 +51,5 @@ fn answer(name: &str, inputs: &mut Inputs, answers: &mut Answers) {
 // Twin: each program's `main` names its list and its functions.
 fn main(rt: HostRuntime) -> io::Result<()> {
     let functions = ["sqrt", "cbrt", "median", "mad_sigma", "overwritten"];
-    vectors::replay(&rt, "wrong.txt", &functions, answer)
+    vectors::replay::<16, 16, _, _>(&rt, "wrong.txt", 4096, &functions, answer)
 }
