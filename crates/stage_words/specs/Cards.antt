@@ -1,11 +1,12 @@
 -- A card in a record: its lists stand one behind the other, and then its model and its noise record. Definitions only.
-use Rattle.std.specs.Prelude.{◌≡◌, ◌<◌, List, ℕ, ◌+◌, ◌*◌, ◌%◌, ◌^◌, min, length, drop, slice_index, slice_index_or, Float, ℤ}
-use Rattle.std.specs.Float.{binary32}
+use Rattle.std.specs.Prelude.{◌≡◌, ◌<◌, false, List, ℕ, ◌+◌, ◌*◌, ◌%◌, ◌^◌, pos, min, length, drop, replicate, slice_index, slice_index_or, Float, ℤ}
+use Rattle.std.specs.Float.{fin, binary32}
 use Rattle.std.specs.Float.Ieee.{of_bits}
 use Rattle.std.specs.Int.{w32}
 use Rattle.std.proofs.Common.{to_z}
 use Rattle.vectors.specs.Slices.{past_list}
 use Rattle.stage_words.specs.Records.{width_taken}
+use Rattle.stage_words.specs.declared.CardRoom.{CardRoom}
 
 -- what a word stands for in a list of i32, of f32 and of u16
 abbrev pub signed : ℕ → ℤ
@@ -48,3 +49,16 @@ at_model row = past_list (at_palette row)
 
 abbrev pub at_noise : List ℕ → List ℕ
 at_noise row = drop (18 + 6 * width_taken (at_model row)) (at_model row)
+
+-- room for a card with nothing in it
+unfoldable pub no_card : CardRoom
+no_card =
+    record {
+      xs = replicate 512 (pos 0);
+      ys = replicate 512 (pos 0);
+      raw = replicate 2048 (fin false 0 (pos 0));
+      cxs = replicate 512 0;
+      cys = replicate 512 0;
+      cell_raw = replicate 2048 (fin false 0 (pos 0));
+      palette = replicate 256 (fin false 0 (pos 0));
+    }

@@ -5,8 +5,10 @@
 // 3 x 4, gain 3 x width, flare 3 x width; side and rms are f32, width is 4 or 9.
 #![tactic(auto)]
 
-ghost use Rattle.std.specs.Prelude.{◌≡◌, ◌+◌, ◌*◌, ◌≤◌, length, take, drop, slice_index};
-ghost use Rattle.vectors.specs.Answers.{placed, put};
+ghost use Rattle.std.specs.Prelude.{◌≡◌, ◌+◌, ◌*◌, ◌≤◌, length, take, drop, slice_index, IfOk, IfErr};
+ghost use Rattle.answers.specs.Answers.{number_of};
+ghost use Rattle.vectors.specs.Answers.{placed};
+ghost use Rattle.vectors.specs.Answers as answering;
 ghost use Rattle.stage_words.specs.Records as spec;
 ghost use Rattle.stage_words.specs.Cards as card;
 ghost use Rattle.stage_words.specs.Answered as answered;
@@ -125,6 +127,8 @@ pub fn put_result<T, F: FnOnce(&mut Answers, T)>(
     put: F,
 )
     requires { F.IsAlwaysCallable put }
+    ensures refused { IfErr outcome (λ refusal. placed answers.new.count answers.new.words ≡ answering.put (number_of refusal) (placed answers.old.count answers.old.words)) }
+    ensures accepted { IfOk outcome (λ value. (before : _) × (after : _) × (placed before.now.count before.now.words ≡ answering.put 0 (placed answers.old.count answers.old.words)) × F.post put before value tt after × (after.now ≡ answers.new)) }
 {
     match outcome {
         Ok(value) => {
@@ -288,7 +292,10 @@ pub struct CardRoom {
 
 impl CardRoom {
     // Room with nothing in it.
-    pub fn new() -> CardRoom {
+    #[tactic(auto, unfolding(crate::specs::Cards::no_card))]
+    pub fn new() -> CardRoom
+        ensures { result ≡ card.no_card }
+    {
         CardRoom {
             xs: [0; 512],
             ys: [0; 512],
