@@ -34,8 +34,9 @@ pub fn fill<T: Copy>(room: &mut [T], n: usize, v: T) -> usize
     ensures behind { drop result room.new ≡ drop result room.old }
 {
     let count = super::smaller(n, room.len());
-    for k in 0..count {
-        room[k] = v;
+    let front = &mut room[..count];
+    for x in front.iter_mut() {
+        *x = v;
     }
     count
 }

@@ -1,5 +1,6 @@
 // A run over a list: every record's function is called on its inputs, what it answers is compared with the answers that
 // the record has, and the report says what differs.
+// Facts: how many inputs and answers a record has are const parameters, which no struct takes together.
 ghost use Rattle.std.specs.Prelude.{◌≡◌, ◌≤◌, nat_eq};
 ghost use Rattle.std.specs.List.{position};
 ghost use Rattle.std.specs.Cmp.Lexicographic.{pointwise};
