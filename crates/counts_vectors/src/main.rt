@@ -10,13 +10,14 @@ use vectors::{Answers, Inputs};
 fn colour_counts(inputs: &mut Inputs, answers: &mut Answers) {
     let (mut palette, mut out) = ([0.0; 256], [0u32; 64]);
     let noise = stage_words::take_noise(inputs);
-    let palette = inputs.list(&mut palette);
+    let palette_len = inputs.load(&mut palette);
+    let palette = &palette[..palette_len];
     let hues = inputs.take();
     let length = inputs.take();
     if out.len() < length {
         return;
     }
-    let out = vectors::spread(&mut out, length, 7);
+    let (out, _) = vectors::spread(&mut out, length, 7);
     let outcome = counts::colour_counts(noise, palette, hues, out);
     answers.put(outcome_number(outcome));
     answers.put_list(out);

@@ -34,9 +34,9 @@ fn score(inputs: &mut Inputs, answers: &mut Answers) {
     let mut lens = [0usize; 3];
     inputs.take_all(&mut lens);
     let fill = inputs.take();
-    let luma = vectors::spread(&mut luma, lens[0], fill);
-    let colours = vectors::spread(&mut colours, lens[1], fill);
-    let chroma = vectors::spread(&mut chroma, lens[2], fill);
+    let (luma, _) = vectors::spread(&mut luma, lens[0], fill);
+    let (colours, _) = vectors::spread(&mut colours, lens[1], fill);
+    let (chroma, _) = vectors::spread(&mut chroma, lens[2], fill);
     let scored = demod::score(
         layout,
         lent(xs),

@@ -53,13 +53,14 @@ fn fitted(
 // fit |flat| n side version len fill = no MODEL zeros
 fn fit(inputs: &mut Inputs, answers: &mut Answers) {
     let (mut flat, mut scratch) = ([0.0f32; 2048], [0.0f32; 1024]);
-    let flat = inputs.list(&mut flat);
+    let flat_len = inputs.load(&mut flat);
+    let flat = &flat[..flat_len];
     let n = inputs.take();
     let side = inputs.take();
     let version = inputs.take();
     let len = inputs.take();
     let fill = inputs.take();
-    let scratch = vectors::spread(&mut scratch, len, fill);
+    let (scratch, _) = vectors::spread(&mut scratch, len, fill);
     put_modelled(answers, fitted(flat, n, side, version, scratch));
     stage_words::put_scratch(answers, scratch, fill);
 }

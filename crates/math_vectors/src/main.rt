@@ -20,9 +20,12 @@ fn number(solving: Result<bool, Refusal>) -> u32 {
 fn solve(inputs: &mut Inputs, answers: &mut Answers) {
     let (mut a, mut b, mut x) = ([0.0; 400], [0.0; 24], [0.0; 24]);
     let n = inputs.take();
-    let a = inputs.list(&mut a);
-    let b = inputs.list(&mut b);
-    let x = inputs.list(&mut x);
+    let a_len = inputs.load(&mut a);
+    let a = &mut a[..a_len];
+    let b_len = inputs.load(&mut b);
+    let b = &mut b[..b_len];
+    let x_len = inputs.load(&mut x);
+    let x = &mut x[..x_len];
     answers.put(number(math::solve(a, b, x, n)));
     answers.put_list(a);
     answers.put_list(b);
@@ -33,9 +36,12 @@ fn solve(inputs: &mut Inputs, answers: &mut Answers) {
 fn least_squares(inputs: &mut Inputs, answers: &mut Answers) {
     let (mut rows, mut targets, mut x) = ([0.0; 400], [0.0; 64], [0.0; 24]);
     let terms = inputs.take();
-    let rows = inputs.list(&mut rows);
-    let targets = inputs.list(&mut targets);
-    let x = inputs.list(&mut x);
+    let rows_len = inputs.load(&mut rows);
+    let rows = &rows[..rows_len];
+    let targets_len = inputs.load(&mut targets);
+    let targets = &targets[..targets_len];
+    let x_len = inputs.load(&mut x);
+    let x = &mut x[..x_len];
     answers.put(number(math::least_squares(rows, targets, terms, x)));
     answers.put_list(x);
 }
@@ -55,8 +61,10 @@ fn add_row(inputs: &mut Inputs, answers: &mut Answers) {
     let (mut matrix, mut side, mut values) = ([0.0; 324], [0.0; 24], [0.0; 24]);
     let terms = inputs.take();
     let m = inputs.load(&mut matrix);
-    let side = inputs.list(&mut side);
-    let values = inputs.list(&mut values);
+    let side_len = inputs.load(&mut side);
+    let side = &mut side[..side_len];
+    let values_len = inputs.load(&mut values);
+    let values = &values[..values_len];
     let outcome = math::add_row(&mut matrix, side, values, inputs.take(), terms);
     answers.put(answers::outcome_number(outcome));
     put_matrix(answers, &matrix, m);
@@ -68,8 +76,10 @@ fn finish(inputs: &mut Inputs, answers: &mut Answers) {
     let (mut matrix, mut side, mut x) = ([0.0; 324], [0.0; 24], [0.0; 24]);
     let terms = inputs.take();
     let m = inputs.load(&mut matrix);
-    let side = inputs.list(&mut side);
-    let x = inputs.list(&mut x);
+    let side_len = inputs.load(&mut side);
+    let side = &mut side[..side_len];
+    let x_len = inputs.load(&mut x);
+    let x = &mut x[..x_len];
     answers.put(number(math::finish(&mut matrix, side, x, terms)));
     put_matrix(answers, &matrix, m);
     answers.put_list(side);
@@ -79,7 +89,8 @@ fn finish(inputs: &mut Inputs, answers: &mut Answers) {
 // median |v| = r |v|'
 fn median(inputs: &mut Inputs, answers: &mut Answers) {
     let mut values = [0.0; 128];
-    let values = inputs.list(&mut values);
+    let values_len = inputs.load(&mut values);
+    let values = &mut values[..values_len];
     answers.put(order::median(values));
     answers.put_list(values);
 }
@@ -87,8 +98,10 @@ fn median(inputs: &mut Inputs, answers: &mut Answers) {
 // mad_sigma |v| |scratch| = no r |scratch|'
 fn mad_sigma(inputs: &mut Inputs, answers: &mut Answers) {
     let (mut values, mut scratch) = ([0.0; 128], [0.0; 256]);
-    let values = inputs.list(&mut values);
-    let scratch = inputs.list(&mut scratch);
+    let values_len = inputs.load(&mut values);
+    let values = &values[..values_len];
+    let scratch_len = inputs.load(&mut scratch);
+    let scratch = &mut scratch[..scratch_len];
     let sigma = order::mad_sigma(values, scratch);
     stage_words::put_result(answers, sigma, Answers::put);
     answers.put_list(scratch);

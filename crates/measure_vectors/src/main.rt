@@ -34,15 +34,17 @@ fn measured(
 // measure |flat| n side MODEL |palette| hues len fill = no STATS held zeros
 fn measure(inputs: &mut Inputs, answers: &mut Answers) {
     let (mut flat, mut palette, mut scratch) = ([0.0f32; 512], [0.0f32; 256], [0.0f32; 256]);
-    let flat = inputs.list(&mut flat);
+    let flat_len = inputs.load(&mut flat);
+    let flat = &flat[..flat_len];
     let n = inputs.take();
     let side = inputs.take();
     let model = stage_words::take_model(inputs);
-    let palette = inputs.list(&mut palette);
+    let palette_len = inputs.load(&mut palette);
+    let palette = &palette[..palette_len];
     let hues = inputs.take();
     let len = inputs.take();
     let fill = inputs.take();
-    let scratch = vectors::spread(&mut scratch, len, fill);
+    let (scratch, _) = vectors::spread(&mut scratch, len, fill);
     let outcome = measured(flat, n, side, model, palette, hues, scratch);
     stage_words::put_result(answers, outcome, |answers, m| {
         stage_words::put_noise(answers, m.noise);

@@ -48,10 +48,12 @@ fn take_cell(inputs: &mut Inputs) -> Cell {
 // chroma_bit_llrs |ll| cell cx cy hues |out| = no |out|'
 fn chroma_bit_llrs(inputs: &mut Inputs, answers: &mut Answers) {
     let (mut ll, mut out) = ([0.0f32; 64], [0.0f32; 64]);
-    let ll = inputs.list(&mut ll);
+    let ll_len = inputs.load(&mut ll);
+    let ll = &ll[..ll_len];
     let cell = take_cell(inputs);
     let hues = inputs.take();
-    let out = inputs.list(&mut out);
+    let out_len = inputs.load(&mut out);
+    let out = &mut out[..out_len];
     answers.put(outcome_number(modulate::chroma_bit_llrs(ll, cell, hues, out)));
     answers.put_list(out);
 }
@@ -59,10 +61,13 @@ fn chroma_bit_llrs(inputs: &mut Inputs, answers: &mut Answers) {
 // unmask_luma |luma| side |xs| |ys| grid mask = no |luma|'
 fn unmask_luma(inputs: &mut Inputs, answers: &mut Answers) {
     let (mut luma, mut xs, mut ys) = ([0.0f32; 64], [0i32; 64], [0i32; 64]);
-    let luma = inputs.list(&mut luma);
+    let luma_len = inputs.load(&mut luma);
+    let luma = &mut luma[..luma_len];
     let side = inputs.take();
-    let xs = inputs.list(&mut xs);
-    let ys = inputs.list(&mut ys);
+    let xs_len = inputs.load(&mut xs);
+    let xs = &xs[..xs_len];
+    let ys_len = inputs.load(&mut ys);
+    let ys = &ys[..ys_len];
     let unmasked = modulate::unmask_luma(luma, side, xs, ys, inputs.take(), inputs.take());
     answers.put(outcome_number(unmasked));
     answers.put_list(luma);
@@ -71,8 +76,10 @@ fn unmask_luma(inputs: &mut Inputs, answers: &mut Answers) {
 // read_list |scores| |out| = no |out|'
 fn read_list(inputs: &mut Inputs, answers: &mut Answers) {
     let (mut scores, mut bits) = ([0.0f32; 64], [0u8; 64]);
-    let scores = inputs.list(&mut scores);
-    let bits = inputs.list(&mut bits);
+    let scores_len = inputs.load(&mut scores);
+    let scores = &scores[..scores_len];
+    let bits_len = inputs.load(&mut bits);
+    let bits = &mut bits[..bits_len];
     answers.put(outcome_number(reading::read_list(scores, bits)));
     answers.put_list(bits);
 }
@@ -82,18 +89,25 @@ fn draw(inputs: &mut Inputs, answers: &mut Answers) {
     let (mut bits, mut levels, mut drawn) = ([0u8; 128], [0u8; 64], [0usize; 64]);
     let (mut xs, mut ys) = ([0i32; 64], [0i32; 64]);
     let (mut cxs, mut cys) = ([0u16; 64], [0u16; 64]);
-    let bits = inputs.list(&mut bits);
+    let bits_len = inputs.load(&mut bits);
+    let bits = &bits[..bits_len];
     let side = inputs.take();
     let hues = inputs.take();
     let size = inputs.take();
-    let xs = inputs.list(&mut xs);
-    let ys = inputs.list(&mut ys);
+    let xs_len = inputs.load(&mut xs);
+    let xs = &xs[..xs_len];
+    let ys_len = inputs.load(&mut ys);
+    let ys = &ys[..ys_len];
     let grid = inputs.take();
-    let cxs = inputs.list(&mut cxs);
-    let cys = inputs.list(&mut cys);
+    let cxs_len = inputs.load(&mut cxs);
+    let cxs = &cxs[..cxs_len];
+    let cys_len = inputs.load(&mut cys);
+    let cys = &cys[..cys_len];
     let mask = inputs.take();
-    let levels = inputs.list(&mut levels);
-    let drawn = inputs.list(&mut drawn);
+    let levels_len = inputs.load(&mut levels);
+    let levels = &mut levels[..levels_len];
+    let drawn_len = inputs.load(&mut drawn);
+    let drawn = &mut drawn[..drawn_len];
     let layout = Layout {
         side,
         hues,

@@ -9,11 +9,12 @@ use vectors::{Answers, Inputs};
 // kept |flat| side version len fill = no rejected kept |marks|'
 fn kept(inputs: &mut Inputs, answers: &mut Answers) {
     let (mut flat, mut marks, mut scratch) = ([0.0f32; 512], [0u8; 64], [0.0f32; 256]);
-    let flat = inputs.list(&mut flat);
+    let flat_len = inputs.load(&mut flat);
+    let flat = &flat[..flat_len];
     let side = inputs.take();
     let version = inputs.take();
     let len = inputs.take();
-    let marks = vectors::spread(&mut marks, len, inputs.take());
+    let (marks, _) = vectors::spread(&mut marks, len, inputs.take());
     let fitted = fit::fit_flat(flat, side, version, marks, &mut scratch);
     stage_words::put_result(answers, fitted, |answers, model| {
         answers.put(model.rejected);
@@ -27,14 +28,16 @@ fn near<F: FnOnce(&mut Inputs) -> Query>(inputs: &mut Inputs, query: F, answers:
     requires { F.IsAlwaysCallable query }
 {
     let (mut xy, mut kept, mut room) = ([0.0f32; 128], [0u8; 64], [0u32; 64]);
-    let xy = inputs.list(&mut xy);
-    let kept = inputs.list(&mut kept);
+    let xy_len = inputs.load(&mut xy);
+    let xy = &xy[..xy_len];
+    let kept_len = inputs.load(&mut kept);
+    let kept = &kept[..kept_len];
     let side = inputs.take();
     let x = inputs.take();
     let y = inputs.take();
     let asked = query(inputs);
     let len = inputs.take();
-    let room = vectors::spread(&mut room, len, inputs.take());
+    let (room, _) = vectors::spread(&mut room, len, inputs.take());
     let found = near::near(xy, kept, side, x, y, asked, room);
     stage_words::put_result(answers, found, |answers, count| answers.put(count));
     answers.put_list(room);

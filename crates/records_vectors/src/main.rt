@@ -69,7 +69,7 @@ fn take_reference(inputs: &mut Inputs) -> Reference {
 // 64 references have or the last reference is not whole.
 fn take_references(inputs: &mut Inputs) -> [Reference; 64] {
     let mut listed = *inputs;
-    inputs.list::<f32>(&mut []);
+    inputs.load::<f32>(&mut []);
     let _floats: usize = listed.take();
     let mut rs = [take_reference(&mut Inputs::new(&[])); 64];
     for r in rs.iter_mut() {
@@ -95,7 +95,7 @@ fn fit(inputs: &mut Inputs, answers: &mut Answers) {
     let version = inputs.take();
     let len = inputs.take();
     let fill = inputs.take();
-    let scratch = vectors::spread(&mut scratch, len, fill);
+    let (scratch, _) = vectors::spread(&mut scratch, len, fill);
     let fitted = fit_first(rs, n, side, version, &mut kept, scratch);
     stage_words::put_result(answers, fitted, |answers, model| {
         stage_words::put_model(answers, &model);
@@ -110,11 +110,12 @@ fn measure(inputs: &mut Inputs, answers: &mut Answers) {
     let n = take_count(inputs);
     let side = inputs.take();
     let model = stage_words::take_model(inputs);
-    let palette = inputs.list(&mut palette);
+    let palette_len = inputs.load(&mut palette);
+    let palette = &palette[..palette_len];
     let hues = inputs.take();
     let len = inputs.take();
     let fill = inputs.take();
-    let scratch = vectors::spread(&mut scratch, len, fill);
+    let (scratch, _) = vectors::spread(&mut scratch, len, fill);
     let measured = measure_first(rs, n, side, model, palette, hues, scratch);
     stage_words::put_result(answers, measured, |answers, m| {
         stage_words::put_noise(answers, m.noise);

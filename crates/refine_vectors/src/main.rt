@@ -13,16 +13,21 @@ fn refine(inputs: &mut Inputs, answers: &mut Answers) {
     let (mut luma, mut scratch) = ([0.0f32; 128], [0.0f32; 1024]);
     let side = inputs.take();
     let hues = inputs.take();
-    let xs = inputs.list(&mut xs);
-    let ys = inputs.list(&mut ys);
+    let xs_len = inputs.load(&mut xs);
+    let xs = &xs[..xs_len];
+    let ys_len = inputs.load(&mut ys);
+    let ys = &ys[..ys_len];
     let grid = inputs.take();
-    let colours = inputs.list(&mut colours);
-    let palette = inputs.list(&mut palette);
+    let colours_len = inputs.load(&mut colours);
+    let colours = &colours[..colours_len];
+    let palette_len = inputs.load(&mut palette);
+    let palette = &palette[..palette_len];
     let noise = stage_words::take_noise(inputs);
-    let luma = inputs.list(&mut luma);
+    let luma_len = inputs.load(&mut luma);
+    let luma = &mut luma[..luma_len];
     let len = inputs.take();
     let fill = inputs.take();
-    let scratch = vectors::spread(&mut scratch, len, fill);
+    let (scratch, _) = vectors::spread(&mut scratch, len, fill);
     let outcome = refine::add_local_luma(
         luma, side, hues, xs, ys, grid, colours, palette, noise, scratch,
     );

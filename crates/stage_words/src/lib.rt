@@ -5,7 +5,7 @@
 // 3 x 4, gain 3 x width, flare 3 x width; side and rms are f32, width is 4 or 9.
 #![tactic(auto)]
 
-ghost use Rattle.std.specs.Prelude.{◌≡◌, ◌+◌, ◌*◌, ◌≤◌, length, take, drop, slice_index, IfOk, IfErr};
+ghost use Rattle.std.specs.Prelude.{◌≡◌, ℕ, ◌+◌, ◌*◌, ◌<◌, ◌≤◌, min, length, take, drop, slice_index, slice_index_or, IfOk, IfErr};
 ghost use Rattle.answers.specs.Answers.{number_of};
 ghost use Rattle.vectors.specs.Answers.{placed};
 ghost use Rattle.vectors.specs.Answers as answering;
@@ -120,7 +120,7 @@ pub fn take_model(inputs: &mut Inputs) -> IlluminationModel
 
 // ---- answers
 
-// Puts 0 and then what `put` puts of the value, or the refusal's number alone.
+// Core: puts 0 and then what `put` puts of the value, or the refusal's number alone.
 pub fn put_result<T, F: FnOnce(&mut Answers, T)>(
     answers: &mut Answers,
     outcome: Result<T, Refusal>,
@@ -308,6 +308,14 @@ impl CardRoom {
     }
 }
 
+// The first n elements of a list, or all where it has fewer.
+fn front<T>(list: &[T], n: usize) -> &[T]
+    ensures len { length result.now ≡ min n (length list.now) }
+    ensures values { (k : ℕ) (d : T) → k < length result.now → slice_index_or result.now k d ≡ slice_index_or list.now k d }
+{
+    list.get(..n).unwrap_or(list)
+}
+
 // Takes what stands in a record from a card's modules on, of a card with this side, these hues and cells of this size.
 pub fn take_card<'a>(
     inputs: &mut Inputs,
@@ -338,9 +346,21 @@ pub fn take_card<'a>(
         cell_raw,
         palette,
     } = room;
-    let xs = inputs.list(xs);
-    let ys = inputs.list(ys);
+    let xs_len = inputs.load(xs);
+    let xs = front(xs, xs_len);
+    let ys_len = inputs.load(ys);
+    let ys = front(ys, ys_len);
     let grid = inputs.take();
+    let raw_len = inputs.load(raw);
+    let raw = front(raw, raw_len);
+    let cxs_len = inputs.load(cxs);
+    let cxs = front(cxs, cxs_len);
+    let cys_len = inputs.load(cys);
+    let cys = front(cys, cys_len);
+    let cell_raw_len = inputs.load(cell_raw);
+    let cell_raw = front(cell_raw, cell_raw_len);
+    let palette_len = inputs.load(palette);
+    let palette = front(palette, palette_len);
     Card {
         layout: Layout {
             side,
@@ -350,11 +370,11 @@ pub fn take_card<'a>(
         },
         xs,
         ys,
-        raw: inputs.list(raw),
-        cxs: inputs.list(cxs),
-        cys: inputs.list(cys),
-        cell_raw: inputs.list(cell_raw),
-        palette: inputs.list(palette),
+        raw,
+        cxs,
+        cys,
+        cell_raw,
+        palette,
         model: take_model(inputs),
         noise: take_noise(inputs),
     }

@@ -33,7 +33,7 @@ fn figures<'a, F: Fn(&mut Inputs) -> Result<f32, Refusal>>(
     requires { F.IsAlwaysCallable next_figure }
 {
     let n = inputs.take();
-    let figures = vectors::spread(room, n, 0.0);
+    let (figures, _) = vectors::spread(room, n, 0.0);
     for figure in figures.iter_mut() {
         *figure = next_figure(inputs)?;
     }
@@ -43,7 +43,8 @@ fn figures<'a, F: Fn(&mut Inputs) -> Result<f32, Refusal>>(
 // nominal PALETTE hues = no STATS
 fn nominal(inputs: &mut Inputs, answers: &mut Answers) {
     let mut palette = [0.0; 256];
-    let palette = inputs.list(&mut palette);
+    let palette_len = inputs.load(&mut palette);
+    let palette = &palette[..palette_len];
     let nominal = ChannelStats::nominal(palette, inputs.take());
     put_result(answers, nominal, stage_words::put_noise);
 }
@@ -59,7 +60,8 @@ fn hue_log_likelihoods(
 ) {
     let mut out = [0.0; 32];
     let sample = take_lab(inputs);
-    let out = inputs.list(&mut out);
+    let out_len = inputs.load(&mut out);
+    let out = &mut out[..out_len];
     let outcome = noise.hue_log_likelihoods(sample, palette, hues, out);
     answers.put(outcome_number(outcome));
     answers.put_list(out);
@@ -82,7 +84,8 @@ fn setting(nine: usize) -> Threshold {
 fn of_palette(name: &str, inputs: &mut Inputs, answers: &mut Answers) {
     let mut palette = [0.0; 256];
     let noise = take_noise(inputs);
-    let palette = &*inputs.list(&mut palette);
+    let palette_len = inputs.load(&mut palette);
+    let palette = &palette[..palette_len];
     let hues = inputs.take();
     match name {
         "reliability" => put_figures(inputs, answers, |inputs| {

@@ -31,7 +31,9 @@ fn put_ratio(answers: &mut Answers, q: Ratio) {
 fn add_card(inputs: &mut Inputs, answers: &mut Answers) {
     let mut luma = [0.0; 64];
     let before = take_totals(inputs);
-    let after = totals::add_card(before, inputs.list(&mut luma));
+    let luma_len = inputs.load(&mut luma);
+    let luma = &luma[..luma_len];
+    let after = totals::add_card(before, luma);
     put_result(answers, after, put_totals);
 }
 

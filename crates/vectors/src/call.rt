@@ -1,6 +1,7 @@
 // The words of one record: the inputs, which a call takes one after the other, and its answers, which are put one after
 // the other.
-ghost use Rattle.std.specs.Prelude.{◌≡◌, ℕ, ◌<◌, min, length, drop, slice_index, slice_index_or};
+ghost use Rattle.std.specs.Prelude.{◌≡◌, ℕ, ◌<◌, ◌++◌, min, length, drop, slice_index, slice_index_or};
+ghost use Rattle.std.specs.Borrow.{sem, Array, LendsBoth};
 ghost use Rattle.vectors.specs.Answers.{placed, put, no_answers, compared_of};
 ghost use Rattle.vectors.specs.Slices.{past_list, put_all, stored};
 
@@ -41,13 +42,16 @@ pub fn fill<T: Copy>(room: &mut [T], n: usize, v: T) -> usize
     count
 }
 
-// The first n places of a room, or all where it has fewer, each with v in it: memory that is lent to a call.
-pub fn spread<T: Copy>(room: &mut [T], n: usize, v: T) -> &mut [T]
-    ensures len { length result.now ≡ min n (length room.old) }
-    ensures values { (k : ℕ) (d : T) → k < length result.now → slice_index_or result.now k d ≡ v }
+// The first n places of a room, or all where it has fewer, each with v in it: memory that is lent to a call. What stands
+// behind them is the second part, as it was.
+pub fn spread<T: Copy>(room: &mut [T], n: usize, v: T) -> (&mut [T], &mut [T])
+    ensures* writes_back { sem 𝓛 (LendsBoth (Array T.row 0) (Array T.row 0) (Array T.row 0) room.entry result ◌++◌) }
+    ensures len { length result.0.now ≡ min n (length room.old) }
+    ensures values { (k : ℕ) (d : T) → k < length result.0.now → slice_index_or result.0.now k d ≡ v }
+    ensures behind { result.1.now ≡ drop (length result.0.now) room.old }
 {
     let count = fill(room, n, v);
-    &mut room[..count]
+    room.split_at_mut(count)
 }
 
 // The inputs of a record that are not taken yet.
@@ -98,16 +102,6 @@ impl<'a> Inputs<'a> {
         load(self.rest, &mut room[..n]);
         self.rest = past(self.rest, count);
         n
-    }
-
-    // Takes the next list in the same way, and lends the part of `room` that it stands in.
-    pub fn list<'b, T: Value>(&mut self, room: &'b mut [T]) -> &'b mut [T]
-        ensures len { length result.now ≡ min (slice_index self.old.rest.now 0) (length room.old) }
-        ensures values { (k : ℕ) (d : T) → k < length result.now → slice_index_or result.now k d ≡ T.value_of (slice_index (drop 1 self.old.rest.now) k) }
-        ensures rest { self.new.rest.now ≡ past_list self.old.rest.now }
-    {
-        let n = self.load(room);
-        &mut room[..n]
     }
 }
 

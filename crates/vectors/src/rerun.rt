@@ -42,8 +42,8 @@ fn replayed<const INPUTS: usize, const ANSWERS: usize, F: Fn(&str, &mut Inputs, 
     answers.compare(function, at, read, &wanted)
 }
 
-// Goes through all records of a list: `compared` compares the one that begins at the place that it is given, and has room
-// for answers, with none put.
+// Core: goes through all records of a list. `compared` compares the one that begins at the place that it is given, and has
+// room for answers, with none put.
 pub fn compare_all<F: Fn(usize, &mut Answers) -> io::Result<Compared>>(
     text: &[u8],
     compared: F,
@@ -86,9 +86,9 @@ pub fn load<R: Files + Alloc>(rt: &R, path: &str, limit: u64) -> io::Result<Vec<
     Ok(bytes)
 }
 
-// Replays the list that a file holds, of which it reads `limit` bytes. A record has up to `INPUTS` inputs and `ANSWERS`
-// answers, and one with more is not read. Its function is one of `functions`, by its name, and `answer` calls the
-// function that it is given the name of: it takes the inputs and puts the answers. What differs is printed, and the
+// Core: replays the list that a file holds, of which it reads `limit` bytes. A record has up to `INPUTS` inputs and
+// `ANSWERS` answers, and one with more is not read. Its function is one of `functions`, by its name, and `answer` calls
+// the function that it is given the name of: it takes the inputs and puts the answers. What differs is printed, and the
 // totals.
 pub fn replay<
     const INPUTS: usize,

@@ -50,7 +50,7 @@ fn demodulate(
 // Reads scores, and puts their bits or the refusal's number.
 fn put_bits(answers: &mut Answers, scores: &[f32]) {
     let mut bits = [0u8; 2048];
-    let bits = vectors::spread(&mut bits, scores.len(), 0);
+    let (bits, _) = vectors::spread(&mut bits, scores.len(), 0);
     match reading::read_list(scores, bits) {
         Ok(()) => answers.put_list(bits),
         Err(refusal) => answers.put(u32::from(refusal)),
@@ -73,9 +73,9 @@ fn put_card_bits(answers: &mut Answers, card: &Card, mask: u8, luma: &mut [f32],
 // `scores` chroma scores.
 fn put_card(answers: &mut Answers, card: &Card, mask: u8, scores: usize) {
     let (mut luma, mut colours, mut chroma) = ([0.0f32; 512], [0.0f32; 2048], [0.0f32; 2048]);
-    let luma = vectors::spread(&mut luma, card.xs.len(), 0.0);
-    let colours = vectors::spread(&mut colours, card.raw.len(), 0.0);
-    let chroma = vectors::spread(&mut chroma, scores, 0.0);
+    let (luma, _) = vectors::spread(&mut luma, card.xs.len(), 0.0);
+    let (colours, _) = vectors::spread(&mut colours, card.raw.len(), 0.0);
+    let (chroma, _) = vectors::spread(&mut chroma, scores, 0.0);
     let demodulated = demodulate(card, luma, colours, chroma);
     stage_words::put_result(answers, demodulated, |answers, report| {
         answers.put(report.held_modules);

@@ -8,7 +8,8 @@ use vectors::{Answers, Inputs};
 // median |v| = r |v|'
 fn median(inputs: &mut Inputs, answers: &mut Answers) {
     let mut room = [0.0f32; 8];
-    let values = inputs.list(&mut room);
+    let room_len = inputs.load(&mut room);
+    let values = &mut room[..room_len];
     answers.put(order::median(values));
     answers.put_list(values);
 }
@@ -26,10 +27,11 @@ fn overwrite(wrong: bool, scratch: &mut [f32]) {
 // last of them is written over afterwards. r is 0 where the call was refused.
 fn mad_sigma(inputs: &mut Inputs, wrong: bool, answers: &mut Answers) {
     let (mut values, mut scratch) = ([0.0f32; 8], [0.0f32; 16]);
-    let values = inputs.list(&mut values);
+    let values_len = inputs.load(&mut values);
+    let values = &values[..values_len];
     let len = inputs.take();
     let fill = inputs.take();
-    let scratch = vectors::spread(&mut scratch, len, fill);
+    let (scratch, _) = vectors::spread(&mut scratch, len, fill);
     let sigma = order::mad_sigma(values, scratch);
     overwrite(wrong, scratch);
     answers.put(sigma.unwrap_or(0.0));
