@@ -2,14 +2,12 @@
 // every bit.
 #![tactic(auto)]
 
-use stage_words::{Card, CardRoom};
+use stage_words::{Card, CardRoom, front};
 use std::io;
 use vectors::{Answers, Inputs};
 
-// The first 64 of a list, which is all that a call is lent of it.
-fn lent<T>(list: &[T]) -> &[T] {
-    list.get(..64).unwrap_or(list)
-}
+// How much of a list a call is lent.
+const LENT: usize = 64;
 
 // score side hues size |xs| |ys| grid |raw| |cxs| |cys| |cell_raw| |palette| MODEL STATS luma colours chroma fill
 //     = no modules cells |luma|' |colours|' |chroma|'
@@ -39,12 +37,12 @@ fn score(inputs: &mut Inputs, answers: &mut Answers) {
     let (chroma, _) = vectors::spread(&mut chroma, lens[2], fill);
     let scored = demod::score(
         layout,
-        lent(xs),
-        lent(ys),
-        lent(raw),
-        lent(cxs),
-        lent(cys),
-        lent(cell_raw),
+        front(xs, LENT),
+        front(ys, LENT),
+        front(raw, LENT),
+        front(cxs, LENT),
+        front(cys, LENT),
+        front(cell_raw, LENT),
         palette,
         model,
         noise,

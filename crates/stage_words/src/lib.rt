@@ -243,6 +243,14 @@ pub fn put_scratch(answers: &mut Answers, scratch: &[f32], v: f32)
 
 // ---- lent memory
 
+// The first n elements of a list, or all where it has fewer.
+pub fn front<T>(list: &[T], n: usize) -> &[T]
+    ensures len { length result.now ≡ min n (length list.now) }
+    ensures values { (k : ℕ) (d : T) → k < length result.now → slice_index_or result.now k d ≡ slice_index_or list.now k d }
+{
+    list.get(..n).unwrap_or(list)
+}
+
 // As much of a list's flat floats as a call for n references is lent, from which it takes its count: eight for each where these
 // are there, and else a part that is too short, its last reference not whole.
 // Slices: n is what a record asks for, and need not fit the list.
@@ -306,14 +314,6 @@ impl CardRoom {
             palette: [0.0; 256],
         }
     }
-}
-
-// The first n elements of a list, or all where it has fewer.
-fn front<T>(list: &[T], n: usize) -> &[T]
-    ensures len { length result.now ≡ min n (length list.now) }
-    ensures values { (k : ℕ) (d : T) → k < length result.now → slice_index_or result.now k d ≡ slice_index_or list.now k d }
-{
-    list.get(..n).unwrap_or(list)
 }
 
 // Takes what stands in a record from a card's modules on, of a card with this side, these hues and cells of this size.
